@@ -1,4 +1,4 @@
--- A network that asks for a flow that it asks for, or no more for one that it does not ask for; and a change that is taken back.
+-- Adding a flow that is asked for already, or removing one that is not; and a change that is undone.
 use Rattle.std.proofs.Common.{◌≡◌, Bool, true, false, not, refl, ap, sym, subst, ◌∙◌}
 use Rattle.std.specs.Bool.{beq}
 use Rattle.std.proofs.lemmas.Bool.{false≢true}
@@ -22,7 +22,7 @@ taken_back true d next back f ordered fresh there here =
 taken_back false d next back f ordered old there here =
     here ∙ ap (λ (n : Network). asking_where true n f) there ∙ ap (asking d) (with_flow-without_flow d.asked.flows f ordered old)
 
--- the same network with the same policy
+-- The same network with the same policy.
 pub policed_again : (d e : Network) (j k : Judged) (p : Policed) → e ≡ d → k ≡ j → record { network = d; policy = policy_in j } ≡ p
     → record { network = e; policy = policy_in k } ≡ p
 policed_again d e j k p same kept is = (λ i. record { network = same i; policy = policy_in (kept i) }) ∙ is

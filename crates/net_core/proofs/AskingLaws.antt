@@ -1,4 +1,4 @@
--- A network with one flow more or less is one.
+-- A network with one more or one fewer flow is valid.
 use Rattle.std.proofs.Common.{ℕ, Bool, true, false, List}
 use Rattle.flow_set.specs.Flow.{IsFlow}
 use Rattle.flow_set.specs.inner.FlowSetView.{IsFlowSet, without_flow}

@@ -1,4 +1,4 @@
--- How many invariants fail, one after another.
+-- The number of failing invariants, counted in order.
 use Rattle.std.proofs.Common.{◌≡◌, ◌∙◌, ◌≤◌, ◌+◌, ℕ, suc, true, false, List, [], ◌∷◌, drop, drop-cons, length, refl, sym, ap, subst, add-one, add-zero, arith}
 use Rattle.std.proofs.lemmas.Bool.{true≢false}
 use Rattle.std.proofs.lemmas.List.{drop_all}
@@ -11,7 +11,7 @@ use Rattle.net_core.proofs.FailingLemmas.{IsAt}
 none_failing : (flows : List Flow) → AreFailing [] flows 0
 none_failing flows = record { marks = []; each = tt; counted = refl }
 
--- one more, which holds or fails
+-- One more invariant, which holds or fails.
 one_holds : (inv : AnyInv) (rest : List AnyInv) (flows : List Flow) (n : ℕ) → holds_on inv flows → AreFailing rest flows n → AreFailing (inv ∷ rest) flows n
 one_holds inv rest flows n holds others = record { marks = false ∷ others.marks; each = ((λ _. holds, λ _. refl), others.each); counted = others.counted }
 
@@ -23,7 +23,7 @@ one_fails inv rest flows n fails others = record {
   counted = ap suc others.counted;
 }
 
--- those before a place count so many: with what is left they are all
+-- The count before an index: together with the rest it is the count of all.
 abbrev pub CountTo : List AnyInv → List Flow → ℕ → ℕ → Type 0
 CountTo invs flows i count = (n : ℕ) → AreFailing (drop i invs) flows n → AreFailing invs flows (count + n)
 

@@ -1,5 +1,5 @@
--- Laws of policies that are told flow by flow: they are the policies of networks whose invariants judge flows alone, and one flow more or
--- less changes them by that flow alone.
+-- Lemmas on policies that are decided flow by flow: they are the policies of networks with edge-wise invariants, and one more or one fewer
+-- flow changes them only by that flow.
 use Rattle.std.proofs.Common.{◌≡◌, ℕ, inl, inr, Bool, true, false, List, [], ◌∷◌, refl, sym, ◌∙◌, subst, All}
 use Rattle.std.specs.Prelude.{◌↔◌, IsTrue, IsFalse}
 use Rattle.std.proofs.lemmas.Bool.{false≢true, or_cases, or_left, or_right}
@@ -23,7 +23,7 @@ use Rattle.permit_core.proofs.PolicyLaws.{AllHold-edge_wise}
 use Rattle.net_core.specs.inner.EdgePolicies.{AreMarked, IsAdmitted, IsAnswered, IsEdgePolicy}
 use Rattle.net_core.proofs.MarkedLaws.{absent_from, first_marked, marked_first, marked_kept, marked_left, marked_out, within_both, within_less, within_more}
 
--- an invariant whose mark says so judges flows alone, at its own size
+-- An invariant that is marked as edge-wise is edge-wise, at its own size.
 pub edge_wise_at : (n : ℕ) (inv : AnyInv) → (meaning_of inv).size ≡ n → IsTrue (edge_mark inv) → IsEdgeWise n (holds_on inv)
 edge_wise_at n inv sized marked = subst (λ m. IsEdgeWise m (holds_on inv)) sized ((lawful inv).mark_is_right marked)
 
@@ -54,7 +54,7 @@ grown p e f g there member = has-with_back p e g ∙ elim (or_cases (has p g) (h
   ])
 ]
 
--- the answer of a flow is one of the policy with answers
+-- The answer of a flow is a member of the policy with answers.
 answer_there : (p : List Flow) (g : Flow) → IsTrue (has (with_back p (back_of g ∷ [])) g)
 answer_there p g = has-with_back p (back_of g ∷ []) g ∙ or_right _ _ (has_first (back_of g) [])
 
@@ -71,7 +71,8 @@ answered_edge_wise n Strict p edge_wise p_set holds e set =
       ]),
     )
 
--- one answer beside the policy is that answer alone
+-- If an edge-wise condition holds for the policy, it holds with one answer if and only if it holds for that single
+-- answer.
 answer_alone : (n : ℕ) (Strict : List Flow → Type 0) (p : List Flow) (f : Flow) → IsEdgeWise n Strict → IsFlowSet n p → Strict p → IsFlow n f
     → Strict (with_back p (f ∷ [])) ↔ Strict (back_of f ∷ [])
 answer_alone n Strict p f edge_wise p_set holds flow =
@@ -86,9 +87,9 @@ answer_alone n Strict p f edge_wise p_set holds flow =
       ]),
     )
 
--- ---- the policy, both ways
+-- ---- the policy, in both directions
 
--- the flows that may have answers
+-- The flows that may have answers.
 answerable_set : (answers : Bool) (n : ℕ) (p : List Flow) → IsFlowSet n p → IsFlowSet n (answerable answers p)
 answerable_set true n p set = set
 answerable_set false n p set = IsFlowSet-nothing n set.small
@@ -101,7 +102,7 @@ marked_same : (P Q : Flow → Type 0) (all xs : List Flow) → ((f : Flow) → I
     → AreMarked P all xs → AreMarked Q all xs
 marked_same P Q all xs to from marked f there = (λ here. to f there ((marked f there).0 here), λ passes. (marked f there).1 (from f there passes))
 
--- one of them is stateful exactly where its answer alone passes
+-- A flow that may have answers is stateful if and only if its single answer passes.
 module _ (d : Network) (p : List Flow) (edge_wise : IsEdgeWise d.asked.size (MeetsStrict d)) (set : IsFlowSet d.asked.size p) (holds : MeetsStrict d p) where
   one_answer : (f : Flow) → IsTrue (has (answerable d.answers p) f) → MeetsStrict d (with_back p (f ∷ [])) ↔ IsAnswered d f
   one_answer f there = answer_alone d.asked.size (MeetsStrict d) p f edge_wise set holds (set.flows f (has_answerable d.answers p f there))
@@ -143,9 +144,9 @@ policy-IsEdgePolicy d policy network alone is =
           policy.stateful.flows is.stateful_within is.stateful;
     }
 
--- ---- one flow more, and one less
+-- ---- one more flow, and one fewer
 
--- the invariants are those of the network, so what is admitted and answered stays
+-- The invariants are those of the network, so admission of flows and answers is unchanged.
 abbrev pub WithFlows : List Flow → List Flow → Policy → Policy
 WithFlows permitted stateful policy = record {
   permitted = record { size = policy.permitted.size; flows = permitted };
@@ -155,7 +156,7 @@ WithFlows permitted stateful policy = record {
 not_there : (d : Network) (policy : Policy) (f : Flow) → IsFalse (has d.asked.flows f) → IsEdgePolicy d policy → IsFalse (has policy.permitted.flows f)
 not_there d policy f fresh is = absent_from d.asked.flows policy.permitted.flows f is.permitted_within fresh
 
--- one that is admitted is permitted; its answers may pass where they are admitted
+-- An admitted flow is permitted; its answers may pass if they are admitted.
 pub admitted_more : (d : Network) (policy : Policy) (f : Flow) (s : List Flow) → IsFalse (has d.asked.flows f) → IsAdmitted d f → IsEdgePolicy d policy
     → IsSubset s (answerable d.answers (with_flow policy.permitted.flows f)) → AreMarked (IsAnswered d) (answerable d.answers (with_flow policy.permitted.flows f)) s
     → IsEdgePolicy (asking_for d f) (WithFlows (with_flow policy.permitted.flows f) s policy)
@@ -208,16 +209,16 @@ one_less d policy f is = record {
   stateful = answered_less d.answers (IsAnswered d) policy.permitted.flows policy.stateful.flows f is.stateful;
 }
 
--- ---- of the policies themselves
+-- ---- the policies themselves
 
--- a flow that is asked for no more
+-- A flow that is no longer asked for.
 pub policy_less : (d : Network) (policy : Policy) (f : Flow) → IsNetwork d → JudgesFlowsAlone d → IsFlow d.asked.size f → IsPolicyOf d policy
     → IsPolicyOf (not_asking_for d f) (WithFlows (without_flow policy.permitted.flows f) (without_flow policy.stateful.flows f) policy)
 policy_less d policy f network alone flow is =
     policy-IsEdgePolicy (not_asking_for d f) (WithFlows (without_flow policy.permitted.flows f) (without_flow policy.stateful.flows f) policy)
     (network_where false d f flow network) alone (one_less d policy f (IsEdgePolicy-policy d policy network alone is))
 
--- a flow that is asked for and admitted, with its answers
+-- An asked flow that is admitted, with its answers.
 pub policy_answered : (d : Network) (policy : Policy) (f : Flow) → IsNetwork d → JudgesFlowsAlone d → IsFlow d.asked.size f → IsFalse (has d.asked.flows f)
     → IsAdmitted d f → IsTrue d.answers → IsAnswered d f → IsPolicyOf d policy
     → IsPolicyOf (asking_for d f) (WithFlows (with_flow policy.permitted.flows f) (with_flow policy.stateful.flows f) policy)
@@ -229,7 +230,7 @@ policy_answered d policy f network alone flow fresh admitted on answered is =
     (answered_within d.answers policy.permitted.flows policy.stateful.flows f on edge.stateful_within)
     (answered_more d.answers (IsAnswered d) policy.permitted.flows policy.stateful.flows f on answered edge.stateful))
 
--- and without them
+-- Without its answers.
 pub policy_unanswered : (d : Network) (policy : Policy) (f : Flow) → IsNetwork d → JudgesFlowsAlone d → IsFlow d.asked.size f → IsFalse (has d.asked.flows f)
     → IsAdmitted d f → (IsTrue d.answers → IsAnswered d f → ⊥) → IsPolicyOf d policy
     → IsPolicyOf (asking_for d f) (WithFlows (with_flow policy.permitted.flows f) policy.stateful.flows policy)

@@ -1,4 +1,4 @@
--- Laws of the flows on which an invariant fails: one flow more or less changes them by that flow alone, and where there is none the
+-- Lemmas on the flows on which an invariant fails: one more or one fewer flow changes them only by that flow, and if there are none the
 -- invariant holds.
 use Rattle.std.proofs.Common.{◌≡◌, ℕ, inl, inr, Bool, true, false, not, ◌&&◌, ◌||◌, List, [], ◌∷◌, refl, sym, ◌∙◌, ap}
 use Rattle.std.specs.Prelude.{◌↔◌, IsTrue, IsFalse}
@@ -17,11 +17,11 @@ use Rattle.net_core.specs.inner.Asking.{flows_where}
 use Rattle.net_core.specs.inner.FailingFlows.{FailsOn}
 use Rattle.net_core.proofs.MarkedLaws.{absent_from, first_marked, within_both, within_less, within_more}
 
--- another flow of the larger set is one of the smaller
+-- Another flow of the larger set is a flow of the smaller set.
 old_one : (all : List Flow) (f g : Flow) → IsFalse (same_flow f g) → IsTrue (has (with_flow all f) g) → IsTrue (has all g)
 old_one all f g other there = sym (ap (λ b. b || has all g) other) ∙ sym (has-with_flow all f g) ∙ there
 
--- one flow more, on which the invariant holds
+-- One more flow, on which the invariant holds.
 pub holds_more : (inv : AnyInv) (all failing : List Flow) (f : Flow) → IsFalse (has all f) → holds_on inv (f ∷ []) → FailsOn inv all failing
     → FailsOn inv (with_flow all f) failing
 holds_more inv all failing f fresh holds is = record {
@@ -33,7 +33,7 @@ holds_more inv all failing f fresh holds is = record {
   ];
 }
 
--- one on which it fails
+-- A flow on which it fails.
 fails_more : (inv : AnyInv) (all failing : List Flow) (f : Flow) → (holds_on inv (f ∷ []) → ⊥) → FailsOn inv all failing
     → FailsOn inv (with_flow all f) (with_flow failing f)
 fails_more inv all failing f fails is = record {
@@ -53,7 +53,7 @@ fails_more inv all failing f fails is = record {
 kept : (fs : List Flow) (f g : Flow) → IsTrue (not (same_flow f g)) → has (without_flow fs f) g ≡ has fs g
 kept fs f g other = has-without_flow fs f g ∙ ap (λ b. has fs g && b) other ∙ and-true (has fs g)
 
--- one flow less
+-- One fewer flow.
 fails_less : (inv : AnyInv) (all failing : List Flow) (f : Flow) → FailsOn inv all failing → FailsOn inv (without_flow all f) (without_flow failing f)
 fails_less inv all failing f is = record {
   within = within_less failing all f is.within;
@@ -64,7 +64,7 @@ fails_less inv all failing f is = record {
       (λ none. old.0 (sym same ∙ none), λ one. same ∙ old.1 one);
 }
 
--- a flow that comes and on which it fails, or one that goes
+-- An added flow on which it fails, or a removed flow.
 pub fails_where : (asked : Bool) (inv : AnyInv) (all failing : List Flow) (f : Flow) → (IsTrue asked → holds_on inv (f ∷ []) → ⊥) → FailsOn inv all failing
     → FailsOn inv (flows_where asked all f) (flows_where asked failing f)
 fails_where true inv all failing f fails is = fails_more inv all failing f (fails refl) is
@@ -74,7 +74,7 @@ nothing : (fs : List Flow) → ((f : Flow) → IsTrue (has fs f) → ⊥) → fs
 nothing [] none = refl
 nothing (f ∷ fs) none = absurd (none f (has_first f fs))
 
--- an invariant holds exactly where it fails on no flow
+-- An invariant holds if and only if it fails on no flow.
 pub none_fails : (n : ℕ) (inv : AnyInv) (all failing : List Flow) → IsFlowSet n all → IsEdgeWise n (holds_on inv) → FailsOn inv all failing
     → (failing ≡ []) ↔ holds_on inv all
 none_fails n inv all failing set edge_wise is = (
@@ -82,7 +82,7 @@ none_fails n inv all failing set edge_wise is = (
   λ holds. nothing failing (λ f there. both_ways _ ((is.marked f (is.within.within f there)).1 ((edge_wise all set).0 holds f (is.within.within f there))) there),
 )
 
--- the flows outside the first subset on which it holds are those on which it fails
+-- The flows outside the first subset on which it holds are exactly the flows on which it fails.
 pub fails_outside : (n : ℕ) (inv : AnyInv) (all first : List Flow) → IsFlowSet n all → IsEdgeWise n (holds_on inv) → IsFirst (holds_on inv) all first
     → FailsOn inv all (without all first)
 fails_outside n inv all first set edge_wise is =

@@ -1,4 +1,4 @@
--- Sets of flows of which one is changed after another.
+-- Sets of flows that are changed in order.
 use Rattle.std.proofs.Common.{◌≡◌, ◌≢◌, ◌<◌, ◌≤◌, ◌+◌, ℕ, inl, inr, List, [], ◌∷◌, ◌++◌, length, get_or, set, sym, ◌∙◌, subst, arith}
 use Rattle.std.proofs.lemmas.Bool.{cases_lt}
 use Rattle.std.proofs.lemmas.List.{get_or-set_same, get_or-set_other, get_or_append_left, get_or_push, get_or_read}
@@ -7,34 +7,34 @@ use Rattle.flow_set.specs.declared.flow.Flow.{Flow}
 use Rattle.inv_any.specs.declared.any_inv.AnyInv.{AnyInv}
 use Rattle.net_core.specs.inner.FailingFlows.{FailsIn}
 
--- each invariant has the flows of its set, up to a place
+-- Each invariant up to an index has the flows of its set.
 abbrev pub FailUpTo : ℕ → List Flow → List AnyInv → List SetOfFlows → ℕ → Type 0
 FailUpTo n all invs sets i = (k : ℕ) (inv : AnyInv) (s : SetOfFlows) → k < i → FailsIn n all (get_or invs k inv) (get_or sets k s)
 
--- from a place on the sets are as they were
+-- From an index on the sets are unchanged.
 abbrev pub SameFrom : List SetOfFlows → List SetOfFlows → ℕ → Type 0
 SameFrom sets old i = (k : ℕ) (s : SetOfFlows) → i ≤ k → get_or sets k s ≡ get_or old k s
 
--- an invariant stands at a place
+-- An invariant is at an index.
 pub record IsAt (invs : List AnyInv) (i : ℕ) (inv : AnyInv) : Type 0 where
   pub within : i < length invs
   pub is : inv ≡ get_or invs i inv
 
--- one of a description, which has its invariants under another name
+-- An invariant of a description, whose list of invariants has another name.
 pub read_at : (items whole : List AnyInv) (i : ℕ) (inv : AnyInv) → items ≡ whole → i < length items → inv ≡ get_or items i inv → IsAt whole i inv
 read_at items whole i inv same within is = subst (λ (xs : List AnyInv). IsAt xs i inv) same (record { within = within; is = is })
 
 pub past_in : (items whole : List AnyInv) (i : ℕ) → items ≡ whole → length items ≤ i → length whole ≤ i
 past_in items whole i same past = subst (λ (xs : List AnyInv). length xs ≤ i) same past
 
--- the set at a place is as it was
+-- The set at an index is unchanged.
 pub set_here : (n : ℕ) (all : List Flow) (invs : List AnyInv) (old sets : List SetOfFlows) (i : ℕ) (inv : AnyInv) (was : SetOfFlows) → IsAt invs i inv
     → was ≡ get_or sets i was → FailUpTo n all invs old (length invs) → SameFrom sets old i → FailsIn n all inv was
 set_here n all invs old sets i inv was there read before rest =
     subst (λ (s : SetOfFlows). FailsIn n all inv s) (sym (read ∙ rest i was (omega arith)))
     (subst (λ (x : AnyInv). FailsIn n all x (get_or old i was)) (sym there.is) (before i inv was there.within))
 
--- one invariant more has the flows of its set: one that was changed, or put at the end
+-- One more invariant has the flows of its set, which was changed or appended.
 fail_more : (n : ℕ) (all : List Flow) (invs : List AnyInv) (sets more : List SetOfFlows) (i : ℕ) (inv : AnyInv) (new : SetOfFlows) → IsAt invs i inv
     → ((k : ℕ) (s : SetOfFlows) → k < i → get_or more k s ≡ get_or sets k s) → ((s : SetOfFlows) → get_or more i s ≡ new)
     → FailsIn n all inv new → FailUpTo n all invs sets i → FailUpTo n all invs more (i + 1)

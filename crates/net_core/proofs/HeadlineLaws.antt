@@ -1,5 +1,5 @@
--- What a network's policy keeps, from its definition alone: it is the greatest where every invariant judges flows
--- alone, and with its answers it complies with every invariant.
+-- Properties of a network's policy that follow from its definition: it is the greatest if every invariant is edge-wise,
+-- and with its answers it complies with every invariant.
 use Rattle.std.proofs.Common.{ℕ, List, sym, ◌∙◌, get_or}
 use Rattle.net_core.specs.Network.{Network}
 use Rattle.net_core.specs.inner.Fitting.{IsNetwork}
@@ -14,13 +14,13 @@ use Rattle.net_core.proofs.EdgePolicyLaws.{all_edge_wise, edge_wise_at}
 use Rattle.net_core.proofs.PolicyLaws.{IsSubset-stateful}
 use Rattle.state_core.proofs.StatefulLaws.{Complies-from_strict}
 
--- where every invariant judges flows alone, the permitted flows contain every other policy
+-- If every invariant is edge-wise, the permitted flows contain every other policy.
 pub IsGreatestPolicy-from_policy : (d : Network) (policy : Policy) → IsNetwork d → IsPolicyOf d policy → JudgesFlowsAlone d
     → IsGreatestPolicy d policy
 IsGreatestPolicy-from_policy d policy network is_policy alone =
     first_greatest d.asked.size (MeetsAll d) d.asked.flows policy.permitted.flows network.asked (all_edge_wise d network alone) is_policy.permitted
 
--- no answer breaks what the policy keeps
+-- The policy with its answers complies with every invariant.
 pub CompliesWithAll-from_policy : (d : Network) (policy : Policy) → IsNetwork d → IsPolicyOf d policy → CompliesWithAll d policy
 CompliesWithAll-from_policy d policy network is_policy =
     let n : ℕ = d.asked.size in

@@ -1,5 +1,5 @@
--- Laws of flows that are told one by one: the first subset of a condition on single flows has those that pass, and one flow more or less
--- changes it by that flow alone.
+-- Lemmas on flows that are decided individually: the first subset of an edge-wise condition contains the flows that pass, and one more or
+-- one fewer flow changes it only by that flow.
 use Rattle.std.proofs.Common.{◌≡◌, ℕ, ◌⊎◌, inl, inr, Bool, true, false, ◌||◌, List, [], ◌∷◌, refl, sym, ◌∙◌, ap}
 use Rattle.std.specs.Prelude.{IsTrue, IsFalse}
 use Rattle.std.proofs.lemmas.Bool.{both_ways, false≢true, and_parts, and_from, or_cases, or_left, or_right, cases_Bool}
@@ -14,9 +14,9 @@ use Rattle.flow_set.proofs.SubsetLaws.{IsFlowSet-subset}
 use Rattle.permit_core.proofs.FirstLaws.{first_greatest}
 use Rattle.net_core.specs.inner.EdgePolicies.{AreMarked}
 
--- ---- which subset is the first
+-- ---- the first subset
 
--- the first flow of xs that ys lacks, if it lacks one
+-- The first flow of xs that is not in ys, if there is one.
 abbrev Lacks : (xs ys : List Flow) → Type 0
 Lacks xs ys = (f : Flow) × IsTrue (has xs f) × IsFalse (has ys f) × ((g : Flow) → IsTrue (has xs g) → IsTrue (before g f) → IsTrue (has ys g))
 
@@ -47,7 +47,7 @@ same_test true b f g = sym (f refl)
 same_test false true f g = g refl
 same_test false false f g = refl
 
--- a set against one of its subsets
+-- A set compared with one of its subsets.
 differs_or_same : (xs ys : List Flow) → IsOrdered xs → IsSubset ys xs → (ys ≡ xs) ⊎ DiffersFirstIn xs ys
 differs_or_same xs ys o sub = elim (lacking xs ys o) [
   | inl all ↦ inl (flows_ext ys xs sub.ordered o (λ f. same_test (has ys f) (has xs f) (sub.within f) (all f)))
@@ -59,7 +59,7 @@ differs_or_same xs ys o sub = elim (lacking xs ys o) [
   })
 ]
 
--- the flows that pass are the first subset
+-- The flows that pass are the first subset.
 pub marked_first : (n : ℕ) (Holds : List Flow → Type 0) (all xs : List Flow) → IsFlowSet n all → IsEdgeWise n Holds → IsSubset xs all
     → AreMarked (λ f. Holds (f ∷ [])) all xs → IsFirst Holds all xs
 marked_first n Holds all xs set edge_wise sub marked = record {
@@ -80,15 +80,15 @@ alone all f there = record {
   ];
 }
 
--- the first subset has the flows that pass
+-- The first subset contains the flows that pass.
 pub first_marked : (n : ℕ) (Holds : List Flow → Type 0) (all xs : List Flow) → IsFlowSet n all → IsEdgeWise n Holds → IsFirst Holds all xs
     → AreMarked (λ f. Holds (f ∷ [])) all xs
 first_marked n Holds all xs set edge_wise p f there =
     ((edge_wise xs (IsFlowSet-subset n xs all set p.within)).0 p.holds f, λ passes. ((first_greatest n Holds all xs set edge_wise p).greatest (f ∷ []) (alone all f there) passes).within f (has_first f []))
 
--- ---- one flow more, and one less
+-- ---- one more flow, and one fewer
 
--- f passes
+-- f passes.
 pub marked_kept : (Passes : Flow → Type 0) (all xs : List Flow) (f : Flow) → Passes f → AreMarked Passes all xs → AreMarked Passes (with_flow all f) (with_flow xs f)
 marked_kept Passes all xs f passes marked g there = elim (cases_Bool (same_flow f g)) [
   | inl same ↦ (λ here. same_fact Passes f g same passes, λ p. has-with_flow xs f g ∙ or_left _ _ same)
@@ -97,7 +97,7 @@ marked_kept Passes all xs f passes marked g there = elim (cases_Bool (same_flow 
       (λ here. (marked g old).0 (sym (ap (λ b. b || has xs g) other) ∙ sym (has-with_flow xs f g) ∙ here), λ p. has-with_flow xs f g ∙ or_right _ _ ((marked g old).1 p))
 ]
 
--- f does not
+-- f does not.
 pub marked_left : (Passes : Flow → Type 0) (all xs : List Flow) (f : Flow) → (Passes f → ⊥) → IsFalse (has xs f) → AreMarked Passes all xs
     → AreMarked Passes (with_flow all f) xs
 marked_left Passes all xs f fails absent marked g there = elim (cases_Bool (same_flow f g)) [
@@ -106,7 +106,7 @@ marked_left Passes all xs f fails absent marked g there = elim (cases_Bool (same
   | inr other ↦ marked g (sym (ap (λ b. b || has all g) other) ∙ sym (has-with_flow all f g) ∙ there)
 ]
 
--- f is taken out
+-- f is removed.
 pub marked_out : (Passes : Flow → Type 0) (all xs : List Flow) (f : Flow) → AreMarked Passes all xs
     → AreMarked Passes (without_flow all f) (without_flow xs f)
 marked_out Passes all xs f marked g there =
@@ -115,7 +115,7 @@ marked_out Passes all xs f marked g there =
 
 -- ---- subsets
 
--- what a set has not, its subsets have not
+-- A flow that is not in a set is not in its subsets.
 pub absent_from : (all xs : List Flow) (f : Flow) → IsSubset xs all → IsFalse (has all f) → IsFalse (has xs f)
 absent_from all xs f sub absent = elim (cases_Bool (has xs f)) [ inl there ↦ absurd (both_ways _ absent (sub.within f there)) | inr none ↦ none ]
 

@@ -1,5 +1,5 @@
--- Laws of policies: a network has one at most, what lies within what, and that flows which meet every invariant are
--- permitted as they are asked for.
+-- Lemmas on policies: a network has at most one, inclusions between the sets, and flows that satisfy every invariant
+-- are permitted unchanged.
 use Rattle.std.proofs.Common.{◌≡◌, ℕ, Bool, true, false, List, [], Result, Ok, Err, IfOk, IsFalse, sym, ◌∙◌, subst}
 use Rattle.net_core.specs.Network.{Network}
 use Rattle.net_core.specs.inner.Fitting.{IsNetwork}
@@ -11,17 +11,17 @@ use Rattle.flow_set.proofs.SubsetLaws.{nothing_within, subset_trans}
 use Rattle.flow_set.specs.declared.flow.Flow.{Flow}
 use Rattle.net_core.specs.Policies.{answerable, MeetsAll, MeetsStrict, IsStateful, Policy, IsPolicyOf}
 
--- ---- what lies within what
+-- ---- inclusions
 
 pub answerable_within : (answers : Bool) (p s : List Flow) → IsSubset s (answerable answers p) → IsSubset s p
 answerable_within true p s sub = sub
 answerable_within false p s sub = subset_trans s [] p sub (nothing_within p)
 
--- a flow whose answers may pass is permitted itself
+-- A flow whose answers may pass is permitted itself.
 pub IsSubset-stateful : (d : Network) (p s : List Flow) → IsStateful d p s → IsSubset s p
 IsSubset-stateful d p s stateful = answerable_within d.answers p s stateful.within
 
--- where there are no answers, no flow is stateful
+-- If there are no answers, no flow is stateful.
 pub none_stateful : {E : Type 0} (d : Network) (p : List Flow) (n : ℕ) (made : Result SetOfFlows E) → IsFalse d.answers → MeetsAll d p
     → IfOk made (λ set. set ≡ record { size = n; flows = [] }) → IfOk made (λ s. IsStateful d p s.flows)
 none_stateful d p n (Ok set) none meets empty =
@@ -30,7 +30,7 @@ none_stateful d p n (Ok set) none meets empty =
     (subst (λ (s : SetOfFlows). IsFirst Holds [] s.flows) (sym empty) (first_of_nothing Holds (λ k e within strict. meets k e within)))
 none_stateful d p n (Err error) none meets empty = tt
 
--- ---- there is one at most
+-- ---- uniqueness
 
 policy_ext : (p q : Policy) → p.permitted ≡ q.permitted → p.stateful ≡ q.stateful → p ≡ q
 policy_ext p q permitted stateful = λ i. record { permitted = permitted i; stateful = stateful i }
@@ -47,7 +47,7 @@ policy_is_one d p q a b =
     (set_ext p.stateful q.stateful (a.stateful_size ∙ sym b.stateful_size)
     (stateful_is_one d q.permitted.flows p.stateful.flows q.stateful.flows (subst (λ (xs : List Flow). IsStateful d xs p.stateful.flows) same a.stateful) b.stateful))
 
--- ---- flows that meet every invariant are permitted as they are asked for
+-- ---- flows that satisfy every invariant are permitted unchanged
 
 pub asked_is_permitted : (d : Network) (p : Policy) → IsNetwork d → MeetsAll d d.asked.flows → IsPolicyOf d p → p.permitted ≡ d.asked
 asked_is_permitted d p network meets is_policy =

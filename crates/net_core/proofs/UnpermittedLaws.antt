@@ -1,5 +1,5 @@
--- Laws of flows that are not permitted: a policy stays as it is where one that an invariant denies by itself is asked for, and where one
--- that is not permitted is asked for no more. Of these every invariant may look at walks.
+-- Lemmas on flows that are not permitted: a policy is unchanged if a flow that an invariant denies by itself is added, and if a flow that
+-- is not permitted is removed. This holds for all invariants, edge-wise or not.
 use Rattle.std.proofs.Common.{◌≡◌, ℕ, inl, inr, not, List, [], ◌∷◌, sym, ap, subst, ◌∙◌}
 use Rattle.std.specs.Prelude.{IsTrue, IsFalse}
 use Rattle.std.proofs.lemmas.Bool.{and_from, both_ways, cases_Bool, or_cases}
@@ -24,7 +24,7 @@ use Rattle.net_core.proofs.MarkedLaws.{alone, within_more}
 
 -- ---- the first subset
 
--- a flow of the set is another than one that it lacks
+-- A flow of the set differs from a flow that is not in it.
 other_than : (xs : List Flow) (f g : Flow) → IsFalse (has xs f) → IsTrue (has xs g) → IsFalse (same_flow f g)
 other_than xs f g absent there = elim (cases_Bool (same_flow f g)) [
   | inl same ↦ absurd (both_ways _ absent (same_fact (λ h. IsTrue (has xs h)) g f (sym (same_flow_sym f g) ∙ same) there))
@@ -45,7 +45,7 @@ first_less Holds all xs f ordered absent is = record {
   first = λ ys sub holds. is.first ys (subset_trans ys (without_flow all f) all sub (subset_without_flow all f ordered)) holds;
 }
 
--- a set on which the condition holds lacks a flow on which it fails
+-- A set for which the condition holds does not contain a flow for which it fails.
 lacks : (n : ℕ) (Holds : List Flow → Type 0) (ys : List Flow) (f : Flow) → IsDownward n Holds → IsFlowSet n ys → (Holds (f ∷ []) → ⊥) → Holds ys
     → IsFalse (has ys f)
 lacks n Holds ys f downward set fails holds = elim (cases_Bool (has ys f)) [
@@ -81,7 +81,7 @@ meets_downward : (d : Network) → IsNetwork d → IsDownward d.asked.size (Meet
 meets_downward d network =
     AllHold-downward d.asked.size holds_on d.invariants (λ k inv within. downward_at d.asked.size _ (network.invariants k inv within ∙ sym network.sized))
 
--- one that is not permitted is asked for no more
+-- A flow that is not permitted is removed.
 pub policy_unpermitted : (d : Network) (policy : Policy) (f : Flow) → IsNetwork d → IsFalse (has policy.permitted.flows f) → IsPolicyOf d policy
     → IsPolicyOf (not_asking_for d f) policy
 policy_unpermitted d policy f network absent is = record {
@@ -91,7 +91,7 @@ policy_unpermitted d policy f network absent is = record {
   stateful = is.stateful;
 }
 
--- one is asked for that some invariant denies by itself
+-- A flow that some invariant denies by itself is added.
 pub policy_denied : (d : Network) (policy : Policy) (f : Flow) → IsNetwork d → IsFlow d.asked.size f → (IsAdmitted d f → ⊥) → IsPolicyOf d policy
     → IsPolicyOf (asking_for d f) policy
 policy_denied d policy f network flow denied is = record {

@@ -1,5 +1,5 @@
--- A network: its hosts, the flows between them that are asked for, the services to which these are narrowed, and the invariants
--- that have to hold. It stands apart from the text that describes it.
+-- A network: its hosts, the asked flows between them, the services to which these are restricted, and the invariants that have to hold. It
+-- is independent of the file that describes it.
 use Rattle.std.specs.Prelude.{Bool, List}
 use Rattle.flow_set.specs.FlowSet.{SetOfFlows}
 use Rattle.host_net.specs.Host.{Host}
@@ -7,8 +7,8 @@ use Rattle.host_net.specs.Services.{NarrowedFlow}
 use Rattle.host_net.specs.Site.{Site, site_with}
 use Rattle.inv_any.specs.declared.any_inv.AnyInv.{AnyInv}
 
--- the hosts, the flows that are asked for, the services to which flows are narrowed, whether the asked flows were listed (where
--- not, every flow is asked for), whether flows may have answers, and the invariants
+-- A network: the hosts, the asked flows, the services to which flows are restricted, whether the asked flows were listed (if not, every
+-- flow is asked for), whether flows may have answers, and the invariants.
 pub record Network : Type 0 where
   pub hosts : List Host
   pub asked : SetOfFlows
@@ -17,6 +17,6 @@ pub record Network : Type 0 where
   pub answers : Bool
   pub invariants : List AnyInv
 
--- the hosts, with the services to which flows between them are narrowed
+-- The hosts, with the services to which flows between them are restricted.
 abbrev pub site_of : Network → Site
 site_of d = site_with d.hosts d.services

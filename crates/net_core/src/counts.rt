@@ -1,4 +1,4 @@
-//! How many invariants fail on the asked flows.
+//! The number of invariants that fail on the asked flows.
 
 ghost use Rattle.std.specs.Prelude.{◌↔◌, ℕ, List, IfOk, IsFalse};
 ghost use Rattle.flow_set.specs.inner.Downward.{IsEdgeWise};
@@ -15,7 +15,7 @@ use inv_any::AnyInv;
 use inv_law::Invariant;
 use std::alloc::{AllocError, Global};
 
-/// How many invariants fail on the asked flows.
+/// Returns the number of invariants that fail on the asked flows.
 pub(crate) fn count_failed(alloc: Global, description: &Description) -> Result<u16, AllocError>
     ensures { IfOk result (AreFailing description.now.invariants description.now.asked.flows) }
 {
@@ -29,7 +29,8 @@ pub(crate) fn count_failed(alloc: Global, description: &Description) -> Result<u
     Ok(count)
 }
 
-/// How many invariants fail on the asked flows, where the flows on which each fails are known.
+/// Returns the number of invariants that fail on the asked flows, given the flows on which each
+/// fails.
 pub(crate) fn count_failing(description: &Description, failing: &[FlowSet]) -> u16
     requires network { IsNetwork description.now }
     requires alone { JudgesFlowsAlone description.now }
@@ -46,8 +47,8 @@ pub(crate) fn count_failing(description: &Description, failing: &[FlowSet]) -> u
     count
 }
 
-/// Whether there are flows on which the invariant fails. The invariant is not read: it stands here for the
-/// contract alone.
+/// Whether there are flows on which the invariant fails. The invariant is not read: it is a
+/// parameter only for the contract.
 fn fails(_invariant: &AnyInv, failing: &FlowSet) -> bool
     ensures { (n : ℕ) (all : List Meant) → IsFlowSet n all → IsEdgeWise n (holds_on _invariant.now)
         → FailsOn _invariant.now all failing.now.flows → (IsFalse result ↔ holds_on _invariant.now all) }

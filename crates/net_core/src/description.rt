@@ -1,5 +1,4 @@
-//! A network: its hosts, the flows between them that are asked for, their services, and its
-//! invariants.
+//! A network: its hosts, the asked flows between them, their services, and its invariants.
 
 ghost use Rattle.std.specs.Prelude.{◌≡◌, ◌≤◌, All, length};
 ghost use Rattle.flow_set.specs.Flow.{IsFlow};
@@ -17,7 +16,7 @@ use host_net::{Hosts, Services};
 use inv_any::AnyInv;
 use std::marker::Model;
 
-/// What a description says: a network.
+/// The network that a description specifies.
 #[derive(Drop)]
 pub struct Description {
     hosts: Hosts,
@@ -58,7 +57,7 @@ impl Model for Description {
 }
 
 impl Description {
-    /// The network of these parts.
+    /// Returns the network of these parts.
     pub fn new(
         hosts: Hosts,
         asked: FlowSet,
@@ -80,7 +79,7 @@ impl Description {
         }
     }
 
-    /// The hosts, in the order of their numbers.
+    /// Returns the hosts, in the order of their numbers.
     pub fn hosts(&self) -> &Hosts
         ensures value { result.now ≡ self.now.hosts }
         ensures hosts { IsHosts self.now.hosts }
@@ -88,7 +87,7 @@ impl Description {
         &self.hosts
     }
 
-    /// The flows that are asked for.
+    /// Returns the asked flows.
     pub fn asked(&self) -> &FlowSet
         ensures value { result.now ≡ self.now.asked }
         ensures size { self.now.asked.size ≡ length self.now.hosts }
@@ -97,7 +96,7 @@ impl Description {
         &self.asked
     }
 
-    /// Asks for the flow from now on, or no more. What services it has stay.
+    /// Adds the flow to the asked flows, or removes it. Its services are unchanged.
     pub(crate) fn set_asked(&mut self, flow: Flow, asked: bool)
         requires { IsFlow self.old.asked.size flow }
         ensures { self.new ≡ asking_where asked self.old flow }
@@ -105,7 +104,8 @@ impl Description {
         set_flow(&mut self.asked, flow, asked);
     }
 
-    /// The services of the flows. A flow that has none is not narrowed: every packet is of it.
+    /// Returns the services of the flows. A flow without services is unrestricted: every packet
+    /// belongs to it.
     pub fn services(&self) -> &Services
         ensures value { result.now ≡ self.now.services }
         ensures services { AreServices self.now.services }
@@ -113,8 +113,8 @@ impl Description {
         &self.services
     }
 
-    /// Whether the flows that are asked for were listed, if only as an empty list. Where they were
-    /// not, every flow is asked for.
+    /// Whether the asked flows were listed, possibly as an empty list. If they were not, every flow
+    /// is asked for.
     pub fn given(&self) -> bool
         ensures { result ≡ self.now.given }
     {
@@ -128,7 +128,7 @@ impl Description {
         self.answers
     }
 
-    /// The invariants, in their order.
+    /// Returns the invariants, in order.
     pub fn invariants(&self) -> &[AnyInv]
         ensures value { result.now ≡ self.now.invariants }
         ensures sizes { All (λ inv. (meaning_of inv).size ≡ length self.now.hosts) self.now.invariants }

@@ -1,4 +1,4 @@
-//! The flows on which invariants fail, one by one, as flows come and go.
+//! The flows on which single invariants fail, maintained while flows are added and removed.
 
 ghost use Rattle.std.specs.Prelude.{◌≡◌, IfOk, IsFalse, IsTrue};
 ghost use Rattle.flow_set.specs.Flow.{IsFlow};
@@ -16,7 +16,7 @@ use inv_law::Invariant;
 use permit_core::offending_by_steps;
 use std::alloc::{AllocError, Global};
 
-/// For each invariant the asked flows on which it fails.
+/// Returns, for each invariant, the asked flows on which it fails.
 pub(crate) fn failing_flows(
     alloc: Global,
     description: &Description,
@@ -32,7 +32,7 @@ pub(crate) fn failing_flows(
     Ok(failing)
 }
 
-/// The flows on which the invariant fails.
+/// Returns the flows on which the invariant fails.
 fn failing_on(alloc: Global, invariant: &AnyInv, asked: &FlowSet) -> Result<FlowSet, AllocError>
     requires size { asked.now.size ≡ (meaning_of invariant.now).size }
     requires alone { IsTrue (edge_mark invariant.now) }
@@ -45,7 +45,8 @@ fn failing_on(alloc: Global, invariant: &AnyInv, asked: &FlowSet) -> Result<Flow
     }
 }
 
-/// Changes the flows on which invariants fail by one that is asked for from now on, or no more.
+/// Updates the flows on which invariants fail by a flow that is added to the asked flows, or
+/// removed.
 pub(crate) fn change_failing(
     description: &Description,
     failing: &mut Vec<FlowSet>,
@@ -70,8 +71,8 @@ pub(crate) fn change_failing(
     }
 }
 
-/// The same of one invariant. A flow that comes is none of its own where it admits the flow. The
-/// description is not read: it stands here for the contract alone.
+/// The same for one invariant. An added flow is not inserted if the invariant admits it. The
+/// description is not read: it is a parameter only for the contract.
 fn change_where_failing(
     _description: &Description,
     invariant: &AnyInv,

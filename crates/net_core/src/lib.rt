@@ -1,5 +1,5 @@
-//! A network apart from the file that describes it, and its policy: the flows that its invariants
-//! permit, and those among them whose answers may pass.
+//! A network, independent of the file that describes it, and its policy: the flows that its
+//! invariants permit, and the permitted flows whose answers may pass.
 #![tactic(auto)]
 
 mod counts;

@@ -1,4 +1,4 @@
-//! A network with its policy, kept as flows come and go.
+//! A network with its policy, maintained while flows are added and removed.
 
 ghost use Rattle.std.specs.Prelude.{◌≡◌, ◌↔◌, not, IfOk, IsTrue, OnErr, OnOk};
 ghost use Rattle.flow_set.specs.Flow.{IsFlow};
@@ -18,7 +18,7 @@ use flow_set::{Flow, FlowSet};
 use std::alloc::{AllocError, Global};
 use std::marker::Model;
 
-/// A network with its policy. It is seen as both.
+/// A network with its policy. Its model has both.
 #[derive(Drop)]
 pub struct PolicedNetwork {
     description: Description,
@@ -40,7 +40,7 @@ impl Model for PolicedNetwork {
 }
 
 impl PolicedNetwork {
-    /// The network with its policy.
+    /// Returns the network with its policy.
     pub fn new(alloc: Global, description: Description) -> Result<PolicedNetwork, AllocError>
         ensures { IfOk result (λ policed. policed.network ≡ description) }
     {
@@ -51,14 +51,14 @@ impl PolicedNetwork {
         })
     }
 
-    /// The network.
+    /// Returns the network.
     pub fn description(&self) -> &Description
         ensures { result.now ≡ self.now.network }
     {
         &self.description
     }
 
-    /// The flows that may be opened.
+    /// Returns the permitted flows.
     pub fn permitted(&self) -> &FlowSet
         ensures value { result.now ≡ self.now.policy.permitted }
         ensures policy { IsPolicyOf self.now.network self.now.policy }
@@ -66,7 +66,7 @@ impl PolicedNetwork {
         &self.judged.permitted
     }
 
-    /// The permitted flows whose answers may pass.
+    /// Returns the permitted flows whose answers may pass.
     pub fn stateful(&self) -> &FlowSet
         ensures value { result.now ≡ self.now.policy.stateful }
         ensures policy { IsPolicyOf self.now.network self.now.policy }
@@ -74,15 +74,15 @@ impl PolicedNetwork {
         &self.judged.stateful
     }
 
-    /// How many invariants fail on the asked flows.
+    /// Returns the number of invariants that fail on the asked flows.
     pub fn failed(&self) -> u16
         ensures { AreFailing self.now.network.invariants self.now.network.asked.flows result }
     {
         self.judged.failed
     }
 
-    /// Asks for one flow more. Where an invariant looks at walks, the policy may have to be found anew,
-    /// for which there may be no memory.
+    /// Adds a flow to the asked flows. If an invariant is not edge-wise, the policy may have to be
+    /// recomputed, which may fail with an allocation error.
     pub fn ask_for(&mut self, alloc: Global, flow: Flow) -> Result<(), AllocError>
         requires { IsFlow self.old.network.asked.size flow }
         ensures asked { OnOk result (self.new.network ≡ asking_for self.old.network flow) }
@@ -91,7 +91,7 @@ impl PolicedNetwork {
         self.set_asked(alloc, flow, true)
     }
 
-    /// Asks for one flow less, likewise.
+    /// Removes a flow from the asked flows, likewise.
     pub fn ask_no_more_for(&mut self, alloc: Global, flow: Flow) -> Result<(), AllocError>
         requires { IsFlow self.old.network.asked.size flow }
         ensures asked { OnOk result (self.new.network ≡ not_asking_for self.old.network flow) }
@@ -100,7 +100,7 @@ impl PolicedNetwork {
         self.set_asked(alloc, flow, false)
     }
 
-    /// Asks for the flow from now on, or no more.
+    /// Adds the flow to the asked flows, or removes it.
     fn set_asked(&mut self, alloc: Global, flow: Flow, asked: bool) -> Result<(), AllocError>
         requires { IsFlow self.old.network.asked.size flow }
         ensures asked { OnOk result (self.new.network ≡ asking_where asked self.old.network flow) }
@@ -124,14 +124,14 @@ impl PolicedNetwork {
         self.description.asked().has(flow)
     }
 
-    /// Whether every invariant judges flows alone, so that flows may come and go one by one.
+    /// Whether every invariant is edge-wise, so that flows can be added and removed individually.
     fn judges_flows_alone(&self) -> bool
         ensures { IsTrue result ↔ JudgesFlowsAlone self.now.network }
     {
         judges_flows_alone(&self.description)
     }
 
-    /// The flow comes or goes, and changes the policy by itself.
+    /// Adds or removes the flow, and updates the policy by this flow only.
     fn change_alone(&mut self, flow: Flow, asked: bool)
         requires alone { JudgesFlowsAlone self.old.network }
         requires flow { IsFlow self.old.network.asked.size flow }
@@ -150,7 +150,7 @@ impl PolicedNetwork {
         self.judged.failed = count_failing(&self.description, &self.judged.failing);
     }
 
-    /// The flow comes or goes, where an invariant looks at walks.
+    /// Adds or removes the flow, if an invariant is not edge-wise.
     fn change_anew(&mut self, alloc: Global, flow: Flow, asked: bool) -> Result<(), AllocError>
         requires walks { JudgesFlowsAlone self.old.network → ⊥ }
         requires flow { IsFlow self.old.network.asked.size flow }
@@ -170,8 +170,8 @@ impl PolicedNetwork {
     }
 }
 
-/// Whether a flow leaves the policy as it is: an invariant denies by itself one that comes, or one
-/// that goes was not permitted.
+/// Whether a flow leaves the policy unchanged: an invariant denies an added flow by itself, or a
+/// removed flow was not permitted.
 fn leaves_policy(description: &Description, judged: &Judged, flow: Flow, asked: bool) -> bool
     requires judged { IsJudged description.now judged.now }
     requires flow { IsFlow description.now.asked.size flow }

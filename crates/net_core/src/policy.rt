@@ -1,4 +1,4 @@
-//! What a description permits.
+//! The policy of a description.
 
 ghost use Rattle.std.specs.Prelude.{◌≡◌, length, IfOk};
 ghost use Rattle.flow_set.specs.FlowSet.{IsSubset};
@@ -11,7 +11,7 @@ use state_core::refine_by_steps;
 use std::alloc::{AllocError, Global};
 use std::marker::Model;
 
-/// The permitted flows of a network, and those whose answers may pass.
+/// The permitted flows of a network, and the permitted flows whose answers may pass.
 #[derive(Drop)]
 pub struct Policy {
     permitted: FlowSet,
@@ -30,14 +30,14 @@ impl Model for Policy {
 }
 
 impl Policy {
-    /// The flows that may be opened.
+    /// Returns the permitted flows.
     pub fn permitted(&self) -> &FlowSet
         ensures value { result.now ≡ self.now.permitted }
     {
         &self.permitted
     }
 
-    /// The permitted flows whose answers may pass.
+    /// Returns the permitted flows whose answers may pass.
     pub fn stateful(&self) -> &FlowSet
         ensures value { result.now ≡ self.now.stateful }
         ensures within { IsSubset self.now.stateful.flows self.now.permitted.flows }
@@ -45,7 +45,7 @@ impl Policy {
         &self.stateful
     }
 
-    /// Both sets: the permitted flows, and those among them whose answers may pass.
+    /// Returns both sets: the permitted flows, and the permitted flows whose answers may pass.
     pub fn into_sets(self) -> (FlowSet, FlowSet)
         ensures permitted { result.0 ≡ self.permitted }
         ensures stateful { result.1 ≡ self.stateful }
@@ -54,14 +54,15 @@ impl Policy {
     }
 }
 
-/// The permitted flows of a description, and those among them whose answers may pass.
+/// Returns the policy of a description: the permitted flows, and the permitted flows whose answers
+/// may pass.
 pub fn policy_of(alloc: Global, description: &Description) -> Result<Policy, AllocError>
     ensures size { IfOk result (λ policy. (policy.permitted.size ≡ length description.now.hosts)
         × (policy.stateful.size ≡ length description.now.hosts)) }
     ensures policy { IfOk result (λ policy. IsPolicyOf description.now policy) }
-    // Where every invariant judges flows alone, no other policy permits more.
+    // If every invariant is edge-wise, no other policy permits more.
     ensures greatest { JudgesFlowsAlone description.now → IfOk result (λ policy. IsGreatestPolicy description.now policy) }
-    // No answer breaks what the policy keeps.
+    // The policy with its answers complies with every invariant.
     ensures complies { IfOk result (λ policy. CompliesWithAll description.now policy) }
 {
     let permitted = permit_by_steps(alloc, description.invariants(), description.asked())?;
@@ -72,7 +73,7 @@ pub fn policy_of(alloc: Global, description: &Description) -> Result<Policy, All
     })
 }
 
-// The stateful flows among the permitted ones: none where the description has no answers.
+// Returns the stateful flows among the permitted ones: none if the description has no answers.
 fn stateful_of(
     alloc: Global,
     description: &Description,

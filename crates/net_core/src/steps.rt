@@ -1,4 +1,4 @@
-//! A flow that comes or goes, without memory.
+//! Adding and removing a flow without allocation.
 
 ghost use Rattle.std.specs.Prelude.{◌≡◌, ◌↔◌, [], ◌∷◌, IsFalse, IsTrue};
 ghost use Rattle.flow_set.specs.Flow.{IsFlow};
@@ -16,7 +16,7 @@ use inv_any::AnyInv;
 use inv_law::Invariant;
 use state_core::is_strict;
 
-/// Changes the policy by a flow that is asked for from now on, or no more.
+/// Updates the policy by a flow that is added to the asked flows, or removed.
 pub(crate) fn change_flow(
     description: &Description,
     permitted: &mut FlowSet,
@@ -38,8 +38,8 @@ pub(crate) fn change_flow(
     }
 }
 
-/// Puts a flow in that is asked for from now on: it is permitted where every invariant admits it, and
-/// its answers may pass where they are admitted as well.
+/// Adds an asked flow: it is permitted if every invariant admits it, and its answers may pass if
+/// they are admitted as well.
 fn add_flow(description: &Description, permitted: &mut FlowSet, stateful: &mut FlowSet, flow: Flow)
     requires network { IsNetwork description.now }
     requires alone { JudgesFlowsAlone description.now }
@@ -58,7 +58,7 @@ fn add_flow(description: &Description, permitted: &mut FlowSet, stateful: &mut F
     stateful.insert(flow);
 }
 
-/// Takes a flow out that is asked for no more.
+/// Removes a flow that is no longer asked for.
 fn remove_flow(
     description: &Description,
     permitted: &mut FlowSet,
@@ -76,7 +76,7 @@ fn remove_flow(
     stateful.remove(flow);
 }
 
-/// Whether every invariant judges flows alone.
+/// Whether every invariant is edge-wise.
 pub(crate) fn judges_flows_alone(description: &Description) -> bool
     ensures { IsTrue result ↔ JudgesFlowsAlone description.now }
 {

@@ -1,4 +1,4 @@
--- The policy of a network in which every invariant judges flows alone: it is told flow by flow.
+-- The policy of a network in which every invariant is edge-wise: each flow is decided individually.
 use Rattle.std.specs.Prelude.{◌≡◌, ◌↔◌, List, [], ◌∷◌, IsTrue}
 use Rattle.flow_set.specs.Flow.{back_of}
 use Rattle.flow_set.specs.FlowSet.{has, IsSubset}
@@ -6,18 +6,20 @@ use Rattle.flow_set.specs.declared.flow.Flow.{Flow}
 use Rattle.net_core.specs.Network.{Network}
 use Rattle.net_core.specs.Policies.{answerable, MeetsAll, MeetsStrict, Policy}
 
--- of the flows of `all`, xs has exactly those that pass
+-- xs contains exactly the flows of `all` that pass.
 abbrev pub AreMarked : (Flow → Type 0) → (all xs : List Flow) → Type 0
 AreMarked Passes all xs = (f : Flow) → IsTrue (has all f) → IsTrue (has xs f) ↔ Passes f
 
--- the flow alone meets every invariant; its answer alone meets every strict one
+-- The single flow satisfies every invariant.
 abbrev pub IsAdmitted : Network → Flow → Type 0
 IsAdmitted d f = MeetsAll d (f ∷ [])
 
+-- The single answer of the flow satisfies every strict invariant.
 abbrev pub IsAnswered : Network → Flow → Type 0
 IsAnswered d f = MeetsStrict d (back_of f ∷ [])
 
--- the asked flows that are admitted, and among them those whose answers are
+-- The permitted flows are the asked flows that are admitted, and the stateful flows are those of them whose answers are
+-- admitted.
 pub record IsEdgePolicy (d : Network) (policy : Policy) : Type 0 where
   pub permitted_size : policy.permitted.size ≡ d.asked.size
   pub stateful_size : policy.stateful.size ≡ d.asked.size

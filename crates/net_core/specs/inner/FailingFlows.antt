@@ -1,4 +1,4 @@
--- On which flows each invariant fails, where they judge flows alone.
+-- The flows on which each invariant fails, if the invariants are edge-wise.
 use Rattle.std.specs.Prelude.{◌≡◌, ◌↔◌, ℕ, ◌<◌, List, [], ◌∷◌, length, slice_index_or, IsTrue, IsFalse}
 use Rattle.flow_set.specs.FlowSet.{SetOfFlows, has, IsSubset}
 use Rattle.flow_set.specs.declared.flow.Flow.{Flow}
@@ -6,17 +6,17 @@ use Rattle.inv_any.specs.declared.any_inv.AnyInv.{AnyInv}
 use Rattle.net_core.specs.Network.{Network}
 use Rattle.net_core.specs.Policies.{holds_on}
 
--- of the flows of `all`, `failing` has exactly those on which the invariant fails
+-- `failing` contains exactly the flows of `all` on which the invariant fails.
 pub record FailsOn (inv : AnyInv) (all failing : List Flow) : Type 0 where
   pub within : IsSubset failing all
   pub marked : (f : Flow) → IsTrue (has all f) → IsFalse (has failing f) ↔ holds_on inv (f ∷ [])
 
--- the same of a set of flows between so many hosts
+-- The same for a set of flows between n hosts.
 pub record FailsIn (n : ℕ) (all : List Flow) (inv : AnyInv) (failing : SetOfFlows) : Type 0 where
   pub size : failing.size ≡ n
   pub flows : FailsOn inv all failing.flows
 
--- a set for each invariant: the asked flows on which it fails
+-- A set for each invariant: the asked flows on which it fails.
 pub record AreFailingFlows (d : Network) (failing : List SetOfFlows) : Type 0 where
   pub counted : length failing ≡ length d.invariants
   pub each : (k : ℕ) (inv : AnyInv) (set : SetOfFlows) → k < length d.invariants

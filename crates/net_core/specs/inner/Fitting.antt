@@ -1,4 +1,4 @@
--- That the parts of a network fit together.
+-- Validity of a network: its parts are consistent.
 use Rattle.std.specs.Prelude.{◌≡◌, ◌≤◌, All, length}
 use Rattle.flow_set.specs.inner.FlowSetView.{IsFlowSet}
 use Rattle.host_net.specs.inner.Hosts.{IsHosts}
@@ -7,8 +7,8 @@ use Rattle.host_net.specs.inner.Services.{AreServices}
 use Rattle.inv_any.specs.Templates.{meaning_of}
 use Rattle.net_core.specs.Network.{Network}
 
--- the parts fit together: the hosts are hosts, the flows lie between them, the services are services, and each invariant has an
--- attribute for each host
+-- The parts are consistent: the hosts are valid, the flows are between them, the services are valid, and each invariant has an attribute
+-- for each host.
 pub record IsNetwork (d : Network) : Type 0 where
   pub hosts : IsHosts d.hosts
   pub sized : d.asked.size ≡ length d.hosts

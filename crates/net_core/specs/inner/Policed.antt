@@ -1,4 +1,4 @@
--- A network with its policy, and what is kept beside them.
+-- A network with its policy, and the evaluation that is stored with them.
 use Rattle.net_core.specs.inner.Fitting.{IsNetwork}
 use Rattle.net_core.specs.Network.{Network}
 use Rattle.net_core.specs.Policies.{IsPolicyOf, JudgesFlowsAlone, Policy}
@@ -13,8 +13,8 @@ pub record Policed : Type 0 where
 abbrev pub policy_in : Judged → Policy
 policy_in j = record { permitted = j.permitted; stateful = j.stateful }
 
--- the policy is that of the network, so many of its invariants fail on the asked flows; and each on these flows, where all judge
--- flows alone
+-- The policy is that of the network; `failed` is the number of its invariants that fail on the asked flows; and `failing` lists the flows
+-- on which each fails, if all are edge-wise.
 pub record IsJudged (d : Network) (j : Judged) : Type 0 where
   pub network : IsNetwork d
   pub is_policy : IsPolicyOf d (policy_in j)

@@ -2,7 +2,7 @@ use Rattle.std.proofs.Common.{◌≤◌}
 use Rattle.net_core.proofs.CountLemmas.{CountTo}
 use Rattle.net_core.proofs.counts.count_failed.Given as goal
 
--- those so far are counted, and each counts once at the most
+-- The invariants so far are counted, each at most once.
 abbrev pub invariant-loop-invariant : goal.invariant-loop-invariant
 invariant-loop-invariant l = record {
   goes : CountTo l.description.invariants l.description.asked.flows l.invariant-index l.count;

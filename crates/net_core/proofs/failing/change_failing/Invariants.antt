@@ -3,7 +3,7 @@ use Rattle.net_core.specs.inner.Asking.{flows_where}
 use Rattle.net_core.proofs.FailingLemmas.{FailUpTo, SameFrom}
 use Rattle.net_core.proofs.failing.change_failing.Given as goal
 
--- the sets so far are those of the new flows, and the others are as they were
+-- The sets so far are those of the new flows, and the others are unchanged.
 abbrev pub invariant-loop-place : goal.invariant-loop-place
 invariant-loop-place l = record {
   counted : length l.failing.items ≡ length l.description.invariants;

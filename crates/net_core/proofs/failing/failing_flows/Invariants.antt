@@ -3,7 +3,7 @@ use Rattle.std.specs.Prelude.{vec_len}
 use Rattle.net_core.proofs.FailingLemmas.{FailUpTo}
 use Rattle.net_core.proofs.failing.failing_flows.Given as goal
 
--- a set for each invariant so far
+-- A set for each invariant so far.
 abbrev pub invariant-loop-invariant : goal.invariant-loop-invariant
 invariant-loop-invariant l = record {
   counted : vec_len l.failing ≡ l.invariant-index;

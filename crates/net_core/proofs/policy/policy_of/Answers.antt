@@ -8,7 +8,7 @@ use Rattle.permit_core.specs.Policy.{AllHold}
 use Rattle.net_core.specs.Policies.{holds_on, edge_mark}
 use Rattle.net_core.proofs.policy.policy_of.Goals as goal
 
--- what is found of the invariants and the flows that were read is found of those of the description
+-- The result for the invariants and flows that were read is the result for those of the description.
 of_the_same : (Singles : (List Flow → Type 0) → List Flow → List Flow → Type 0) (invs read : List AnyInv) (asked had : SetOfFlows) (p : List Flow)
     → read ≡ invs → had ≡ asked → Singles (AllHold holds_on read) had.flows p → Singles (AllHold holds_on invs) asked.flows p
 of_the_same Singles invs read asked had p same_invs same_asked found =
