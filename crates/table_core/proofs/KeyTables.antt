@@ -1,4 +1,4 @@
--- Tests over a table of keys in the code are tests over the keys that it stands for.
+-- Tests over a table of keys in the code are tests over the keys of its model.
 use Rattle.std.proofs.Common.{Bool, ◌||◌, ◌≡◌, List, [], ◌∷◌, ℕ, map, String, Global, string_bytes, refl, ap, sym, ◌∙◌}
 use Rattle.std.proofs.lemmas.List.Folds.{list_all-map}
 use Rattle.std.specs.List.{list_all, list_any}

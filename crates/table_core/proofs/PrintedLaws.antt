@@ -1,4 +1,4 @@
--- A table that holds no date, no time and no float is printed as one text.
+-- The printed form of a table without dates, times and floats is unique.
 use Rattle.std.proofs.Common.{◌≡◌, ℕ, Bool, true, false, List, [], ◌∷◌, ◌++◌, codes, refl, ap, sym, ◌∙◌}
 use Rattle.std.proofs.lemmas.Bool.{and_from, and_parts}
 use Rattle.std.proofs.lemmas.List.Folds.{list_all-append}
@@ -9,7 +9,7 @@ use Rattle.toml.specs.Tables.{Definition, key_value, std_table, array_table, Exp
 use Rattle.toml.specs.Text.{IsValueText, IsItemsText, IsMembersText, IsLineText, IsLinesText, IsDocumentText, are_tables, breaks_lines, elements, expressions, header_of, is_section, needs_header, pairs, section, sections}
 use Rattle.table_core.specs.Shallow.{is_plain, items_are_plain, members_are_plain}
 
--- the path of a key, and the key
+-- The path of a key, and the key.
 abbrev Key : Type 0
 Key = List (List ℕ) × List ℕ
 

@@ -1,5 +1,5 @@
--- A table is shallow where each of its values is: what stands at each key that it may have. The keys of a table that `toml` reads
--- ascend, so each of its members is what stands at its key.
+-- A table is shallow if the value of each key that it may have is. The keys of a table that `toml` parses ascend, so each of its members is
+-- the value at its key.
 use Rattle.std.proofs.Common.{◌≡◌, ℕ, suc, max, ◌≤◌, Bool, true, false, ◌&&◌, ◌||◌, List, [], ◌∷◌, map, Some, option_and_then, is_some, Ordering, Less, Equal, Greater, nat_cmp, refl, ap, ◌∙◌, sym, subst, arith}
 use Rattle.std.proofs.lemmas.Bool.{and_from, and_parts, false≢true}
 use Rattle.std.proofs.lemmas.Bool.Decides.{nat_tests}
@@ -16,7 +16,7 @@ use Rattle.table_core.specs.Keys.{Key, Kind, Text, OneOf, Integer, Number, Boole
 use Rattle.table_core.specs.Shallow.{IsShallow, is_plain, items_are_plain, members_are_plain}
 use Rattle.table_core.specs.Tables.{all_keys, boolean_at, elements, elements_of, has_key, has_only, integer_at, keys_in, list_at, number_at, number_of, text_at}
 
--- each member, by its key and its value
+-- Each member, by its key and its value.
 abbrev AllMembers : (List ℕ → Data → Type 0) → Members → Type 0
 AllMembers Is no_members = Unit {0}
 AllMembers Is (member k d ms) = Is k d × AllMembers Is ms
@@ -34,7 +34,7 @@ is_less Less h = refl
 is_less Equal h = absurd (false≢true h)
 is_less Greater h = absurd (false≢true h)
 
--- the first key, its value and the rest of a table whose keys ascend
+-- The first key, its value and the rest of a table whose keys ascend.
 pub record IsAscending (k : List ℕ) (d : Data) (ms : Members) : Type 0 where
   pub first : is_before k ms ≡ true
   pub here : is_sorted d ≡ true
@@ -63,7 +63,7 @@ found_behind l e ms k d less found =
     let greater : slice_cmp nat_cmp k l ≡ Greater = nat_list_cmp_total.antisymm k l ∙ ap ordering_reverse less in
     rw greater found
 
--- what stands at the key of a member is its value
+-- The value at the key of a member is its value.
 each_found : (ms : Members) → members_are_sorted ms ≡ true → AllMembers (λ k d. get_member k ms ≡ Some d) ms
 each_found no_members sorted = tt
 each_found (member l e ms) sorted =
@@ -95,7 +95,7 @@ members_shallow n (member k d ms) ((deep, plain), behind) =
     let (deep_behind, plain_behind) = members_shallow n ms behind in
     (most_of (depth d) (members_depth ms) n deep deep_behind, and_from (is_plain d) (members_are_plain ms) plain plain_behind)
 
--- whatever stands at the key is shallow
+-- The value at the key, if any, is shallow.
 abbrev pub IsShallowAt : ℕ → Members → List ℕ → Type 0
 IsShallowAt n ms key = (d : Data) → get_member key ms ≡ Some d → is_sorted d ≡ true → IsShallow n d
 
@@ -110,7 +110,7 @@ at_key n ms [] k one all = absurd (false≢true one)
 at_key n ms (key ∷ keys) k one (here, behind) =
     at_key_by n ms key k (bytes_eq k key) (list_any (bytes_eq k) keys) refl here (λ other. at_key n ms keys k other behind) one
 
--- a table is shallow if it has no keys but these, and what stands at each of them is
+-- A table is shallow if it has only these keys, and the value of each of them is.
 pub table_shallow : (n : ℕ) (ms : Members) (keys : List (List ℕ)) → members_are_sorted ms ≡ true → has_only keys ms ≡ true
     → AllByRecursion (IsShallowAt n ms) keys → IsShallow (suc n) (table ms)
 unfolding has_only
@@ -133,14 +133,14 @@ items_shallow Is n each (item d ds) (x ∷ xs) sorted (is, zipped) =
     let (deep_behind, plain_behind) = items_shallow Is n each ds xs up_behind zipped in
     (most_of (depth d) (items_depth ds) n deep deep_behind, and_from (is_plain d) (items_are_plain ds) plain plain_behind)
 
--- an array is shallow if each of its elements is
+-- An array is shallow if each of its elements is.
 pub array_shallow : {A : Type 0} (Is : Data → A → Type 0) (n : ℕ) → ((d : Data) (x : A) → is_sorted d ≡ true → Is d x → IsShallow n d)
     → (ds : Items) (xs : List A) → items_are_sorted ds ≡ true → AllZip Is (elements ds) xs → IsShallow (suc n) (array ds)
 array_shallow Is n each ds xs sorted zipped =
     let (deep, plain) = items_shallow Is n each ds xs sorted zipped in
     (omega (arith, deep), plain)
 
--- so is an array of texts
+-- An array of strings is shallow.
 texts_shallow : (ds : Items) → list_all is_text (elements ds) ≡ true → (items_depth ds ≤ 0) × (items_are_plain ds ≡ true)
 texts_shallow no_items all = (omega arith, refl)
 texts_shallow (item (string s) ds) all = let (deep, plain) = texts_shallow ds all in (omega (arith, deep), plain)
@@ -151,7 +151,7 @@ text_array_shallow ds all = let (deep, plain) = texts_shallow ds all in (omega (
 
 -- ---- keys and kinds
 
--- where the key asks for an array, that is one of texts
+-- If the kind of the key is an array, it is one of strings.
 abbrev pub ListsTexts : Members → Key → Type 0
 ListsTexts ms key = key.kind ≡ Array → stands_at Array key.name ms ≡ true → stands_at Texts key.name ms ≡ true
 
@@ -180,7 +180,7 @@ unfolding elements_of
 texts_by (array ds) is = text_array_shallow ds is
 texts_by _ is = cc
 
--- a value of its kind is shallow
+-- A value of its kind is shallow.
 kind_shallow : (kind : Kind) (name : List ℕ) (ms : Members) → stands_at kind name ms ≡ true
     → (kind ≡ Array → stands_at Array name ms ≡ true → stands_at Texts name ms ≡ true) → (d : Data) → get_member name ms ≡ Some d → IsShallow 1 d
 unfolding text_at integer_at number_at boolean_at list_at
@@ -203,7 +203,7 @@ each_suits (key ∷ keys) ms suits (texts, lists) =
     let (here, behind) = and_parts (suits_in ms key) (list_all (suits_in ms) keys) suits in
     (suits_shallow key ms here texts, each_suits keys ms behind lists)
 
--- a table is shallow if it has only these keys, at each a value of its kind, and texts in its arrays
+-- A table is shallow if it has only these keys, the value of each is of its kind, and its arrays contain strings.
 pub keys_shallow : (keys : List Key) (ms : Members) → members_are_sorted ms ≡ true → has_only_keys keys ms ≡ true → all_suit keys ms ≡ true
     → AllByRecursion (ListsTexts ms) keys → IsShallow 2 (table ms)
 unfolding has_only_keys all_suit

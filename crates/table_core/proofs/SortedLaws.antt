@@ -1,5 +1,5 @@
--- The keys of each table that `toml` reads ascend. Its reader puts each key at its place in the order, so this is so of the nodes that
--- it keeps, after each expression of a document.
+-- The keys of each table that `toml` parses ascend. Its parser inserts each key in order, so the keys of its nodes ascend after each
+-- expression of a document.
 use Rattle.std.proofs.Common.{◌≡◌, ℕ, zero, suc, Bool, true, false, ◌&&◌, List, [], ◌∷◌, Option, Some, None, Ordering, Less, Equal, Greater, nat_cmp, option_map, option_and_then, refl, ap, ◌∙◌, subst, ◌⊎◌, inl, inr}
 use Rattle.std.proofs.lemmas.Bool.{and_from, and_parts}
 use Rattle.std.proofs.lemmas.Cmp.{nat_list_cmp_total}
@@ -16,7 +16,7 @@ use Rattle.toml_parser.specs.Strings.{Key, quoted, recursion_limit, starts_strin
 use Rattle.toml_parser.specs.declared.scalar.Scalar.{Scalar}
 use Rattle.toml_parser.specs.declared.scalar.Scalar.TheVariants.{Boolean}
 
--- the steps of a reading that succeeded
+-- The steps of a parse that succeeded.
 taken : {A B : Type 0} (f : A → Option B) (o : Option A) (y : B) → option_and_then f o ≡ Some y → (x : A) × (o ≡ Some x) × (f x ≡ Some y)
 taken f None y is = cc
 taken f (Some x) y is = (x, refl, is)
@@ -29,11 +29,11 @@ picked : {A : Type 0} (b : Bool) (here there : Option A) (y : A) → (if b then 
 picked true here there y is = inl is
 picked false here there y is = inr is
 
--- what `read_map` does with what was read
+-- The effect of `read_map` on a parse result.
 abbrev under : {A B : Type 0} → (A → B) → A × List ℕ → B × List ℕ
 under f p = (f p.0, p.1)
 
--- the keys of the nodes ascend, and so do those of each table in them
+-- The keys of the nodes ascend, and so do those of each table in them.
 abbrev AreSorted : Nodes → Type 0
 AreSorted ns = members_are_sorted (close ns) ≡ true
 
@@ -194,7 +194,7 @@ dots_keep [] edit keeps ns m sorted is = keeps ns m sorted is
 dots_keep (k ∷ path) edit keeps ns m sorted is =
     by_dot_sorted k (along_dots path edit) (dots_keep path edit keeps) ns m (get_node k ns) sorted refl is
 
--- a definition whose value is sorted
+-- A definition whose value is sorted.
 abbrev IsSortedIn : Definition → Type 0
 IsSortedIn (key_value d) = is_sorted d ≡ true
 IsSortedIn std_table = Unit {0}
@@ -235,7 +235,7 @@ scalar_sorted : (s : Scalar) → is_sorted (scalar_data s) ≡ true
 scalar_sorted (Boolean b) = refl
 scalar_sorted s = refl
 
--- what is read is sorted
+-- The parse result is sorted.
 abbrev HasSorted : Data × List ℕ → Type 0
 HasSorted r = is_sorted r.0 ≡ true
 
@@ -248,7 +248,7 @@ atom_sorted text r is =
           let (s, _, same) = mapped (under scalar_data) (unquoted text) r other in subst HasSorted same (scalar_sorted s.0)
     ]
 
--- a reader gives sorted values
+-- A parser returns sorted values.
 abbrev GivesSorted : (List ℕ → Option (Data × List ℕ)) → Type 0
 GivesSorted reader = (text : List ℕ) (r : Data × List ℕ) → reader text ≡ Some r → HasSorted r
 
@@ -329,7 +329,7 @@ define_sorted doc key array_table next sorted right is =
     let (root, edited, same) = mapped (λ (root : Nodes). (root, key.0 ++ key.1 ∷ [])) (along_header key.0 edit doc.0) next is in
     subst (λ (q : Document). AreSorted q.0) same (header_keeps key.0 edit (key_keeps key.1 array_table tt) doc.0 root sorted edited)
 
--- the definition of an expression
+-- The definition of an expression.
 abbrev HasSortedIn : Expression × List ℕ → Type 0
 HasSortedIn e = IsSortedIn e.0.1
 
@@ -381,7 +381,7 @@ lines_sorted (suc n) doc text last sorted is =
           lines_sorted n after e.1 last (define_sorted doc e.0.0 e.0.1 after sorted (line_sorted start e one) defined) others
     ]
 
--- the table that a text is
+-- The table of a parsed text.
 pub parse_document-sorted : (text : List ℕ) (ms : Members) → parse_document text ≡ Some ms → members_are_sorted ms ≡ true
 unfolding parse_document
 parse_document-sorted text ms is =

@@ -1,4 +1,4 @@
--- Laws of tables, as `toml` keeps them.
+-- Lemmas on tables, as `toml` stores them.
 use Rattle.std.proofs.Common.{◌≡◌, ℕ, Bool, ◌&&◌, List, [], ◌∷◌, map, String, Global, string_bytes, refl, ap}
 use Rattle.std.specs.List.{list_all}
 use Rattle.std.specs.Map.{keys_of}
@@ -10,7 +10,7 @@ pub elements_view : (vs : List Value) → elements (items_view vs) ≡ map view 
 elements_view [] = refl
 elements_view (v ∷ vs) = ap (λ ds. view v ∷ ds) (elements_view vs)
 
--- a look at each key of the map
+-- A test of each key of the map.
 pub all_keys_view : (test : List ℕ → Bool) (es : List (String Global × Value))
     → list_all (λ key. test (string_bytes key)) (keys_of es) ≡ all_keys test (members_view es)
 all_keys_view test [] = refl

@@ -1,4 +1,4 @@
--- A word among the words that the code keeps.
+-- A word among the words of the code.
 use Rattle.std.proofs.Common.{Bor, ◌||◌, ◌≡◌, ℕ, List, [], ◌∷◌, map, refl, ap}
 use Rattle.std.specs.List.{list_any}
 use Rattle.std.specs.Str.{bytes_eq}

@@ -1,8 +1,8 @@
--- How deep a value nests, and which types stand in it: a value that `toml` can print, whatever its texts and numbers are.
+-- The nesting depth of a value, and the types in it: a value that `toml` can print, for all strings and numbers.
 use Rattle.std.specs.Prelude.{ℕ, ◌≤◌, Bool, true, false, ◌&&◌, IsTrue}
 use Rattle.toml.specs.Data.{Data, float, datetime, array, table, Items, no_items, item, Members, no_members, member, depth}
 
--- it holds no date, no time and no float
+-- The value contains no date, no time and no float.
 abbrev mutual
   pub is_plain : Data → Bool
   is_plain (float x) = false
@@ -19,6 +19,6 @@ abbrev mutual
   members_are_plain no_members = true
   members_are_plain (member k d ms) = is_plain d && members_are_plain ms
 
--- it has at most so many arrays and tables one in another, and is plain
+-- The value nests at most `levels` arrays and tables, and is plain.
 abbrev pub IsShallow : ℕ → Data → Type 0
 IsShallow levels d = (depth d ≤ levels) × IsTrue (is_plain d)

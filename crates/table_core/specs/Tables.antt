@@ -1,61 +1,61 @@
--- What a TOML table says: its keys, and what stands at a key, by its type. Tables, arrays and values are those that the crate `toml` reads
--- (its module Data).
+-- The content of a TOML table: its keys, and the value of a key, by its type. Tables, arrays and values are those of the crate `toml` (its
+-- module Data).
 use Rattle.std.specs.Prelude.{ℕ, ℤ, pos, negsuc, Bool, List, [], ◌∷◌, Option, Some, None, option_and_then, option_map, is_some, nat_le, if◌then◌else◌}
 use Rattle.std.specs.List.{list_all, list_any}
 use Rattle.std.specs.Str.{bytes_eq}
 use Rattle.toml.specs.Data.{Data, as_str, as_integer, as_bool, as_array, Items, no_items, item, Members, no_members, member, get_member}
 
--- the elements of an array
+-- The elements of an array.
 abbrev pub elements : Items → List Data
 elements no_items = []
 elements (item d ds) = d ∷ elements ds
 
--- the keys of a table
+-- The keys of a table.
 abbrev pub keys_in : Members → List (List ℕ)
 keys_in no_members = []
 keys_in (member k d ms) = k ∷ keys_in ms
 
--- each key of the table passes a test
+-- Each key of the table satisfies a test.
 abbrev pub all_keys : (List ℕ → Bool) → Members → Bool
 all_keys test table = list_all test (keys_in table)
 
--- the table has no key but these
+-- The table has only these keys.
 unfoldable pub has_only : List (List ℕ) → Members → Bool
 has_only keys table = all_keys (λ k. list_any (bytes_eq k) keys) table
 
--- the table has the key
+-- The table has the key.
 unfoldable pub has_key : List ℕ → Members → Bool
 has_key key table = is_some (get_member key table)
 
--- the text at a key, if a text stands there
+-- The string at a key, if its value is a string.
 unfoldable pub text_at : List ℕ → Members → Option (List ℕ)
 text_at key table = option_and_then as_str (get_member key table)
 
--- the whole number at a key
+-- The integer at a key.
 unfoldable pub integer_at : List ℕ → Members → Option ℤ
 integer_at key table = option_and_then as_integer (get_member key table)
 
--- true or false at a key
+-- The boolean at a key.
 unfoldable pub boolean_at : List ℕ → Members → Option Bool
 boolean_at key table = option_and_then as_bool (get_member key table)
 
--- a whole number, if it is from 0 to `most`
+-- An integer, if it is from 0 to `most`.
 abbrev pub number_of : ℕ → ℤ → Option ℕ
 number_of most (pos n) = if nat_le n most then Some n else None
 number_of most (negsuc n) = None
 
--- the whole number from 0 to `most` at a key
+-- The integer from 0 to `most` at a key.
 unfoldable pub number_at : ℕ → List ℕ → Members → Option ℕ
 number_at most key table = option_and_then (number_of most) (integer_at key table)
 
--- the elements, if it is an array
+-- The elements of a value, if it is an array.
 unfoldable pub elements_of : Data → Option (List Data)
 elements_of d = option_map elements (as_array d)
 
--- the elements of the array at a key
+-- The elements of the array at a key.
 unfoldable pub list_at : List ℕ → Members → Option (List Data)
 list_at key table = option_and_then elements_of (get_member key table)
 
--- the elements of the array at a key, or none where the key is absent. A key that is there still needs its type
+-- The elements of the array at a key; the empty list if the key is absent. A key that is present still needs an array.
 unfoldable pub list_or_empty : List ℕ → Members → Option (List Data)
 list_or_empty key table = if has_key key table then list_at key table else Some []

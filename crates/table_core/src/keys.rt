@@ -1,4 +1,4 @@
-//! The keys of a table: which it has, and tables of keys that say which it may have.
+//! The keys of a table, and tables of keys that specify the keys that it may have.
 ghost use Rattle.std.specs.Prelude.{◌≡◌, ◌&&◌, not, map};
 ghost use Rattle.std.specs.List.{list_all, list_any};
 ghost use Rattle.std.specs.Str.{bytes_eq};
@@ -11,12 +11,12 @@ use crate::kinds::{Kind, stands_at};
 use crate::values::value_at;
 use toml::Table;
 
-/// A key of a table, and what may stand at it.
+/// A key of a table, and the kind of its value.
 #[derive(Clone, Copy)]
 pub enum Key {
-    /// It has to be there.
+    /// The key is required.
     Needed(&'static str, Kind),
-    /// It may be absent.
+    /// The key is optional.
     Optional(&'static str, Kind),
 }
 
@@ -29,7 +29,7 @@ impl Key {
         }
     }
 
-    /// Whether the table lacks the key though it has to be there.
+    /// Whether the key is required and the table lacks it.
     fn is_missing(&self, table: &Table) -> bool
         ensures { result ≡ ((key_view self.now).needed && not (has_key (key_view self.now).name (table_view table.now))) }
     {
@@ -39,7 +39,7 @@ impl Key {
         }
     }
 
-    /// Whether what stands at the key, if anything does, is of its kind.
+    /// Whether the value of the key, if there is one, is of its kind.
     fn suits(&self, table: &Table) -> bool
         ensures { result ≡ suits_in (table_view table.now) (key_view self.now) }
     {
@@ -64,7 +64,7 @@ fn is_key_among(name: &str, keys: &[Key]) -> bool
     keys.iter().any(|key| name == key.name())
 }
 
-/// Whether the table lacks one of `keys` that has to be there.
+/// Whether the table lacks one of `keys` that is required.
 pub fn lacks_key(table: &Table, keys: &[Key]) -> bool
     ensures { result ≡ lacks_key (map key_view keys.now) (table_view table.now) }
 {
@@ -77,7 +77,7 @@ fn is_one_missing(table: &Table, keys: &[Key]) -> bool
     keys.iter().any(|key| key.is_missing(table))
 }
 
-/// Whether at each of `keys` that the table has stands a value of its kind.
+/// Whether the value of each of `keys` that is present is of its kind.
 pub fn all_suit(table: &Table, keys: &[Key]) -> bool
     ensures { result ≡ all_suit (map key_view keys.now) (table_view table.now) }
 {

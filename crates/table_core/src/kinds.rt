@@ -1,4 +1,4 @@
-//! What may stand at a key of a table, by its kind.
+//! The kinds of values in a table.
 ghost use Rattle.std.specs.Prelude.{◌≡◌, false, map};
 ghost use Rattle.std.specs.List.{list_all, list_any};
 ghost use Rattle.std.specs.Str.{bytes_eq};
@@ -12,23 +12,23 @@ ghost use Rattle.toml.specs.View.{view, table_view};
 use crate::values::{boolean_at, integer_at, list_at, number_at, text_at};
 use toml::{Table, Value};
 
-/// What has to stand at a key.
+/// The kind of the value of a key.
 #[derive(Clone, Copy)]
 pub enum Kind {
     Text,
-    /// A text that is one of these words.
+    /// A string that is one of these words.
     OneOf(&'static [&'static str]),
-    /// A whole number.
+    /// An integer.
     Integer,
-    /// A whole number from 0 to a greatest.
+    /// An integer from 0 to a maximum.
     Number(u16),
     Boolean,
     List,
-    /// A list of texts.
+    /// A list of strings.
     Texts,
 }
 
-/// Whether a value of the kind stands at the key.
+/// Whether the value of the key is of the kind.
 pub(crate) fn stands_at(table: &Table, key: &str, kind: Kind) -> bool
     ensures { result ≡ stands_at (kind_view kind) key.now (table_view table.now) }
 {
@@ -74,7 +74,7 @@ fn has_texts(table: &Table, key: &str) -> bool
     }
 }
 
-/// Whether each of the values is a text.
+/// Whether each of the values is a string.
 pub fn are_texts(values: &[Value]) -> bool
     ensures { result ≡ list_all is_text (map view values.now) }
 {

@@ -1,6 +1,6 @@
-//! What a TOML table holds: which keys it has, and the text, the number, the truth value or the list
-//! at a key. Readers of tables stand on these calls; each equals its definition. A table of keys says
-//! which keys a TOML table may have and what may stand at each.
+//! Typed access to TOML tables: the keys of a table, and the string, integer, boolean or list at a
+//! key. Parsers of tables use these calls; each is equal to its definition. A table of keys
+//! specifies the keys that a TOML table may have and the kind of each value.
 #![tactic(auto)]
 
 mod keys;

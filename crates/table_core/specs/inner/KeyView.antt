@@ -1,4 +1,4 @@
--- What the code's types of keys stand for.
+-- The models of the code's types of keys.
 use Rattle.std.specs.Prelude.{map}
 use Rattle.table_core.specs.Keys as meant
 use Rattle.table_core.specs.declared.keys.Key.{Key}
