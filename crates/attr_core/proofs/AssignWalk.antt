@@ -1,4 +1,4 @@
--- How far a walk through the assigns has come: what is left of them ends as all of them do.
+-- The progress of an iteration over the assigns: the result of the remaining ones is that of all.
 use Rattle.std.proofs.Common.{◌≡◌, ℕ, suc, ◌+◌, ◌<◌, ◌≤◌, List, [], ◌∷◌, ◌++◌, length, get_or, take, drop, Option, Some, None, option_map, is_some, sym, ap, ◌∙◌, refl, arith}
 use Rattle.std.proofs.Math.ListN.{drop_of_length-le}
 use Rattle.std.proofs.Math.Seq.{drop-cons, take-suc}
@@ -8,12 +8,12 @@ use Rattle.attr_core.specs.Assigns.{Given}
 use Rattle.attr_core.specs.Forms.{bad_from}
 use Rattle.attr_core.specs.laws.FormLaws.{length-set_said, set_all, set_said}
 
--- the assigns before this place said attributes, and these are the attributes of the hosts after them
+-- The assigns before this index specified attributes, and these are the attributes of the hosts after them.
 pub record IsWalked {A : Type 0} (says : List Given → Given → Option A) (start : List A) (all : List Given) (place : ℕ) (xs : List A) : Type 0 where
   pub bad : bad_from says (take place all) (drop place all) ≡ bad_from says [] all
   pub set : set_all says (take place all) xs (drop place all) ≡ set_all says [] start all
 
--- an assign, and what is left with it and after it
+-- An assign, and the remaining assigns with it and after it.
 from_place : (all : List Given) (place : ℕ) (a : Given) → place < length all → a ≡ get_or all place a → drop place all ≡ a ∷ drop (place + 1) all
 from_place all place a within is =
     let next : suc place ≡ place + 1 = omega arith in
@@ -41,12 +41,12 @@ bad_off (Some x) xs host n later is = cc
 pub length_on : {A : Type 0} (o : Option A) (xs ys : List A) (host : ℕ) → option_map (slice_set xs host) o ≡ Some ys → length ys ≡ length xs
 length_on o xs ys host is = ap length (set_on o xs ys host is) ∙ length-set_said xs host o
 
--- no assign was taken in
+-- No assign was processed.
 pub walked_none : {A : Type 0} (says : List Given → Given → Option A) (start : List A) (all : List Given) (xs : List A) → xs ≡ start
     → IsWalked says start all 0 xs
 walked_none says start all xs is = record { bad = refl; set = ap (λ ys. set_all says [] ys all) is }
 
--- the assign at the place says an attribute
+-- The assign at the index specifies an attribute.
 pub walked_on : {A : Type 0} (says : List Given → Given → Option A) (start : List A) (all : List Given) (place : ℕ) (xs ys : List A) (a : Given)
     → IsWalked says start all place xs → place < length all → a ≡ get_or all place a
     → option_map (slice_set xs a.host) (says (take place all) a) ≡ Some ys → IsWalked says start all (place + 1) ys
@@ -62,7 +62,7 @@ walked_on says start all place xs ys a walked within is said =
           ∙ ap (set_all says (take place all) xs) (sym rest) ∙ walked.set;
     }
 
--- it says none
+-- It specifies none.
 pub walked_to : {A : Type 0} (says : List Given → Given → Option A) (start : List A) (all : List Given) (place : ℕ) (xs : List A) (a : Given)
     → IsWalked says start all place xs → place < length all → a ≡ get_or all place a
     → option_map (slice_set xs a.host) (says (take place all) a) ≡ None → bad_from says [] all ≡ Some place
@@ -72,7 +72,7 @@ walked_to says start all place xs a walked within is said =
     ∙ bad_off (says (take place all) a) xs a.host (length (take place all)) (bad_from says (take place all ++ a ∷ []) (drop (place + 1) all)) said
     ∙ ap Some here
 
--- there is no assign left
+-- No assign remains.
 pub walked_all : {A : Type 0} (says : List Given → Given → Option A) (start : List A) (all : List Given) (place : ℕ) (xs : List A)
     → IsWalked says start all place xs → length all ≤ place → (bad_from says [] all ≡ None) × (xs ≡ set_all says [] start all)
 walked_all says start all place xs walked over =

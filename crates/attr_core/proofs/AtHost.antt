@@ -8,19 +8,19 @@ map_again : {A : Type 0} (xs : List A) (i : ℕ) (x : A) (o : Option A) → opti
 map_again xs i x None = refl
 map_again xs i x (Some y) = ap Some (set-set xs i x y)
 
--- it begins with x at the host
+-- It begins with x at the host.
 pub begun_at : {A D : Type 0} (step : A → D → Option A) (xs : List A) (i : ℕ) (x d : A) (es : List D) → i < length xs
     → option_map (slice_set (slice_set xs i x) i) (grow step (slice_index_or (slice_set xs i x) i d) es) ≡ option_map (slice_set xs i) (grow step x es)
 begun_at step xs i x d es within =
     ap (λ y. option_map (slice_set (slice_set xs i x) i) (grow step y es)) (get_or-set_same xs i x d within) ∙ map_again xs i x (grow step x es)
 
--- one step more
+-- One more step.
 pub grown_at : {A D : Type 0} (step : A → D → Option A) (xs : List A) (i : ℕ) (x d : A) (e : D) (es : List D) → i < length xs → step (slice_index_or xs i d) e ≡ Some x
     → option_map (slice_set (slice_set xs i x) i) (grow step (slice_index_or (slice_set xs i x) i d) es) ≡ option_map (slice_set xs i) (grow step (slice_index_or xs i d) (e ∷ es))
 grown_at step xs i x d e es within is =
     begun_at step xs i x d es within ∙ ap (λ o. option_map (slice_set xs i) (option_and_then (λ y. grow step y es) o)) (sym is)
 
--- the elements from one on are that one and those after it
+-- The elements from one on are that one and those after it.
 pub rest_from : {V D : Type 0} (f : V → D) (vs : List V) (j : ℕ) (v : V) → j < length vs → v ≡ get_or vs j v → f v ∷ map f (drop (j + 1) vs) ≡ map f (drop j vs)
 rest_from f vs j v within is =
     let next : j + 1 ≡ suc j = omega arith in

@@ -1,4 +1,4 @@
--- Where the assigns that say nothing are the bad ones, the first that says nothing is the first bad one.
+-- If the bad assigns are those that specify nothing, the first that specifies nothing is the first bad one.
 use Rattle.std.proofs.Common.{◌≡◌, ◌↔◌, ◌⊎◌, inl, inr, ℕ, zero, suc, Bool, true, false, List, [], ◌∷◌, ◌++◌, append_assoc, append-nil, length, take, slice_get, Option, Some, None, is_some, refl, sym, ap, ◌∙◌, subst, arith}
 use Rattle.std.proofs.Math.Seq.{take-append_seam}
 use Rattle.std.proofs.lemmas.List.{take-append-le}
@@ -8,7 +8,7 @@ use Rattle.attr_core.specs.Assigns.{Given}
 use Rattle.attr_core.specs.inner.FirstBad.{IsFirstBad, NoneIsBad, TellsFirstBad}
 use Rattle.attr_core.specs.Forms.{bad_from}
 
--- one more that says something
+-- One more that specifies something.
 passed_by : (b : Bool) (n : ℕ) (now later : Option ℕ) → (if b then now else Some n) ≡ None → (now ≡ None → later ≡ None)
     → (if b then later else Some n) ≡ None
 passed_by true n now later is more = more is
@@ -27,7 +27,7 @@ bad_from_more says earlier (b ∷ rest) a none said =
     passed_by (is_some (says earlier b)) (length earlier) (bad_from says (earlier ++ b ∷ []) rest) (bad_from says (earlier ++ b ∷ []) (rest ++ a ∷ [])) none
     (λ later. bad_from_more says (earlier ++ b ∷ []) rest a later (ap (λ all. is_some (says all a)) (append_assoc earlier (b ∷ []) rest) ∙ said))
 
--- one more that is not bad
+-- One more that is not bad.
 got_back : {A : Type 0} (xs : List A) (x y : A) (k : ℕ) → slice_get (xs ++ x ∷ []) k ≡ Some y
     → (slice_get xs k ≡ Some y) ⊎ ((k ≡ length xs) × (x ≡ y))
 got_back [] x y zero there = inr (refl, cc)
@@ -52,7 +52,7 @@ none_more : (IsBad : List Given → Given → Type 0) (earlier : List Given) (a 
     → NoneIsBad IsBad (earlier ++ a ∷ [])
 none_more IsBad earlier a none good k b there bad = kept_good IsBad earlier a b k none good (got_back earlier a b k there) bad
 
--- the one that is looked at
+-- The current one.
 first_here : (IsBad : List Given → Given → Type 0) (earlier : List Given) (a : Given) (rest : List Given) → NoneIsBad IsBad earlier
     → IsBad earlier a
     → IsFirstBad IsBad (earlier ++ a ∷ rest) (length earlier)
@@ -64,7 +64,7 @@ first_here IsBad earlier a rest none bad =
       before = subst (λ all. NoneIsBad IsBad all) (sym before) none;
     }
 
--- the bad assigns are those that say nothing, where none before them does
+-- The bad assigns are those that specify nothing, if none before them does.
 abbrev pub AreSilent : {A : Type 0} → (List Given → Given → Option A) → (List Given → Given → Type 0) → Type 0
 AreSilent says IsBad = (earlier : List Given) (a : Given) → bad_from says [] earlier ≡ None → (says earlier a ≡ None) ↔ IsBad earlier a
 

@@ -1,4 +1,4 @@
--- Each host of an invariant of labels has those that its assign lists.
+-- Each host of an invariant of labels has the labels that its assign lists.
 use Rattle.std.proofs.Common.{◌≡◌, ◌<◌, ◌==◌, ◌&&◌, ℕ, Bool, true, false, nat_lt, List, [], ◌∷◌, ◌++◌, append_assoc, length, Option, Some, None, is_some, refl, sym, ◌∙◌, subst}
 use Rattle.std.proofs.lemmas.Bool.{false≢true}
 use Rattle.std.proofs.lemmas.List.FromFn.{length-map-range_with_len}
@@ -25,7 +25,7 @@ use Rattle.attr_core.proofs.TemplatesLaws.{bad_is, invariant_is}
 use Rattle.attr_core.specs.declared.template.Template.{Template}
 use Rattle.attr_core.specs.declared.template.Template.TheVariants.{Tainting}
 
--- more assigns add labels behind
+-- More assigns append labels.
 with_extends : (b : Bool) (labels : List (List ℕ)) (l : List ℕ) → Extends (if b then labels else labels ++ l ∷ []) labels
 with_extends true labels l = extends_self labels
 with_extends false labels l = (l ∷ [], refl)
@@ -41,7 +41,7 @@ labels_extend earlier more =
     subst (λ (ls : List (List ℕ)). Extends ls (labels_of earlier)) (sym (told_all earlier more))
     (different_extends (labels_of earlier) (flat_map (λ (a : Given). told a.table) more))
 
--- a set of labels that have their places has them among more labels too
+-- A set of labels with their indices contains them among more labels too.
 has_listed : (all labels ls : List (List ℕ)) → Extends all labels
     → ((l : List ℕ) → is_listed ls l ≡ true → (k : ℕ) × (place_of labels l ≡ Some k)) → HasListed all ls (bits_of labels ls)
 has_listed all labels ls extends each number = (
@@ -58,7 +58,7 @@ has_listed all labels ls extends each number = (
 none_listed : (all : List (List ℕ)) → HasListed all [] 0
 none_listed all = bits_mark all [] (λ l listed. absurd (false≢true listed))
 
--- what one assign says
+-- The attribute of one assign.
 sets_have : (all before labels : List (List ℕ)) (taints untaints : Option (List (List ℕ))) (x : Labels) → Extends all labels
     → labels ≡ different before (unwrap_or taints [] ++ unwrap_or untaints []) → said_by_lists labels taints untaints ≡ Some x
     → HasListed all (unwrap_or taints []) x.taints × HasListed all (unwrap_or untaints []) x.untaints
@@ -82,7 +82,7 @@ assign_has all earlier a x extends said =
     (told_more earlier a) (sym (said_lists labels a.table) ∙ said) in
     record { put_on = put_on; taken_off = taken_off }
 
--- what all assigns say of a host: nothing where none of them names it
+-- The result of all assigns for a host: nothing if none is for it.
 abbrev IsSaid : List (List ℕ) → Option Given → Option Labels → Type 0
 IsSaid all None None = Unit {0}
 IsSaid all None (Some x) = ⊥

@@ -1,5 +1,5 @@
--- What an assign says is what is listed and its host may have, template by template; so each host of an invariant that is read has an
--- attribute that it may have.
+-- The attribute of an assign is the listed attribute that its host may have, template by template. So each host of a parsed invariant has
+-- an attribute that it may have.
 use Rattle.std.proofs.Common.{◌≡◌, ◌≢◌, ◌≤◌, ◌<◌, ◌+◌, ℕ, zero, suc, Bool, true, false, not, ◌==◌, nat_eq, nat_le, nat_lt, List, [], ◌∷◌, ◌++◌, length, length-set, replicate, get_or, set, get_or-set_other, Option, Some, None, option_map, option_and_then, inl, inr, refl, sym, ap, ◌∙◌, subst, arith}
 use Rattle.std.proofs.lemmas.Bool.{and_from, and_parts, cases_eq, eq-eqb, eqb-false, eqb-true, false≢true, lt-ltb, ltb-true, ne_eqb, not_from_false, not_from_true, or_cases, or_left, or_right}
 use Rattle.std.proofs.lemmas.Bool.Decides.{nat_tests}
@@ -52,7 +52,7 @@ use Rattle.attr_core.proofs.TemplatesLaws.{invariant_is}
 use Rattle.attr_core.specs.declared.template.Template.{Template}
 use Rattle.attr_core.specs.declared.template.Template.TheVariants.{Blp, Tainting, Sink, Gateway, Subnets, Partners, Domains, Dependability, NonInterference, NoReach}
 
--- domains: a number at a key is small, and a place is one where its path is a path
+-- Domains: a number at a key is small, and a position is valid if its path is.
 small_by : (most n : ℕ) (b : Bool) → nat_le n most ≡ b → unwrap_or (if b then Some n else None) 0 ≤ most
 small_by most n true is = grind (arith, nat_tests)
 small_by most n false is = omega arith
@@ -96,7 +96,7 @@ unfolding domains_attribute
 domains_may_have hosts earlier a x =
     place_in (text_at (codes "path") a.table) (unwrap_or (number_at 16 (codes "trust") a.table) 0) x (number_small 16 (codes "trust") a.table)
 
--- listed hosts: each is another one than the host
+-- Listed hosts: each differs from the host.
 abbrev AllOther : ℕ → ℕ → List ℕ → Type 0
 AllOther n host ks = (j : ℕ) → list_any (λ k. nat_eq k j) ks ≡ true → (j < n) × (host ≢ j)
 
@@ -173,7 +173,7 @@ all_peers hosts host (d ∷ ds) ks = (
       ∙ ap Some same,
 )
 
--- no-reach
+-- No-reach.
 among_others : (n host : ℕ) (ks : List ℕ) → AllOther n host ks ↔ AreOthers n host (fin.from_list ks)
 among_others n host ks = (
   λ all j denied.
@@ -200,7 +200,7 @@ denied_may_have hosts host ds x = (
       ap (option_map fin.from_list) ((all_peers hosts host ds ks).1 (known, others)) ∙ ap Some same,
 )
 
--- what a first step gives is what another gives, as far as hosts may have it
+-- The result of a first step is that of another, as far as hosts may have it.
 then_may_have : {D A : Type 0} (o : Option D) (read listed : D → Option A) (May : A → Type 0) (x : A)
     → ((d : D) → (read d ≡ Some x) ↔ ((listed d ≡ Some x) × May x))
     → (option_and_then read o ≡ Some x) ↔ ((option_and_then listed o ≡ Some x) × May x)
@@ -213,7 +213,7 @@ noreach_may_have hosts earlier a x =
     then_may_have (list_at (codes "deny") a.table) (all_denied hosts a.host) (λ ds. option_map fin.from_list (each (known_host hosts) ds))
     (AreOthers (length hosts) a.host) x (λ ds. denied_may_have hosts a.host ds x)
 
--- partners: a master marks the hosts that are listed, and no others
+-- Partners: a master marks exactly the listed hosts.
 abbrev marked : List Bool → List ℕ → List Bool
 marked marks ks = fold (λ (ms : List Bool) (k : ℕ). set ms k true) marks ks
 
@@ -334,7 +334,7 @@ partners_may_have hosts earlier a x =
     then_may_have (text_at (codes "kind") a.table) (partner_of hosts a.host from) (partner_listed hosts from)
     (TakesFromOthers (length hosts) a.host) x (λ word. partner_may_have hosts a.host from word x)
 
--- a declared template: the number of a word is that of a kind
+-- A declared template: the number of a word is that of a kind.
 pub kinds_may_have : (d : Declared) → d.table.kinds ≡ length d.words
     → SaysWhatHostsMayHave (table_form d) (λ hosts earlier a. option_and_then (kind_numbered d.words) (text_at (codes "kind") a.table))
 kinds_may_have d sized hosts earlier a x = (
@@ -346,7 +346,7 @@ kinds_may_have d sized hosts earlier a x = (
   λ both. both.0,
 )
 
--- what an assign says is an attribute that its host may have
+-- The attribute of an assign is one that its host may have.
 pub read_may_have : (t : Template) (hosts : List Host) (earlier : List Given) (a : Given) (x : (form t).template.Attribute)
     → (form t).reads hosts earlier a ≡ Some x → (form t).template.MayHave (length hosts) a.host x
 read_may_have Blp hosts earlier a x is = tt
@@ -372,7 +372,7 @@ default_may_have Dependability = dependability_default
 default_may_have NonInterference = non_interference_default
 default_may_have NoReach = no_reach_default
 
--- so has each host after all assigns
+-- The same for each host after all assigns.
 or_some : {A : Type 0} (o p : Option A) (x : A) → option_or o p ≡ Some x → (o ≡ Some x) ⊎ (p ≡ Some x)
 or_some None p x is = inr is
 or_some (Some y) p x is = inl is
@@ -420,7 +420,7 @@ made_may_have : (t : Template) (xs : List (form t).template.Attribute) → AllMa
 made_may_have Blp xs all = all
 made_may_have t xs all = all
 
--- each host of an invariant that is read has an attribute that it may have
+-- Each host of a parsed invariant has an attribute that it may have.
 pub hosts_may_have : (hosts : List Host) (t : Template) (assigns : List Given) → HostsMayHave (invariant_in hosts t assigns)
 hosts_may_have hosts t assigns =
     subst HostsMayHave (sym (invariant_is hosts t assigns))

@@ -1,4 +1,4 @@
--- What the assigns of a declared template come to, assign by assign.
+-- The result of the assigns of a declared template, assign by assign.
 use Rattle.std.proofs.Common.{◌≡◌, ℕ, ◌<◌, ◌+◌, Bool, true, false, List, [], ◌∷◌, ◌++◌, length, map, replicate, Option, Some, None, is_some, refl, sym, ap, ◌∙◌, arith}
 use Rattle.std.specs.List.{position_from}
 use Rattle.std.specs.Prelude.{if◌then◌else◌, IfSome}
@@ -19,7 +19,7 @@ says_kind d hosts earlier a = refl
 says_is : (d : Declared) (hosts : List Host) → says (table_form d) hosts ≡ (λ earlier a. kind_said d.words a.table)
 says_is d hosts = λ i earlier a. says_kind d hosts earlier a i
 
--- the first bad assign is the first that says no kind
+-- The first bad assign is the first that specifies no kind.
 pub bad_kinds : (d : Declared) (hosts : List Host) (assigns : List Given)
     → bad_assign (table_form d) hosts assigns ≡ first_failing (λ a. is_some (kind_said d.words a.table)) 0 assigns
 bad_kinds d hosts assigns =
@@ -31,7 +31,7 @@ after_all : (words : List (List ℕ)) (earlier : List Given) (xs : List ℕ) (re
 after_all words earlier xs [] = refl
 after_all words earlier xs (a ∷ rest) = after_all words (earlier ++ a ∷ []) (set_said xs a.host (kind_said words a.table)) rest
 
--- the invariant of the kinds after all assigns
+-- The invariant of the kinds after all assigns.
 pub made_of_kinds : (d : Declared) (hosts : List Host) (assigns : List Given)
     → any.Table (record { table = d.table; hosts = kinds_after d.words (replicate (length hosts) d.table.default) assigns })
     ≡ invariant_by (table_form d) hosts assigns
@@ -44,7 +44,7 @@ made_of_kinds d hosts assigns =
     ∙ ap (λ (f : List Given → Given → Option ℕ). assigned f (λ host. d.table.default) (length hosts) assigns) (sym (says_is d hosts)) in
     λ i. any.Table (record { table = d.table; hosts = kinds i })
 
--- a place that is found is one of the list
+-- An index that is found is an index of the list.
 found_by : (b : Bool) (i n k : ℕ) (later : Option ℕ) → (later ≡ Some k → k < i + 1 + n) → (if b then Some i else later) ≡ Some k → k < i + (n + 1)
 found_by true i n k later behind is = let same : i ≡ k = cc in omega (arith, same)
 found_by false i n k later behind is = omega (arith, behind is)

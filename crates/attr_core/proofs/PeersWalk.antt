@@ -1,4 +1,4 @@
--- A walk over hosts that are listed, one by one, and the same of the whole list.
+-- An iteration over listed hosts, one by one, and the same over the whole list.
 use Rattle.std.proofs.Common.{◌≡◌, ℕ, List, [], ◌∷◌, ◌++◌, append_assoc, append-nil, Option, option_map, sym, ap, ◌∙◌}
 use Rattle.std.proofs.lemmas.Cmp.{nat_cmp_total}
 use Rattle.std.specs.FinSet as set
@@ -14,7 +14,7 @@ use Rattle.table_core.proofs.ListingLaws.{grow_each}
 use Rattle.attr_core.specs.NoReach.{all_denied}
 use Rattle.attr_core.specs.Peers.{peer}
 
--- one more host that is listed
+-- One more listed host.
 abbrev pub with_peer : {S : Type 0} → (S → ℕ → S) → List Host → ℕ → S → Data → Option S
 with_peer with hosts host s d = option_map (with s) (peer hosts host d)
 

@@ -1,5 +1,5 @@
--- The table of an assign that says an attribute of its template is shallow: its keys ask for texts, whole numbers, truth values and
--- arrays, and where a template takes an array, it takes texts in it.
+-- The table of an assign that specifies an attribute of its template is shallow: its values are strings, integers, booleans and arrays, and
+-- the arrays of a template contain strings.
 use Rattle.std.proofs.Common.{◌≡◌, ℕ, ◌&&◌, Bool, true, false, List, [], ◌∷◌, ◌++◌, Option, Some, None, option_map, option_and_then, is_some, refl, ap, ◌∙◌, sym}
 use Rattle.std.proofs.lemmas.Bool.{and_parts, false≢true}
 use Rattle.std.specs.List.{AllByRecursion, list_all}
@@ -26,7 +26,7 @@ use Rattle.table_core.specs.Shallow.{IsShallow}
 use Rattle.table_core.proofs.ShallowLaws.{ListsTexts, keys_shallow}
 use Rattle.table_core.specs.Tables.{list_at, text_at}
 
--- the table of the assign has two levels at most
+-- The table of the assign has at most two levels.
 abbrev pub IsShallowGiven : Given → Type 0
 IsShallowGiven a = members_are_sorted a.table ≡ true → IsShallow 2 (table a.table)
 
@@ -40,7 +40,7 @@ shape_shallow keys ms shaped lists sorted =
     let (only, _) = and_parts (has_only_keys keys ms) (not (lacks_key keys ms)) front in
     keys_shallow keys ms sorted only suits lists
 
--- a shape without an array
+-- A shape without an array.
 abbrev asks_no_array : Kind → Bool
 asks_no_array Array = false
 asks_no_array _ = true
@@ -54,7 +54,7 @@ no_lists (key ∷ keys) ms none =
     let (here, behind) = and_parts (asks_no_array key.kind) (has_no_arrays keys) none in
     (λ array stands. absurd (false≢true (sym (ap asks_no_array array) ∙ here)), no_lists keys ms behind)
 
--- ---- what a template says of a table
+-- ---- the requirements of a template on a table
 
 said_by : {A : Type 0} (b : Bool) (o : Option A) (x : A) → (if b then o else None) ≡ Some x → (b ≡ true) × (o ≡ Some x)
 said_by true o x said = (refl, said)
@@ -66,7 +66,7 @@ without_arrays f none hosts earlier a x said sorted =
     let (shaped, _) = said_by (of_shape a.table (host_key ∷ f.keys)) (f.reads hosts earlier a) x said in
     shape_shallow (host_key ∷ f.keys) a.table shaped (no_lists (host_key ∷ f.keys) a.table none) sorted
 
--- a list of other hosts is a list of texts
+-- A list of other hosts is a list of strings.
 peers_by : (o : Option ℕ) (rest : Option (List ℕ)) (xs : List ℕ) → option_and_then (λ y. option_map (λ ys. y ∷ ys) rest) o ≡ Some xs
     → (is_some o ≡ true) × (is_some rest ≡ true)
 peers_by None rest xs read = cc
@@ -108,9 +108,9 @@ noreach_shallow hosts earlier a x said sorted =
     shape_shallow (host_key ∷ noreach_form.keys) a.table shaped
     (λ array there. cc, (λ array there. listed_texts (list_at (codes "deny") a.table) ds stands texts, tt)) sorted
 
--- ---- partners: only a master lists something
+-- ---- partners: only a master has a list
 
--- a list that is there is one of texts, where a kind is read
+-- A list that is present is a list of strings, if a kind is parsed.
 list_read : (hosts : List Host) (host : ℕ) (o : Option (List Data)) (word : List ℕ) (x : Partner) → partner_of hosts host o word ≡ Some x
     → is_some o ≡ true → option_map_or (list_all is_text) o false ≡ true
 unfolding master_of
@@ -143,7 +143,7 @@ good_step : {A : Type 0} (o : Option A) (later : Option ℕ) (n : ℕ) → (if i
 good_step None later n none = cc
 good_step (Some x) later n none = (refl, none)
 
--- where what says an attribute is shallow
+-- Tables that specify an attribute are shallow.
 abbrev AreSaidShallow : Form → List Host → Type 0
 AreSaidShallow f hosts = (earlier : List Given) (a : Given) (x : f.template.Attribute) → says f hosts earlier a ≡ Some x → IsShallowGiven a
 
@@ -155,12 +155,12 @@ each_shallow f hosts said_shallow earlier (a ∷ rest) none =
     let (x, said) = some_of (says f hosts earlier a) here in
     (said_shallow earlier a x said, each_shallow f hosts said_shallow (earlier ++ a ∷ []) rest behind)
 
--- where none of the assigns is bad, the table of each is shallow
+-- If none of the assigns is bad, the table of each is shallow.
 pub assigns_shallow : (hosts : List Host) (t : Template) (assigns : List Given) → bad_assign (form t) hosts assigns ≡ None
     → AllByRecursion IsShallowGiven assigns
 assigns_shallow hosts t assigns none = each_shallow (form t) hosts (λ earlier a x said. says_shallow t hosts earlier a x said) [] assigns none
 
--- the same of a declared template
+-- The same for a declared template.
 pub kinds_shallow : (hosts : List Host) (d : Declared) (assigns : List Given) → bad_assign (table_form d) hosts assigns ≡ None
     → AllByRecursion IsShallowGiven assigns
 kinds_shallow hosts d assigns none =

@@ -1,4 +1,4 @@
--- An assign of `tainting` says the labels that it lists where its host takes off only its own.
+-- An assign of `tainting` specifies the labels that it lists if its host removes only labels that it has.
 use Rattle.std.proofs.Common.{◌≡◌, ◌↔◌, ℕ, ◌+◌, Bool, true, false, nat_lt, ◌&&◌, ◌||◌, List, [], ◌∷◌, ◌++◌, length, Option, Some, None, option_and_then, inl, inr, refl, ap, ◌∙◌, subst}
 use Rattle.std.proofs.lemmas.Bool.{false≢true, or_cases, or_left, or_right}
 use Rattle.std.proofs.lemmas.Slice.Eq.{bytes_eq-Decides}
@@ -28,7 +28,7 @@ kept_by : (labels : List (List ℕ)) (m l : List ℕ) (b : Bool) → is_listed l
 kept_by labels m l true listed = listed
 kept_by labels m l false listed = listed_front labels (m ∷ []) l listed
 
--- the labels so far stay, and those that are listed are added
+-- The labels so far are preserved, and the listed ones are added.
 listed_kept : (labels more : List (List ℕ)) (l : List ℕ) → is_listed labels l ≡ true → is_listed (different labels more) l ≡ true
 listed_kept labels [] l listed = listed
 listed_kept labels (m ∷ more) l listed = listed_kept (with_label labels m) more l (kept_by labels m l (is_listed labels m) listed)
@@ -46,7 +46,7 @@ listed_added labels (m ∷ more) l listed = elim (or_cases (bytes_eq l m) (is_li
   | inr later ↦ listed_added (with_label labels m) more l later
 ]
 
--- a label that is listed has a place
+-- A listed label has an index.
 place_by : (b listed : Bool) (n : ℕ) (later : Option ℕ) → (b || listed) ≡ true → (listed ≡ true → (k : ℕ) × (later ≡ Some k))
     → (k : ℕ) × ((if b then Some n else later) ≡ Some k)
 place_by true listed n later is behind = (n, refl)
@@ -62,7 +62,7 @@ pub placed : (before listed labels : List (List ℕ)) → labels ≡ different b
     → (l : List ℕ) → is_listed listed l ≡ true → (k : ℕ) × (place_of labels l ≡ Some k)
 placed before listed labels is l among = place_from 0 labels l (ap (λ ls. is_listed ls l) is ∙ listed_added before listed l among)
 
--- each label that is taken off is one that is put on exactly where the sets of their places say so
+-- Each removed label is an added label if and only if this holds for the sets of their indices.
 own_listed : (labels ts us : List (List ℕ)) → ((l : List ℕ) → is_listed ts l ≡ true → (k : ℕ) × (place_of labels l ≡ Some k))
     → ((l : List ℕ) → is_listed us l ≡ true → (k : ℕ) × (place_of labels l ≡ Some k))
     → (list_all (is_listed ts) us ≡ true) ↔ TakesOffItsOwn (record { taints = bits_of labels ts; untaints = bits_of labels us })

@@ -1,4 +1,4 @@
--- The record of a template and the cases of AnyInv agree: each law is one term, which is checked for each template.
+-- The record of a template and the cases of AnyInv agree: each lemma is one term, which is checked for each template.
 use Rattle.std.proofs.Common.{◌≡◌, ℕ, ◌<◌, List, [], length, Option, Some, None, Result, Ok, Err, refl, sym, ap, ◌∙◌, subst, arith}
 use Rattle.std.proofs.lemmas.List.FromFn.{length-map-range_with_len}
 use Rattle.std.specs.Prelude.{IfOk, unwrap_or}
@@ -20,13 +20,13 @@ use Rattle.attr_core.specs.inner.ReadIn.{bad_in, invariant_in, read_by, read_in}
 use Rattle.attr_core.specs.declared.template.Template.{Template}
 use Rattle.attr_core.specs.declared.template.Template.TheVariants.{Blp}
 
--- a description finds the template by its name
+-- A description finds the template by its name.
 pub is_named : (t : Template) → template_named (form t).template.name ≡ Some t
 unfolding template_named
 is_named Blp = refl
 is_named t = refl
 
--- an invariant that is made by the template is of the template
+-- An invariant that is made by the template is of the template.
 pub made_named : (t : Template) (xs : List (form t).template.Attribute) → template_name ((form t).make xs) ≡ (form t).template.name
 made_named Blp xs = refl
 made_named t xs = refl
@@ -40,7 +40,7 @@ pub read_is : (hosts : List Host) (t : Template) (assigns : List Given)
 unfolding read_in read_by bad_in invariant_in
 read_is hosts t assigns = refl
 
--- the same by the record
+-- The same by the record.
 pub bad_is : (hosts : List Host) (t : Template) (assigns : List Given) → bad_in hosts t assigns ≡ bad_assign (form t) hosts assigns
 unfolding bad_in
 bad_is hosts t assigns = refl
@@ -50,7 +50,7 @@ pub invariant_is : (hosts : List Host) (t : Template) (assigns : List Given)
 unfolding invariant_in
 invariant_is hosts t assigns = refl
 
--- what the invariant means: the meaning of the template, of the attributes that are assigned
+-- The meaning of the invariant: that of the template with the assigned attributes.
 pub invariant_means : (hosts : List Host) (t : Template) (assigns : List Given)
     → meaning_of (invariant_in hosts t assigns) ≡ meaning (form t).template (attributes_in (form t) hosts assigns)
 invariant_means hosts t assigns = ap meaning_of (invariant_is hosts t assigns) ∙ made_means t (attributes_in (form t) hosts assigns)
@@ -65,11 +65,11 @@ invariant_sized hosts t assigns =
     ap (λ m. m.size) (invariant_means hosts t assigns)
     ∙ length-map-range_with_len (λ host. unwrap_or (last_said (says (form t) hosts) [] host assigns) ((form t).template.default (length hosts) host)) 0 (length hosts)
 
--- the first bad assign is one of those that are given
+-- The first bad assign is one of the given assigns.
 pub bad_given : (hosts : List Host) (t : Template) (assigns : List Given) (k : ℕ) → bad_in hosts t assigns ≡ Some k → k < length assigns
 bad_given hosts t assigns k is = omega (arith, bad_within (says (form t) hosts) [] assigns k (sym (bad_is hosts t assigns) ∙ is))
 
--- what was read is the invariant, and no assign is bad
+-- The result is the invariant, and no assign is bad.
 no_fault : (bad : Option ℕ) (made inv : AnyInv) → ended bad made ≡ Ok inv → (bad ≡ None) × (inv ≡ made)
 no_fault None made inv is = (refl, cc)
 no_fault (Some k) made inv is = cc
@@ -90,7 +90,7 @@ made_of P hosts t assigns (Ok inv) is holds =
     subst P (sym made) (holds none)
 made_of P hosts t assigns (Err fault) is holds = tt
 
--- the assign that is blamed is the first bad one
+-- The reported assign is the first bad one.
 pub fault_of : (hosts : List Host) (t : Template) (assigns : List Given) (r : Result AnyInv AttrFault) → Reads r (read_in hosts t assigns)
     → (k : ℕ) → r ≡ Err (BadAttribute k) → bad_in hosts t assigns ≡ Some k
 fault_of hosts t assigns (Ok inv) is k blamed = cc

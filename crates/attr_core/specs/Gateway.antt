@@ -17,6 +17,6 @@ gateway_kinds =
     ∷ (codes "unassigned", Unassigned)
     ∷ []
 
--- the template in descriptions
+-- The attribute format of the template.
 abbrev pub gateway_form : Form
 gateway_form = by_kind gateways gateway_kinds any.Gateway

@@ -15,14 +15,14 @@ use Rattle.attr_core.specs.Forms.{Form}
 use Rattle.table_core.specs.Keys.{Array, needed}
 use Rattle.attr_core.specs.Peers.{peer}
 
--- the set of the hosts that are listed, each of them another declared host
+-- The set of the listed hosts, each of them another declared host.
 unfoldable pub all_denied : List Host → ℕ → List Data → Option HostNumbers
 all_denied hosts host ds = option_map set.from_list (each (peer hosts host) ds)
 
--- the hosts that a table denies to its host
+-- The hosts that a table denies to its host.
 unfoldable pub noreach_attribute : List Host → ℕ → Members → Option HostNumbers
 noreach_attribute hosts host table = list_at (codes "deny") table >>= all_denied hosts host
 
--- the template in descriptions
+-- The attribute format of the template.
 abbrev pub noreach_form : Form
 noreach_form = alone no_reach (needed (codes "deny") Array ∷ []) (λ hosts host table. noreach_attribute hosts host table) any.NoReach

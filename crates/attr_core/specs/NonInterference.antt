@@ -11,6 +11,6 @@ use Rattle.attr_core.specs.Kinds.{by_kind}
 abbrev pub interference_kinds : List (List ℕ × Interference)
 interference_kinds = (codes "unrelated", Unrelated) ∷ (codes "interfering", Interfering) ∷ []
 
--- the template in descriptions
+-- The attribute format of the template.
 abbrev pub interference_form : Form
 interference_form = by_kind non_interference interference_kinds any.NonInterference

@@ -1,5 +1,5 @@
--- A template that a description declares as a table: an assign says a kind, by the table's word for it.
--- The keys of an assign of such a template: docs/FORMATS.md.
+-- A template that a description declares as a table: an assign specifies a kind by its word. The keys of an assign of
+-- such a template: docs/FORMATS.md.
 use Rattle.std.specs.Prelude.{ℕ, List, [], ◌∷◌, Option, codes}
 use Rattle.std.specs.List.{position_from}
 use Rattle.std.specs.Str.{bytes_eq}
@@ -11,16 +11,16 @@ use Rattle.attr_core.specs.Kinds.{kind_key}
 use Rattle.table_core.specs.Tables.{text_at}
 use Rattle.text_core.specs.Steps.{◌>>=◌}
 
--- the words for its kinds, in order, and the table of their numbers
+-- The words for its kinds, in order, and the table of their numbers.
 pub record Declared : Type 0 where
   pub words : List (List ℕ)
   pub table : KindTable
 
--- the number of a kind, from 0, by its word
+-- The number of a kind, from 0, given by its word.
 abbrev pub kind_numbered : List (List ℕ) → List ℕ → Option ℕ
 kind_numbered words word = position_from (bytes_eq word) 0 words
 
--- the template in descriptions
+-- The attribute format of the template.
 abbrev pub table_form : Declared → Form
 table_form d =
     alone (declared d.table) (kind_key ∷ []) (λ hosts host table. text_at (codes "kind") table >>= kind_numbered d.words)

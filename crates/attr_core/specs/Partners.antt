@@ -1,5 +1,5 @@
--- Partners: `kind` is one of three words; a master, and no other, lists in `from` the other hosts that it takes packets from.
--- The keys of an assign of this template: docs/FORMATS.md.
+-- Partners: `kind` is one of three words; only a master has `from`, the list of the other hosts from which it receives packets. The keys of
+-- an assign of this template: docs/FORMATS.md.
 use Rattle.std.specs.Prelude.{ℕ, false, List, [], ◌∷◌, length, replicate, Option, Some, None, option_map, codes, if◌then◌else◌}
 use Rattle.std.specs.List.{fold}
 use Rattle.std.specs.Str.{bytes_eq}
@@ -16,22 +16,22 @@ use Rattle.table_core.specs.Keys.{Array, optional}
 use Rattle.attr_core.specs.Kinds.{kind_key, kind_named}
 use Rattle.attr_core.specs.Peers.{peer}
 
--- a master that takes from the hosts that are listed, each of them another declared host, and from no others
+-- A master that receives exactly from the listed hosts, each of them another declared host.
 unfoldable pub master_of : List Host → ℕ → List Data → Option Partner
 master_of hosts host ds = option_map (fold with_sender (Master (replicate (length hosts) false))) (each (peer hosts host) ds)
 
 abbrev pub listless_kinds : List (List ℕ × Partner)
 listless_kinds = (codes "dontcare", DontCare) ∷ (codes "care", Care) ∷ []
 
--- the kind of a word without a list, and with one
+-- The kind of a word without a list, and with a list.
 abbrev pub partner_of : List Host → ℕ → Option (List Data) → List ℕ → Option Partner
 partner_of hosts host None word = kind_named listless_kinds word
 partner_of hosts host (Some ds) word = if bytes_eq word (codes "master") then master_of hosts host ds else None
 
--- the kind that a table says
+-- The kind that a table specifies.
 unfoldable pub partners_attribute : List Host → ℕ → Members → Option Partner
 partners_attribute hosts host table = text_at (codes "kind") table >>= partner_of hosts host (list_at (codes "from") table)
 
--- the template in descriptions
+-- The attribute format of the template.
 abbrev pub partners_form : Form
 partners_form = alone partners (kind_key ∷ optional (codes "from") Array ∷ []) (λ hosts host table. partners_attribute hosts host table) any.Partners

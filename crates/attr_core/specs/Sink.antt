@@ -11,6 +11,6 @@ use Rattle.attr_core.specs.Kinds.{by_kind}
 abbrev pub sink_kinds : List (List ℕ × SinkKind)
 sink_kinds = (codes "sink", Sink) ∷ (codes "pool", Pool) ∷ (codes "unassigned", Unassigned) ∷ []
 
--- the template in descriptions
+-- The attribute format of the template.
 abbrev pub sink_form : Form
 sink_form = by_kind sinks sink_kinds any.Sink

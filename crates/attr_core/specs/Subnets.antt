@@ -1,5 +1,5 @@
--- Subnets: `kind` is one of three words; a subnet and a border, and no other, have a `number` to 65,535 too.
--- The keys of an assign of this template: docs/FORMATS.md.
+-- Subnets: `kind` is one of three words; only a subnet and a border also have a `number` up to 65,535. The keys of an
+-- assign of this template: docs/FORMATS.md.
 use Rattle.std.specs.Prelude.{ℕ, List, [], ◌∷◌, Option, Some, None, codes}
 use Rattle.inv_any.specs.declared.any_inv.AnyInv.TheVariants as any
 use Rattle.table_core.specs.Tables.{number_at}
@@ -12,16 +12,16 @@ use Rattle.attr_core.specs.Forms.{Form}
 use Rattle.table_core.specs.Keys.{Number, optional}
 use Rattle.attr_core.specs.Kinds.{kind_in, kind_key}
 
--- the kinds with a number, and without one
+-- The kinds with a number, and without one.
 abbrev pub net_kinds : Option ℕ → List (List ℕ × NetKind)
 net_kinds (Some number) = (codes "subnet", Subnet number) ∷ (codes "border", Border number) ∷ []
 net_kinds None = (codes "unassigned", Unassigned) ∷ []
 
--- the kind that a table says
+-- The kind that a table specifies.
 unfoldable pub subnets_attribute : Members → Option NetKind
 subnets_attribute table = kind_in (net_kinds (number_at 65535 (codes "number") table)) table
 
--- the template in descriptions
+-- The attribute format of the template.
 abbrev pub subnets_form : Form
 subnets_form =
     alone subnets (kind_key ∷ optional (codes "number") (Number 65535) ∷ []) (λ hosts host table. subnets_attribute table) any.Subnets

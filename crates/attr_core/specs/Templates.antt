@@ -1,4 +1,4 @@
--- The ten templates, and the names by which a description calls them: docs/FORMATS.md.
+-- The ten templates, and their names in descriptions: docs/FORMATS.md.
 use Rattle.std.specs.Prelude.{ℕ, List, [], ◌∷◌, Option, find}
 use Rattle.std.specs.Str.{bytes_eq}
 use Rattle.attr_core.specs.Blp.{blp_form}
@@ -15,7 +15,7 @@ use Rattle.attr_core.specs.Forms.{Form}
 use Rattle.attr_core.specs.declared.template.Template.{Template}
 use Rattle.attr_core.specs.declared.template.Template.TheVariants.{Blp, Tainting, Sink, Gateway, Subnets, Partners, Domains, Dependability, NonInterference, NoReach}
 
--- how a description writes each of the templates
+-- The attribute format of each template.
 abbrev pub form : Template → Form
 form Blp = blp_form
 form Tainting = tainting_form
@@ -31,6 +31,6 @@ form NoReach = noreach_form
 abbrev pub templates : List Template
 templates = Blp ∷ Tainting ∷ Sink ∷ Gateway ∷ Subnets ∷ Partners ∷ Domains ∷ Dependability ∷ NonInterference ∷ NoReach ∷ []
 
--- the template of a name
+-- The template with a name.
 unfoldable pub template_named : List ℕ → Option Template
 template_named name = find (λ t. bytes_eq name (form t).template.name) templates

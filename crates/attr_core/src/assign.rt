@@ -2,11 +2,11 @@
 
 use toml::Table;
 
-/// What says the attribute of a host.
+/// An assign of an attribute to a host.
 #[derive(Clone, Copy)]
 pub struct Assign<'a> {
     /// The number of the host, from 0.
     pub host: u16,
-    /// The table with the attribute, and at the key `host` the name of the host.
+    /// The table with the attribute; the key `host` has the name of the host.
     pub table: &'a Table,
 }

@@ -1,5 +1,5 @@
-//! The way from assigns to an invariant, which is the same for all templates: each assign in turn
-//! gives its host an attribute, until one says none.
+//! Building an invariant from assigns, in one way for all templates: each assign in order sets the
+//! attribute of its host, until an assign specifies none.
 ghost use Rattle.std.specs.Prelude.{◌≡◌, ◌<◌, ◌∷◌, [], ◌++◌, ℕ, ⊤, map, List, Some, None, Err, option_map, IfOk, IsTrue, All, if◌then◌else◌, length, slice_set};
 ghost use Rattle.attr_core.specs.inner.AssignView.{given_of, Reads};
 ghost use Rattle.attr_core.specs.Assigns.{Given};
@@ -17,27 +17,27 @@ use inv_any::AnyInv;
 use std::alloc::{AllocError, Global};
 use toml::Table;
 
-/// The attributes of all hosts in one template, as far as the assigns were taken in.
+/// The attributes of all hosts in one template, after the assigns so far.
 pub(crate) trait Assigned: Sized + Drop {
-    // The template, and the attributes that the hosts have so far.
+    // The template, and the attributes of the hosts so far.
     ghost form: { Form };
 
     ghost attributes: { Self → List form.template.Attribute };
 
-    // What is kept of the assigns that were taken in: nothing, where each speaks for itself.
+    // An additional invariant of the assigns so far: trivial if each assign is independent.
     ghost keeps: { List Given → Self → Type 0 } = { λ _ _. ⊤ };
 
-    /// Whether the table of an assign has the keys of the template, and what they ask for.
+    /// Whether the table of an assign has the keys of the template, with values of their kinds.
     fn has_shape(table: &Table) -> bool
         ensures { result ≡ of_shape (table_view table.now) (host_key ∷ form.keys) };
 
-    /// Each host with the default of the template.
+    /// Returns the state in which each host has the default of the template.
     fn start(alloc: Global, hosts: &Hosts) -> Result<Self, AllocError>
         ensures attributes { IfOk result (λ new. attributes new ≡ defaults form (length hosts.now)) }
         ensures keeps { IfOk result (λ new. keeps [] new) };
 
-    /// Gives the host of the assign, whose table has the keys of the template, its attribute, or answers
-    /// false where the assign says none.
+    /// Sets the attribute of the host of the assign, whose table has the keys of the template; or
+    /// returns false if the assign specifies none.
     fn take(
         &mut self,
         alloc: Global,
@@ -52,12 +52,12 @@ pub(crate) trait Assigned: Sized + Drop {
         ensures keeps { IfOk result (λ good. (earlier : List Given) → keeps earlier self.old → IsTrue good
             → keeps (earlier ++ given_of assign.now ∷ []) self.new) };
 
-    /// The invariant of the attributes that were taken in.
+    /// Returns the invariant of the current attributes.
     fn make(self) -> AnyInv
         ensures { result ≡ form.make (attributes self) };
 }
 
-/// The invariant of the template of `T`, or the first assign that says no attribute.
+/// Returns the invariant of the template of `T`, or the first assign that specifies no attribute.
 pub(crate) fn read<T: Assigned>(
     alloc: Global,
     hosts: &Hosts,

@@ -1,4 +1,4 @@
-//! Dependability: how many others a host may reach.
+//! Dependability: the number of other hosts that a host may reach.
 ghost use Rattle.std.specs.Prelude.{◌≡◌};
 
 use crate::assign::Assign;

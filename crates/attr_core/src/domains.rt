@@ -1,4 +1,4 @@
-//! Domains: the place of a host in the hierarchy, and its trust.
+//! Domains: the position of a host in the hierarchy, and its trust.
 ghost use Rattle.std.specs.Prelude.{◌≡◌, ◌≤◌, IfSome, option_map, length, codes, unwrap_or};
 ghost use Rattle.attr_core.specs.Domains.{domains_attribute};
 ghost use Rattle.std.specs.List.{list_all};

@@ -1,16 +1,16 @@
-//! Why no invariant was made.
+//! The reasons why an invariant is not made.
 ghost use Rattle.std.specs.Prelude.{◌≡◌};
 ghost use Rattle.attr_core.specs.declared.fault.AttrFault.TheVariants.{Memory};
 
 use std::alloc::AllocError;
 
-/// Why no invariant was made of its assigns.
+/// The reason why an invariant is not made of its assigns.
 #[derive(Clone, Copy, PartialEq, Eq, Debug)]
 pub enum AttrFault {
-    /// The table of an assign says no attribute of the template. It is the first such assign, by its
-    /// number from 0.
+    /// The table of an assign specifies no attribute of the template. `assign` is the number of the
+    /// first such assign, from 0.
     BadAttribute { assign: usize },
-    /// Memory ran out.
+    /// Memory allocation failed.
     Memory,
 }
 

@@ -22,9 +22,9 @@ use tmpl_levels::Blp;
 use tmpl_reach::{Dependability, NoReach, NonInterference};
 use tmpl_zones::{Gateway, Partners, SinkRule, Subnets};
 
-/// The invariant of the template in which each host has the attribute that its assign says, or the
-/// default of the template where no assign names it; or the first assign that says no attribute. Where
-/// two assigns name a host, the later counts.
+/// Returns the invariant of the template in which each host has the attribute of its assign, or the
+/// default of the template if no assign is for it; or the first assign that specifies no attribute.
+/// If two assigns are for the same host, the later one applies.
 pub fn read_invariant(
     alloc: Global,
     hosts: &Hosts,
@@ -35,7 +35,8 @@ pub fn read_invariant(
     ensures good { IfOk result (λ _. bad_in hosts.now template (map given_of assigns.now) ≡ None) }
     ensures first { (k : ℕ) → result ≡ Err (BadAttribute k) → bad_in hosts.now template (map given_of assigns.now) ≡ Some k }
 
-    // Each assign before the one that is blamed says an attribute, and it says none after these.
+    // Each assign before the reported one specifies an attribute, and the reported one specifies
+    // none after these.
     ensures silent { BlamesFirstBad (SaysNothing (form template) hosts.now) (map given_of assigns.now) result }
 
     ensures within { (k : ℕ) → result ≡ Err (BadAttribute k) → k < length assigns.now }
@@ -44,7 +45,8 @@ pub fn read_invariant(
     ensures named { IfOk result (λ any. template_named (template_name any) ≡ Some template) }
     ensures may_have { IfOk result (λ any. HostsMayHave any) }
 
-    // Of an invariant of labels: a host has exactly those that the last assign of it lists, and takes off likewise.
+    // For an invariant of labels: a host has exactly the labels that its last assign lists, and
+    // removes exactly the labels that it lists.
     ensures labels { IfOk result (λ any. HaveTheirLabels (map given_of assigns.now) any) }
 {
     by_template(alloc, hosts, template, assigns)

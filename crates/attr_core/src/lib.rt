@@ -1,6 +1,6 @@
-//! The attributes of hosts, as a description assigns them: each template has its own keys, types and
-//! defaults. From the assigns of an invariant, which are tables of TOML, comes the invariant itself,
-//! or the number of the first assign that says no attribute.
+//! The attributes of hosts, as a description assigns them: each template has its keys, types and
+//! defaults. The assigns of an invariant are TOML tables; their result is the invariant, or the
+//! number of the first assign that specifies no attribute.
 #![tactic(auto)]
 
 mod assign;

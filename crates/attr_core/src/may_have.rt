@@ -1,4 +1,4 @@
-//! What a description lets an assign say.
+//! The attributes that an assign of a description may specify.
 
 ghost use Rattle.std.specs.Prelude.{◌≡◌, ◌++◌, [], ◌∷◌, Some, codes, length, option_and_then, option_map};
 ghost use Rattle.attr_core.specs.Domains.{domains_form};
@@ -9,8 +9,8 @@ ghost use Rattle.attr_core.specs.Partners.{partners_form};
 ghost use Rattle.attr_core.specs.Tainting.{labels_of, tainting_form};
 ghost use Rattle.table_core.specs.Tables.{text_at};
 
-/// Of the attributes that a table lists, its assign says one exactly where its host may have it. Of the
-/// templates that are not named here a host may have every attribute.
+/// An assign specifies the attribute that its table lists if and only if its host may have it. For
+/// the templates that are not named here, a host may have every attribute.
 pub fn says_what_hosts_may_have()
     ensures tainting { SaysWhatHostsMayHave tainting_form (λ hosts earlier a. sets_listed (labels_of (earlier ++ a ∷ [])) a.table) }
     ensures partners { SaysWhatHostsMayHave partners_form (λ hosts earlier a. partners_listed hosts a.table) }

@@ -44,7 +44,7 @@ impl Assigned for NoReach {
     }
 }
 
-// Lets the host deny the listed hosts alone, or answers false where one of them is no other host.
+// Lets the host deny exactly the listed hosts, or returns false if one of them is not another host.
 fn deny_all(rule: &mut NoReach, hosts: &Hosts, host: u16, listed: &[Value]) -> bool
     requires size { length rule.old ≡ length hosts.now }
     requires host { host < length hosts.now }

@@ -1,4 +1,4 @@
-//! Non-interference: whether a host is one of those that are kept apart.
+//! Non-interference: whether a host is one of the hosts that are isolated from each other.
 ghost use Rattle.std.specs.Prelude.{◌≡◌, option_map};
 ghost use Rattle.attr_core.specs.Kinds.{kind_in};
 ghost use Rattle.attr_core.specs.NonInterference.{interference_kinds};
@@ -47,7 +47,7 @@ impl Assigned for NonInterference {
     }
 }
 
-/// Whether the table says that the host is interfering, if it says a kind.
+/// Returns whether the host is interfering, if the table specifies a kind.
 #[tactic(auto, unfolding(crate::specs::Kinds::kind_in))]
 fn interferes(table: &Table) -> Option<bool>
     ensures { option_map interference_of result ≡ kind_in interference_kinds (table_view table.now) }

@@ -1,4 +1,4 @@
-//! Templates that a description declares as tables: the kind of a host, by the table's word for it.
+//! Templates that a description declares as tables: the kind of a host, given by its word.
 
 ghost use Rattle.std.specs.Prelude.{◌≡◌, ◌≤◌, ◌<◌, All, IfSome, List, is_some, length, map, replicate};
 ghost use Rattle.std.specs.List.{position_from};
@@ -21,7 +21,7 @@ use table_core::text_at;
 use tmpl_table::TableRule;
 use toml::Table;
 
-/// The number of a kind, from 0, by its word.
+/// Returns the number of a kind, from 0, given by its word.
 pub fn kind_numbered(words: &[&str], word: &str) -> Option<usize>
     ensures value { result ≡ kind_numbered (map (λ known. known.now) words.now) word.now }
     ensures within { IfSome result (λ kind. kind < length words.now) }
@@ -35,7 +35,7 @@ fn place_of(words: &[&str], word: &str) -> Option<usize>
     words.iter().position(|known| word == *known)
 }
 
-/// The number of the kind that the table of an assign says.
+/// Returns the number of the kind that the table of an assign specifies.
 #[tactic(auto, unfolding(crate::specs::inner::OwnTablesWalk::kind_said))]
 fn kind_said(words: &[&str], table: &Table) -> Option<usize>
     ensures value { result ≡ kind_said (map (λ known. known.now) words.now) (table_view table.now) }
@@ -47,8 +47,8 @@ fn kind_said(words: &[&str], table: &Table) -> Option<usize>
     kind_numbered(words, text_at(table, "kind")?)
 }
 
-/// The number, from 0, of the first assign whose table says no kind of a declared template with these
-/// words for its kinds.
+/// Returns the number, from 0, of the first assign whose table specifies no kind of a declared
+/// template with these words for its kinds.
 pub fn bad_kind(words: &[&str], assigns: &[Assign<'_>]) -> Option<usize>
     ensures { (d : Declared) (hosts : List Host) → d.words ≡ map (λ known. known.now) words.now
         → result ≡ bad_assign (table_form d) hosts (map given_of assigns.now) }
@@ -68,8 +68,8 @@ fn first_silent(words: &[&str], assigns: &[Assign<'_>]) -> Option<usize>
     None
 }
 
-/// The invariant of a declared template, by its rule, which has the default kind at each host, and the
-/// words for its kinds.
+/// Returns the invariant of a declared template, given its rule, which has the default kind at each
+/// host, and the words for its kinds.
 pub fn read_kinds(rule: TableRule, words: &[&str], assigns: &[Assign<'_>]) -> AnyInv
     requires hosts { All (λ a. a.host < length rule.hosts) assigns.now }
     requires words { rule.table.kinds ≡ length words.now }
@@ -84,7 +84,7 @@ pub fn read_kinds(rule: TableRule, words: &[&str], assigns: &[Assign<'_>]) -> An
     AnyInv::Table(EdgeWise::new(rule))
 }
 
-/// Gives each host of an assign the kind that it says.
+/// Sets the kind of the host of each assign.
 fn take_kinds(rule: &mut TableRule, words: &[&str], assigns: &[Assign<'_>])
     requires hosts { All (λ a. a.host < length rule.old.hosts) assigns.now }
     requires words { rule.old.table.kinds ≡ length words.now }
@@ -98,7 +98,7 @@ fn take_kinds(rule: &mut TableRule, words: &[&str], assigns: &[Assign<'_>])
     }
 }
 
-/// Gives the host of the assign the kind that it says, if it says one.
+/// Sets the kind of the host of the assign, if the assign specifies one.
 fn take_kind(rule: &mut TableRule, words: &[&str], assign: &Assign<'_>)
     requires host { assign.now.host < length rule.old.hosts }
     requires words { rule.old.table.kinds ≡ length words.now }

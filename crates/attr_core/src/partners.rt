@@ -1,4 +1,4 @@
-//! Partners: whom a host takes packets from.
+//! Partners: the hosts from which a host receives packets.
 ghost use Rattle.std.specs.Prelude.{◌≡◌, ◌<◌, Some, None, if◌then◌else◌, map, option_map, length, slice_set, IfOk};
 ghost use Rattle.attr_core.specs.Kinds.{kind_named};
 ghost use Rattle.attr_core.specs.Partners.{listless_kinds, master_of, partner_of};
@@ -56,7 +56,7 @@ impl Assigned for Partners {
     }
 }
 
-/// Gives the host a kind without a list, or answers false where the word is that of none.
+/// Sets the kind of the host, for a word without a list, or returns false if the word is unknown.
 fn put_listless(
     rule: &mut Partners,
     alloc: Global,
@@ -76,8 +76,8 @@ fn put_listless(
     Ok(true)
 }
 
-/// Makes the host a master, or answers false where the word is that of no master, or one of the listed is
-/// no other host.
+/// Makes the host a master, or returns false if the word is not that of a master, or one of the
+/// listed hosts is not another host.
 fn put_master(rule: &mut Partners, hosts: &Hosts, host: u16, word: &str, listed: &[Value]) -> bool
     requires size { length rule.old ≡ length hosts.now }
     requires host { host < length hosts.now }
@@ -91,8 +91,8 @@ fn put_master(rule: &mut Partners, hosts: &Hosts, host: u16, word: &str, listed:
     allow_all(rule, hosts, host, listed)
 }
 
-/// Makes the host a master that takes from the listed hosts alone, or answers false where one of them
-/// is no other host.
+/// Makes the host a master that receives exactly from the listed hosts, or returns false if one of
+/// them is not another host.
 fn allow_all(rule: &mut Partners, hosts: &Hosts, host: u16, listed: &[Value]) -> bool
     requires size { length rule.old ≡ length hosts.now }
     requires host { host < length hosts.now }

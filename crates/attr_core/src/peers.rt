@@ -6,7 +6,7 @@ ghost use Rattle.toml.specs.View.{view};
 use host_net::Hosts;
 use toml::Value;
 
-/// The declared host that an element names, if it is not `host`.
+/// Returns the declared host that an element names, if it is not `host`.
 #[tactic(auto, unfolding(crate::specs::Peers::peer))]
 pub(crate) fn peer(hosts: &Hosts, host: u16, value: &Value) -> Option<u16>
     ensures value { result ≡ peer hosts.now host (view value.now) }

@@ -1,4 +1,4 @@
-//! The shape of an assign's table: which keys it has, and what stands at them.
+//! The shape of an assign's table: its keys and the kinds of their values.
 ghost use Rattle.std.specs.Prelude.{◌≡◌, map};
 ghost use Rattle.attr_core.specs.Shapes.{of_shape};
 ghost use Rattle.table_core.specs.inner.KeyView.{key_view};
@@ -10,8 +10,8 @@ use toml::Table;
 /// The name of the host, which each assign has.
 pub(crate) const HOST: Key = Key::Needed("host", Kind::Text);
 
-/// Whether the table has the keys of a shape: no others, those that it must have, and at each of them a
-/// value of its kind.
+/// Whether the table has the keys of a shape: no others, all required ones, and each value is of
+/// its kind.
 #[tactic(auto, unfolding(crate::specs::Shapes::of_shape))]
 pub(crate) fn of_shape(table: &Table, keys: &[Key]) -> bool
     ensures { result ≡ of_shape (table_view table.now) (map key_view keys.now) }

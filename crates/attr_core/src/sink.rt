@@ -45,7 +45,7 @@ impl Assigned for SinkRule {
     }
 }
 
-/// The kind that the table says.
+/// Returns the kind that the table specifies.
 #[tactic(auto, unfolding(crate::specs::Kinds::kind_in))]
 fn kind_in(table: &Table) -> Option<SinkKind>
     ensures { result ≡ kind_in sink_kinds (table_view table.now) }

@@ -47,7 +47,7 @@ impl Assigned for Subnets {
     }
 }
 
-/// The kind that the table says.
+/// Returns the kind that the table specifies.
 #[tactic(auto, unfolding(crate::specs::Kinds::kind_in, crate::specs::Subnets::subnets_attribute))]
 fn read_kind(table: &Table) -> Option<NetKind>
     ensures { result ≡ subnets_attribute (table_view table.now) }
@@ -58,7 +58,7 @@ fn read_kind(table: &Table) -> Option<NetKind>
     )
 }
 
-/// The kind of a word, with the number beside it or without one.
+/// Returns the kind of a word, with a number or without one.
 fn kind_named(number: Option<u16>, word: &str) -> Option<NetKind>
     ensures { result ≡ kind_named (net_kinds number) word.now }
 {

@@ -1,5 +1,5 @@
-//! Tainting: the labels of a host, and those that it takes off what it sends. A label of an invariant
-//! has a number, by the place where it first stands.
+//! Tainting: the labels of a host, and those that it removes from the data it sends. The number of
+//! a label of an invariant is the index of its first appearance.
 ghost use Rattle.std.specs.Prelude.{◌≡◌, ◌<◌, ◌≤◌, IsTrue, map, option_map, length, IfOk, IfSome};
 ghost use Rattle.attr_core.specs.inner.LabelWalk.{all_labels, and_label, are_among, labelled, labels_at, numbered};
 ghost use Rattle.attr_core.specs.Tainting.{label_in};
@@ -26,7 +26,7 @@ const KEYS: [Key; 3] = [
     Key::Optional("untaints", Kind::Texts),
 ];
 
-// The labels so far, each of which has the number of its place, and what they are to each host.
+// The labels so far, each with its index as its number, and the label sets of each host.
 #[derive(Drop)]
 pub(crate) struct TaintedHosts {
     labels: Vec<Name>,
@@ -78,7 +78,7 @@ impl Assigned for TaintedHosts {
     }
 }
 
-// The labels that the table says.
+// Returns the labels that the table specifies.
 #[tactic(auto, unfolding(crate::specs::inner::LabelWalk::labelled))]
 fn labelled(labels: &mut Vec<Name>, table: &Table) -> Result<Option<(u64, u64)>, AllocError>
     requires { length labels.old.items ≤ 64 }
@@ -108,7 +108,7 @@ fn are_among(untaints: u64, taints: u64) -> bool
     untaints & taints == untaints
 }
 
-// The set of the labels at a key.
+// Returns the set of the labels at a key.
 #[tactic(auto, unfolding(crate::specs::inner::LabelWalk::labels_at))]
 fn labels_at(labels: &mut Vec<Name>, table: &Table, key: &str) -> Result<Option<u64>, AllocError>
     requires { length labels.old.items ≤ 64 }
@@ -139,7 +139,7 @@ fn all_labels(labels: &mut Vec<Name>, values: &[Value]) -> Result<Option<u64>, A
     Ok(Some(bits))
 }
 
-// The set with the label of an element.
+// Returns the set with the label of an element.
 #[tactic(auto, unfolding(crate::specs::inner::LabelWalk::and_label))]
 fn and_label(labels: &mut Vec<Name>, bits: u64, value: &Value) -> Result<Option<u64>, AllocError>
     requires { length labels.old.items ≤ 64 }
@@ -163,7 +163,7 @@ fn label_in(value: &Value) -> Option<Name>
     Name::new(value.as_str()?.as_bytes())
 }
 
-// The number of the label: that which it has, or the next.
+// Returns the number of the label: its existing number, or the next one.
 #[tactic(auto, unfolding(crate::specs::inner::LabelWalk::numbered, crate::specs::inner::LabelWalk::new_label))]
 fn numbered(labels: &mut Vec<Name>, label: Name) -> Result<Option<u32>, AllocError>
     requires { length labels.old.items ≤ 64 }

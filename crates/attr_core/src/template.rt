@@ -7,19 +7,19 @@ ghost use Rattle.attr_core.specs.Templates.{template_named};
 pub enum Template {
     /// Levels of secrecy, and hosts that are trusted.
     Blp,
-    /// Labels, which hosts pass on unless they take them off.
+    /// Labels, which hosts propagate unless they remove them.
     Tainting,
-    /// Hosts that send to nobody.
+    /// Hosts that send to no host.
     Sink,
     /// Hosts behind a gateway.
     Gateway,
     /// Subnets and their borders.
     Subnets,
-    /// Hosts that take packets from some hosts alone.
+    /// Hosts that receive packets only from some hosts.
     Partners,
-    /// Places in a hierarchy.
+    /// Positions in a hierarchy.
     Domains,
-    /// How many others a host may reach.
+    /// A bound on the number of other hosts that a host reaches.
     Dependability,
     /// Hosts that are not joined.
     NonInterference,
@@ -28,7 +28,7 @@ pub enum Template {
 }
 
 impl Template {
-    /// The template of a name, or None where no template has it.
+    /// Returns the template with a name, or `None` if there is none.
     #[tactic(auto, unfolding(crate::specs::Templates::template_named))]
     pub fn named(name: &str) -> Option<Template>
         ensures { result ≡ template_named name.now }

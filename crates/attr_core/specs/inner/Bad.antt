@@ -1,11 +1,11 @@
--- The first bad assign, where each assign speaks for itself.
+-- The first bad assign, if each assign is independent.
 use Rattle.std.proofs.Common.{◌≡◌, ℕ, ◌+◌, List, [], ◌∷◌, ◌++◌, length, Bool, true, false, Option, Some, None, is_some, refl, ap, ◌∙◌, arith}
 use Rattle.std.proofs.lemmas.List.{length-append}
 use Rattle.std.specs.Prelude.{if◌then◌else◌}
 use Rattle.attr_core.specs.Assigns.{Given}
 use Rattle.attr_core.specs.Forms.{bad_from}
 
--- the first of these that fails a test, counted from k
+-- The first of these that fails a test, counted from k.
 abbrev pub first_failing : (Given → Bool) → ℕ → List Given → Option ℕ
 first_failing good k [] = None
 first_failing good k (a ∷ rest) = if good a then first_failing good (k + 1) rest else Some k

@@ -1,4 +1,4 @@
--- How the code tells the two kinds of `noninterference` apart: by whether the host is interfering.
+-- The representation of the two kinds of `noninterference` in the code: whether the host is interfering.
 use Rattle.std.specs.Prelude.{Bool, true, false}
 use Rattle.tmpl_reach.specs.declared.non_interference.Interference.{Interference}
 use Rattle.tmpl_reach.specs.declared.non_interference.Interference.TheVariants.{Interfering, Unrelated}

@@ -1,4 +1,4 @@
--- The labels of the hosts of an invariant, as its assigns list them. The number of a label is its place among those of all assigns.
+-- The labels of the hosts of an invariant, as its assigns list them. The number of a label is its index among those of all assigns.
 use Rattle.std.specs.Prelude.{◌≡◌, ◌<◌, ◌↔◌, ℕ, List, [], length, slice_index_or, Option, Some, None, IsTrue, codes, unwrap_or}
 use Rattle.std.specs.List.{position_from}
 use Rattle.std.specs.Str.{bytes_eq}
@@ -10,27 +10,27 @@ use Rattle.attr_core.specs.Assigns.{Given}
 use Rattle.attr_core.specs.Forms.{last_said}
 use Rattle.attr_core.specs.Tainting.{is_listed, labels_in, labels_of}
 
--- the last assign that names the host
+-- The last assign for the host.
 abbrev pub assign_of : List Given → ℕ → Option Given
 assign_of assigns host = last_said (λ earlier a. Some a) [] host assigns
 
--- the labels that it lists at a key; none where no assign names the host
+-- The labels that it lists at a key; none if no assign is for the host.
 abbrev pub listed_at : List ℕ → Option Given → List (List ℕ)
 listed_at key None = []
 listed_at key (Some a) = unwrap_or (labels_in key a.table) []
 
--- the set has exactly the numbers of the labels that are listed
+-- The set contains exactly the numbers of the listed labels.
 abbrev pub HasListed : List (List ℕ) → List (List ℕ) → ℕ → Type 0
 HasListed labels listed set =
     (number : ℕ) → HasLabel set number
     ↔ ((label : List ℕ) × IsTrue (is_listed listed label) × (position_from (bytes_eq label) 0 labels ≡ Some number))
 
--- the host has, and takes off, the labels that its assign lists
+-- The host has, and removes, the labels that its assign lists.
 pub record HasItsLabels (labels : List (List ℕ)) (a : Option Given) (host : Labels) : Type 0 where
   pub put_on : HasListed labels (listed_at (codes "taints") a) host.taints
   pub taken_off : HasListed labels (listed_at (codes "untaints") a) host.untaints
 
--- so does each host of an invariant of labels
+-- The same for each host of an invariant of labels.
 unfoldable pub HaveTheirLabels : List Given → AnyInv → Type 0
 HaveTheirLabels assigns (any.Tainting hosts) =
     (host : ℕ) → host < length hosts → HasItsLabels (labels_of assigns) (assign_of assigns host) (slice_index_or hosts host untainted)

@@ -1,5 +1,4 @@
--- How a description keeps to what a host may have: of the attributes that a table lists, its assign says one exactly where its host may
--- have it.
+-- Validity of attributes: an assign specifies the attribute that its table lists if and only if its host may have it.
 use Rattle.std.specs.Prelude.{◌≡◌, ◌↔◌, ℕ, false, List, length, Option, Some, None, nat_lt, option_map, codes, replicate, unwrap_or, if◌then◌else◌}
 use Rattle.std.specs.FinSet as set
 use Rattle.std.specs.List.{fold}
@@ -20,18 +19,18 @@ use Rattle.attr_core.specs.Kinds.{kind_named}
 use Rattle.attr_core.specs.Partners.{listless_kinds}
 use Rattle.attr_core.specs.Tainting.{bits_of, labels_in}
 
--- the assign says what is listed, where its host may have it, and no more
+-- The assign specifies the listed attribute if and only if its host may have it.
 abbrev pub SaysWhatHostsMayHave : (form : Form) → (List Host → List Given → Given → Option form.template.Attribute) → Type 0
 SaysWhatHostsMayHave form lists =
     (hosts : List Host) (earlier : List Given) (a : Given) (x : form.template.Attribute)
     → (form.reads hosts earlier a ≡ Some x) ↔ ((lists hosts earlier a ≡ Some x) × form.template.MayHave (length hosts) a.host x)
 
--- the place, whatever its path is
+-- The position, whether or not its path is valid.
 abbrev pub domains_listed : Members → Option Place
 domains_listed table =
     option_map (λ path. record { path = segments path; trust = unwrap_or (number_at 16 (codes "trust") table) 0 }) (text_at (codes "path") table)
 
--- the declared host that an element names, be it the host itself
+-- The declared host that an element names, possibly the host itself.
 abbrev pub known_host : List Host → Data → Option ℕ
 known_host hosts d = as_str d >>= host_named hosts
 
@@ -48,7 +47,7 @@ partner_listed hosts (Some ds) word = if bytes_eq word (codes "master") then mas
 abbrev pub partners_listed : List Host → Members → Option Partner
 partners_listed hosts table = text_at (codes "kind") table >>= partner_listed hosts (list_at (codes "from") table)
 
--- the labels, whatever is taken off; there are at most 64 by then
+-- The labels, without the check that the host has every label that it removes; there are at most 64 labels so far.
 abbrev pub sets_listed : List (List ℕ) → Members → Option Labels
 sets_listed labels table = do
   taints ← labels_in (codes "taints") table

@@ -1,4 +1,4 @@
--- The attributes that assigns in turn leave are those that are assigned.
+-- The attributes after assigns in order are the assigned attributes.
 use Rattle.std.proofs.Common.{◌≡◌, ◌≢◌, ℕ, suc, ◌+◌, ◌<◌, ◌==◌, Bool, true, false, List, [], ◌∷◌, ◌++◌, length, length-set, get_or, map, Option, Some, None, is_some, refl, sym, ap, ◌∙◌, arith}
 use Rattle.std.proofs.lemmas.Bool.Decides.{nat_tests}
 use Rattle.std.proofs.lemmas.List.{ext_get_or, get_or-set_same, length-append}
@@ -65,7 +65,7 @@ set_all_assigned says default n assigns =
     ∙ ap (unwrap_or (last_said says [] host assigns)) (get_or-map-range_with_len default 0 n host host (default 0) below (omega arith))
     ∙ sym (get_or-map-range_with_len (λ i. unwrap_or (last_said says [] i assigns) (default i)) 0 n host host (default 0) below (omega arith)))
 
--- the assign that is bad is one of those that are given
+-- A bad assign is one of the given assigns.
 within_by : {A : Type 0} (o : Option A) (n m k : ℕ) (later : Option ℕ) → (later ≡ Some k → k < n + 1 + m)
     → (if is_some o then later else Some n) ≡ Some k → k < n + suc m
 within_by None n m k later behind is = let same : n ≡ k = cc in omega (arith, same)
@@ -78,7 +78,7 @@ bad_within says earlier (a ∷ rest) k is =
     within_by (says earlier a) (length earlier) (length rest) k (bad_from says (earlier ++ a ∷ []) rest)
     (λ later. rw (length-append earlier (a ∷ [])) at (bad_within says (earlier ++ a ∷ []) rest k later)) is
 
--- host by host
+-- Host by host.
 pub attribute_at : {A : Type 0} (says : List Given → Given → Option A) (default : ℕ → A) (n : ℕ) (assigns : List Given) (host : ℕ)
     (d : A) → host < n
     → get_or (assigned says default n assigns) host d ≡ unwrap_or (last_said says [] host assigns) (default host)

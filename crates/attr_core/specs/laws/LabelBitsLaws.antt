@@ -1,5 +1,5 @@
--- The set of the labels that a table lists has the bits of their places, so that one set is within another exactly where each label of the
--- one is listed for the other.
+-- The set of the labels that a table lists has the bits of their indices. So one set is a subset of another if and only if each label of
+-- the former is listed for the latter.
 use Rattle.std.proofs.Common.{◌≡◌, ◌≤◌, ◌<◌, ◌↔◌, ℕ, ◌+◌, ◌^◌, max, min, nat_lt, bit_and, bit_or, ◌⊎◌, inl, inr, Bool, true, false, List, [], ◌∷◌, ◌++◌, append_assoc, append-nil, length, Option, Some, None, refl, sym, ap, ◌∙◌, subst, arith}
 use Rattle.std.proofs.lemmas.Bool.{and_parts, cases_eq, false≢true, or_cases, or_left, or_right}
 use Rattle.std.proofs.lemmas.Bool.Decides.{nat_tests}
@@ -17,11 +17,11 @@ use Rattle.toml.specs.Data.{Data, Members}
 use Rattle.attr_core.specs.inner.LabelWalk.{Known, LabelSet, all_labels, and_label, are_among, known_or_new, labels_at, new_label, numbered}
 use Rattle.attr_core.specs.Tainting.{bits_of, is_listed, label_in, labels_in}
 
--- the place of a label, from 0
+-- The index of a label, from 0.
 abbrev pub place_of : List (List ℕ) → List ℕ → Option ℕ
 place_of labels label = position_from (bytes_eq label) 0 labels
 
--- some labels, and more after them
+-- Some labels, followed by more.
 abbrev pub Extends : List (List ℕ) → List (List ℕ) → Type 0
 Extends all labels = (more : List (List ℕ)) × (all ≡ labels ++ more)
 
@@ -31,7 +31,7 @@ extends_self labels = ([], sym (append-nil labels))
 pub extends_both : (all some first : List (List ℕ)) → Extends all some → Extends some first → Extends all first
 extends_both all some first (behind, is) (between, was) = (between ++ behind, is ∙ ap (λ labels. labels ++ behind) was ∙ append_assoc first between behind)
 
--- a label keeps its place
+-- A label keeps its index.
 further_by : (b : Bool) (n k : ℕ) (later further : Option ℕ) → (later ≡ Some k → further ≡ Some k)
     → (if b then Some n else later) ≡ Some k → (if b then Some n else further) ≡ Some k
 further_by true n k later further behind is = is
@@ -46,7 +46,7 @@ pub keeps_place : (all labels : List (List ℕ)) (label : List ℕ) (k : ℕ) �
     → place_of all label ≡ Some k
 keeps_place all labels label k (more, is) found = ap (position_from (bytes_eq label) 0) is ∙ found_further (bytes_eq label) 0 k labels more found
 
--- a new one has the next place
+-- A new label has the next index.
 next_by : (b : Bool) (n k : ℕ) (later further : Option ℕ) → (later ≡ None → further ≡ Some k) → (if b then Some n else later) ≡ None
     → (if b then Some n else further) ≡ Some k
 next_by true n k later further behind is = cc
@@ -85,7 +85,7 @@ is_numbered : (labels : List (List ℕ)) (label : List ℕ) (known : Known) → 
 unfolding numbered
 is_numbered labels label known is = numbered_by labels label known (place_of labels label) refl is
 
--- no two labels have one place
+-- No two labels have the same index.
 not_before : (p : List ℕ → Bool) (n k : ℕ) (xs : List (List ℕ)) → position_from p n xs ≡ Some k → n ≤ k
 not_before p n k [] is = cc
 not_before p n k (x ∷ xs) is = by_test (p x) (not_before p (n + 1) k xs) is
@@ -109,7 +109,7 @@ one_place a b n k (x ∷ xs) first second = by_tests (bytes_eq a x) (bytes_eq b 
     by_tests false true is_a is_b behind one other = let same : n ≡ k = cc in let later = not_before (bytes_eq a) (n + 1) k xs one in absurd (omega (arith, same, later))
     by_tests false false is_a is_b behind one other = behind one other
 
--- a bit more
+-- One more bit.
 bit_more : (bits number k : ℕ) → (bit_at (bit_or bits (2 ^ number)) k ≡ 1) ↔ ((bit_at bits k ≡ 1) ⊎ (number ≡ k))
 bit_more bits number k = elim (cases_eq number k) [
   | inl same ↦ (
@@ -129,7 +129,7 @@ bit_more bits number k = elim (cases_eq number k) [
       )
 ]
 
--- some listed label has the place
+-- Some listed label has the index.
 abbrev pub Marks : List (List ℕ) → List (List ℕ) → ℕ → Type 0
 Marks all ls k = (l : List ℕ) × (is_listed ls l ≡ true) × (place_of all l ≡ Some k)
 
@@ -216,7 +216,7 @@ key_bits key labels table t is =
     let (ls, listed, are) = all_bits (record { labels = labels; bits = 0 }) ds t rest in
     (ls, rw is_ds listed, are))
 
--- one set within another
+-- One set is a subset of another.
 within_bits : (u t : ℕ) → are_among u t ≡ true → (k : ℕ) → bit_at u k ≡ 1 → bit_at t k ≡ 1
 within_bits u t among k has =
     let same : bit_and u t ≡ u = grind (arith, nat_tests) in
@@ -253,7 +253,7 @@ same_tests true b forth back = sym (forth refl)
 same_tests false true forth back = back refl
 same_tests false false forth back = refl
 
--- the host takes off only what it puts on exactly where each label of the one list is in the other
+-- The host removes only labels that it adds if and only if each label of the former list is in the latter.
 pub among_is : (labels ts us : List (List ℕ)) (t u : LabelSet) → AreBits labels 0 t ts → AreBits t.labels 0 u us
     → are_among u.bits t.bits ≡ list_all (is_listed ts) us
 among_is labels ts us t u taints untaints = same_tests (are_among u.bits t.bits) (list_all (is_listed ts) us)
@@ -269,7 +269,7 @@ among_is labels ts us t u taints untaints = same_tests (are_among u.bits t.bits)
       | inr (l, listed, place) ↦ (taints.marked u.labels untaints.grown k).1 (inr (l, each_listed ts us all l listed, place))
     ]))
 
--- a set of labels has the bits of their places
+-- A set of labels has the bits of their indices.
 pub bits_mark : (labels ls : List (List ℕ)) → ((l : List ℕ) → is_listed ls l ≡ true → (k : ℕ) × (place_of labels l ≡ Some k)) → (k : ℕ)
     → (bit_at (bits_of labels ls) k ≡ 1) ↔ Marks labels ls k
 bits_mark labels [] placed k = (λ has. zero_has k has, λ marks. absurd (false≢true marks.1))
@@ -302,7 +302,7 @@ same_bit a b first second forth back = elim (cases_eq a 1) [
   ]
 ]
 
--- the set that a walk comes to
+-- The set after an iteration.
 pub bits_are : (before ls : List (List ℕ)) (t : LabelSet) → AreBits before 0 t ls → (all : List (List ℕ)) → Extends all t.labels
     → t.bits ≡ bits_of all ls
 bits_are before ls t are all extends =

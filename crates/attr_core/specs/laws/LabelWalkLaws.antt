@@ -1,4 +1,4 @@
--- What the code takes in of an assign of `tainting` is what the assign says, and with it the labels of all assigns up to it.
+-- The code's result for an assign of `tainting` is the attribute of the assign, and the labels of all assigns up to it.
 use Rattle.std.proofs.Common.{◌≡◌, ◌≤◌, ◌<◌, ℕ, inl, inr, Bool, true, false, nat_lt, ◌&&◌, List, [], ◌∷◌, ◌++◌, append-nil, length, Option, Some, None, option_map, option_and_then, refl, sym, ap, ◌∙◌, subst, arith}
 use Rattle.std.proofs.lemmas.Bool.Decides.{nat_tests}
 use Rattle.std.proofs.lemmas.Grind.{flat_map-append}
@@ -17,14 +17,14 @@ different_append : (labels first second : List (List ℕ)) → different labels 
 different_append labels [] second = refl
 different_append labels (l ∷ first) second = different_append (with_label labels l) first second
 
--- the labels so far are the different ones of those that were listed
+-- The labels so far are the distinct labels of those that were listed.
 labels_told : (labels : List (List ℕ)) (table : Members) (l : Labelled) → length labels ≤ 64 → labelled labels table ≡ Some l
     → (l.labels ≡ different labels (told table)) × (length l.labels ≤ 64)
 labels_told labels table l few is =
     let (ts, us, first, second, same, small) = labelled_read labels table l few is in
     (rw (first, second) (same ∙ sym (different_append labels ts us)), small)
 
--- what two lists say
+-- The attribute of two lists.
 abbrev pub both_sets : ℕ → ℕ → Labels
 both_sets taints untaints = record { taints = taints; untaints = untaints }
 
@@ -64,7 +64,7 @@ both_said : (labels : List (List ℕ)) (taints untaints : Option (List (List ℕ
     → said_by_lists labels taints untaints ≡ Some (both_sets (bits_of labels ts) (bits_of labels us))
 both_said labels taints untaints ts us first second few all = rw (first, second, few, all) refl
 
--- where the walk says nothing
+-- If the iteration has no result.
 over_by : (n : ℕ) → 64 < n → nat_lt n 65 ≡ false
 over_by n over = grind (arith, nat_tests)
 
@@ -128,7 +128,7 @@ said_by_walk : (labels : List (List ℕ)) (table : Members) (o : Option Labelled
 said_by_walk labels table None few is = said_none labels table (bad_labels_are labels table few is)
 said_by_walk labels table (Some l) few is = said_some labels table l few is
 
--- some assigns more, and one
+-- Some more assigns, and one.
 pub told_all : (earlier more : List Given)
     → labels_of (earlier ++ more) ≡ different (labels_of earlier) (flat_map (λ (a : Given). told a.table) more)
 told_all earlier more =
@@ -138,14 +138,14 @@ told_all earlier more =
 pub told_more : (earlier : List Given) (a : Given) → labels_of (earlier ++ a ∷ []) ≡ different (labels_of earlier) (told a.table)
 told_more earlier a = told_all earlier (a ∷ []) ∙ ap (different (labels_of earlier)) (append-nil (told a.table))
 
--- what an assign says is what is taken in of it
+-- The attribute of an assign is the code's result for it.
 pub reads_is : (earlier : List Given) (a : Given) → length (labels_of earlier) ≤ 64
     → tainting_reads earlier a ≡ option_map (λ (l : Labelled). l.attribute) (labelled (labels_of earlier) a.table)
 reads_is earlier a few =
     ap (λ ls. said_of ls a.table) (told_more earlier a) ∙ said_lists (different (labels_of earlier) (told a.table)) a.table
     ∙ said_by_walk (labels_of earlier) a.table (labelled (labels_of earlier) a.table) few refl
 
--- and with it the labels up to it
+-- The labels up to it are part of the result.
 pub labels_more : (earlier : List Given) (a : Given) (l : Labelled) → length (labels_of earlier) ≤ 64 → labelled (labels_of earlier) a.table ≡ Some l
     → (l.labels ≡ labels_of (earlier ++ a ∷ [])) × (length l.labels ≤ 64)
 labels_more earlier a l few is =

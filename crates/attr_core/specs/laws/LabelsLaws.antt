@@ -1,4 +1,4 @@
--- What the code's walk through the labels of a table comes to: the labels that are listed, or why it says none.
+-- The result of the code's iteration over the labels of a table: the listed labels, or the reason why there is none.
 use Rattle.std.proofs.Common.{◌≡◌, ◌≤◌, ◌<◌, ℕ, ◌+◌, ◌^◌, bit_or, ◌⊎◌, inl, inr, Bool, true, false, ◌||◌, nat_lt, List, [], ◌∷◌, ◌++◌, length, Option, Some, None, option_and_then, is_some, refl, sym, ap, ◌∙◌, subst, arith}
 use Rattle.std.proofs.lemmas.Bool.Decides.{nat_tests}
 use Rattle.std.proofs.lemmas.List.{length-append}
@@ -13,7 +13,7 @@ use Rattle.toml.specs.Data.{Data, Members}
 use Rattle.attr_core.specs.inner.LabelWalk.{Known, LabelSet, Labelled, all_labels, and_label, are_among, known_or_new, labelled, labels_at, new_label, numbered}
 use Rattle.attr_core.specs.Tainting.{different, is_listed, label_in, labels_in, with_label}
 
--- too many
+-- Too many labels.
 pub record TooMany (labels : List (List ℕ)) (taints untaints : Option (List (List ℕ))) : Type 0 where
   pub first : List (List ℕ)
   pub second : List (List ℕ)
@@ -21,7 +21,7 @@ pub record TooMany (labels : List (List ℕ)) (taints untaints : Option (List (L
   pub behind : untaints ≡ Some second
   pub many : 64 < length (different (different labels first) second)
 
--- a label is taken off that is not put on
+-- A label is removed that is not added.
 pub record TakesOffMore (labels : List (List ℕ)) (table : Members) : Type 0 where
   pub taints : LabelSet
   pub untaints : LabelSet
@@ -29,7 +29,7 @@ pub record TakesOffMore (labels : List (List ℕ)) (table : Members) : Type 0 wh
   pub behind : labels_at (codes "untaints") taints.labels table ≡ Some untaints
   pub more : are_among untaints.bits taints.bits ≡ false
 
--- a label has a place exactly where it is listed
+-- A label has an index if and only if it is listed.
 placed_by : (b : Bool) (n : ℕ) (later : Option ℕ) (rest : Bool) → is_some later ≡ rest → is_some (if b then Some n else later) ≡ (b || rest)
 placed_by true n later rest is = refl
 placed_by false n later rest is = is
@@ -44,7 +44,7 @@ with_is : (labels : List (List ℕ)) (label : List ℕ)
     → (if is_some (position_from (bytes_eq label) 0 labels) then labels else labels ++ label ∷ []) ≡ with_label labels label
 with_is labels label = ap (λ b. if b then labels else labels ++ label ∷ []) (is_placed label 0 labels)
 
--- one label
+-- One label.
 abbrev known_as : List (List ℕ) → ℕ → Known
 known_as labels number = record { labels = labels; number = number }
 
@@ -78,7 +78,7 @@ full_by labels label None is = none_by (nat_lt (length labels) 64) refl is
         let above : 64 ≤ length labels = grind (arith, nat_tests) in
         omega (arith, above, length-append labels (label ∷ []))
 
--- labels are only added
+-- Labels are only added.
 kept_by : (b : Bool) (labels : List (List ℕ)) (label : List ℕ) → length labels ≤ length (if b then labels else labels ++ label ∷ [])
 kept_by true labels label = omega arith
 kept_by false labels label = omega (arith, length-append labels (label ∷ []))
@@ -87,7 +87,7 @@ pub more_labels : (labels more : List (List ℕ)) → length labels ≤ length (
 more_labels labels [] = omega arith
 more_labels labels (l ∷ ls) = omega (arith, kept_by (is_listed labels l) labels l, more_labels (with_label labels l) ls)
 
--- a list
+-- A list.
 abbrev set_of : List (List ℕ) → ℕ → LabelSet
 set_of labels bits = record { labels = labels; bits = bits }
 
@@ -117,7 +117,7 @@ all_read s (d ∷ ds) t few is =
     let (label, here, more, still) = one_read s d u few is_u in
     read_by s u t d ds label here more (all_read u ds t still rest))
 
--- where a list says nothing
+-- If a list is invalid.
 behind_by : (labels : List (List ℕ)) (d : Data) (ds : List Data) (label : List ℕ) (first : List (List ℕ)) (o : Option (List (List ℕ)))
     → label_in d ≡ Some label → each label_in ds ≡ o → first ≡ with_label labels label
     → ((ls : List (List ℕ)) → o ≡ Some ls → 64 < length (different first ls))
@@ -162,7 +162,7 @@ unfolding and_label
 all_fail s [] few is = cc
 all_fail s (d ∷ ds) few is = label_fails s d ds (label_in d) few refl (λ u still none. all_fail u ds still none) is
 
--- what a key says
+-- The labels at a key.
 key_read : (key : List ℕ) (labels : List (List ℕ)) (table : Members) (t : LabelSet) → length labels ≤ 64
     → labels_at key labels table ≡ Some t
     → (ls : List (List ℕ)) × (labels_in key table ≡ Some ls) × (t.labels ≡ different labels ls) × (length t.labels ≤ 64)
@@ -183,8 +183,8 @@ key_fails : (key : List ℕ) (labels : List (List ℕ)) (table : Members) → le
 unfolding labels_at all_labels
 key_fails key labels table few is = key_fails_by labels (list_or_empty key table) few is
 
--- a table says nothing behind these labels: one of its lists is none of labels, there are too many different ones, or it says more or
--- takes off more than it may
+-- A table has no attribute after these labels: one of its lists is no list of labels, there are too many distinct ones, or it removes a
+-- label that it does not add.
 abbrev pub IsBad : List (List ℕ) → Members → Type 0
 IsBad labels table =
     ((labels_in (codes "taints") table ≡ None) ⊎ (labels_in (codes "untaints") table ≡ None))
@@ -228,7 +228,7 @@ pub bad_labels_are : (labels : List (List ℕ)) (table : Members) → length lab
 unfolding labelled
 bad_labels_are labels table few is = first_by labels table (labels_at (codes "taints") labels table) few refl is
 
--- a table that says labels adds those that are listed, taints first
+-- A table with an attribute adds the listed labels, taints first.
 pub labelled_read : (labels : List (List ℕ)) (table : Members) (l : Labelled) → length labels ≤ 64 → labelled labels table ≡ Some l
     → (ts : List (List ℕ)) ×
     (us : List (List ℕ)) × (labels_in (codes "taints") table ≡ Some ts) × (labels_in (codes "untaints") table ≡ Some us) × (l.labels ≡ different (different labels ts) us) × (length l.labels ≤ 64)

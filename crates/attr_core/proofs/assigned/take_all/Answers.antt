@@ -11,7 +11,7 @@ use Rattle.attr_core.specs.laws.FormLaws.{set_all_assigned}
 use Rattle.attr_core.specs.declared.assign.Assign.{Assign}
 use Rattle.attr_core.proofs.assigned.take_all.Goals as goal
 
--- an assign of the code at its place among the given ones
+-- An assign of the code at its index among the given ones.
 at_place : (assigns : List Assign) (place : ℕ) (a : Assign) → place < length assigns → a ≡ get_or assigns place a
     → given_of a ≡ get_or (map given_of assigns) place (given_of a)
 at_place assigns place a within is = ap given_of is ∙ sym (get_or-map given_of assigns place a (given_of a) within)

@@ -17,7 +17,7 @@ IsMaster-with_sender DontCare sender h = h
 IsMaster-with_sender Care sender h = h
 IsMaster-with_sender (Master marks) sender h = h
 
--- the attribute of the host that was set
+-- The attribute of the host that was set.
 IsMaster-set : (xs new : List Partner) (i : ℕ) (p : Partner) → i < length xs → IsMaster p → new ≡ slice_set xs i p → IsMaster (slice_index_or new i DontCare)
 IsMaster-set xs new i p within is_master is = subst IsMaster (sym (ap (λ (ys : List Partner). slice_index_or ys i DontCare) is ∙ get_or-set_same xs i p DontCare within)) is_master
 

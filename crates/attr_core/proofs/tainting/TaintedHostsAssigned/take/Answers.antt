@@ -11,7 +11,7 @@ use Rattle.attr_core.proofs.tainting.TaintedHostsAssigned.take.Goals as goal
 abbrev with_sets : List (List ℕ) → ℕ × ℕ → Labelled
 with_sets labels sets = record { labels = labels; attribute = record { taints = sets.0; untaints = sets.1 } }
 
--- what the code took in is what the assign says after the earlier ones
+-- The code's result is the attribute of the assign after the earlier ones.
 read_as : (labels now : List (List ℕ)) (earlier : List Given) (a : Given) (o : Option (ℕ × ℕ)) → labels ≡ labels_of earlier → length labels ≤ 64
     → labelled labels a.table ≡ option_map (with_sets now) o
     → tainting_reads earlier a ≡ option_map (λ (l : Labelled). l.attribute) (option_map (with_sets now) o)
