@@ -1,4 +1,5 @@
--- Laws of entries: the prefixes of all hosts are what the entries say, and conditions on entries are ones on prefixes.
+-- Lemmas on entries: the prefixes of all hosts are those of the entries, and conditions on entries are conditions on
+-- prefixes.
 use Rattle.std.proofs.Common.{◌≡◌, ℕ, suc, ◌+◌, ◌≤◌, Bool, true, false, not, nat_lt, List, [], ◌∷◌, ◌++◌, map, length, Option, Some, None, refl, sym, ap, ◌∙◌, arith}
 use Rattle.std.proofs.lemmas.Bool.{and_parts}
 use Rattle.std.proofs.lemmas.Bool.Decides.{nat_tests}
@@ -37,12 +38,12 @@ said_from k (h ∷ hs) =
     ∙ (λ i. said_of_host k 1 h.at i ++ said_from (k + 1) hs i)
     ∙ sym (map-append prefix_of h.at (texts hs))
 
--- the entries say what their texts say
+-- An entry has the prefix that its text denotes.
 pub said_by_entries : (w : Written) → map (λ (e : Entry). e.prefix) (all_entries w) ≡ map prefix_of (texts w.hosts)
 unfolding all_entries
 said_by_entries w = said_from 1 w.hosts
 
--- a test of all entries that looks at what they say alone
+-- A test of all entries that depends only on their prefixes.
 pub all_texts : (p : Option Prefix → Bool) (w : Written)
     → list_all (λ (e : Entry). p e.prefix) (all_entries w) ≡ list_all (λ t. p (prefix_of t)) (texts w.hosts)
 all_texts p w =
@@ -63,7 +64,7 @@ length_texts w =
     ∙ sym (ap length (said_by_entries w))
     ∙ length-map (all_entries w) (λ (e : Entry). e.prefix)
 
--- the prefixes of all hosts are those that their entries say
+-- The prefixes of all hosts are those of their entries.
 prefixes_from : (hs : List WrittenHost) → all_prefixes (map network_host hs) ≡ filter_map prefix_of (texts hs)
 prefixes_from [] = refl
 prefixes_from (h ∷ hs) =
@@ -77,7 +78,7 @@ shorter_by : {A : Type 0} (o : Option A) (xs : List A) (n : ℕ) → length xs �
 shorter_by None xs n h = omega arith
 shorter_by (Some x) xs n h = omega arith
 
--- what is made of some elements is no longer than they are
+-- A filtered and mapped list is no longer than the original.
 pub no_longer : {A B : Type 0} (f : A → Option B) (xs : List A) → length (filter_map f xs) ≤ length xs
 no_longer f [] = omega arith
 no_longer f (x ∷ xs) = shorter_by (f x) (filter_map f xs) (length xs) (no_longer f xs)
@@ -89,7 +90,7 @@ prefix_count_entries w =
     sym (ap length (prefixes_of_texts w)) ∙ length-flat_map (λ (h : Host). h.prefixes) (network_hosts w) in
     omega (arith, few, all, length_texts w)
 
--- what an entry says is a network, where it is a prefix of at least one bit without bits after its length
+-- The prefix of an entry is a network, if it has at least one bit and no bits after its length.
 network_said : (t : List ℕ) (o : Option Prefix) (ps : List Prefix) → prefix_of t ≡ o
     → option_map_or (λ p. nat_lt 0 p.len) o false ≡ true → not (option_map_or (λ p. not (is_exact p)) o false) ≡ true
     → list_all is_network ps ≡ true → list_all is_network (cons_option o ps) ≡ true
@@ -105,7 +106,7 @@ networks (t ∷ ts) prefixes exact =
     let (exact_here, exact_behind) = and_parts (not (has_host_bits (prefix_of t))) _ exact in
     network_said t (prefix_of t) (filter_map prefix_of ts) refl prefix exact_here (networks ts prefixes_behind exact_behind)
 
--- entries that do not meet say prefixes that do not meet
+-- Entries that do not overlap have prefixes that do not overlap.
 later_said : (p : Prefix) (o : Option Prefix) (qs : List Prefix) → not (entries_meet o (Some p)) ≡ true
     → list_all (λ q. not (meets q p)) qs ≡ true → list_all (λ q. not (meets q p)) (cons_option o qs) ≡ true
 later_said p None qs here behind = behind

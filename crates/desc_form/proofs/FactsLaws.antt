@@ -1,4 +1,4 @@
--- None of the conditions 6 to 14 refuses a description exactly where the facts of HostFacts hold of it.
+-- Conditions 6 to 14 do not refuse a description if and only if the facts of HostFacts hold for it.
 use Rattle.std.proofs.Common.{◌≡◌, ◌≢◌, ◌↔◌, ◌⊎◌, inl, inr, ℕ, ℤ, pos, zero, suc, ◌≤◌, ◌<◌, ◌+◌, ◌^◌, IsTrue, Bool, true, false, not, ◌&&◌, ◌||◌, nat_lt, List, [], ◌∷◌, length, slice_get, Option, Some, None, option_map, refl, sym, ap, subst, arith}
 use Rattle.std.proofs.lemmas.Bool.{false≢true}
 use Rattle.std.proofs.lemmas.Bool.Decides.{Decides-int_eq, nat_tests}
@@ -41,7 +41,7 @@ either_passes false b first second = (
   λ either. elim either [ inl p ↦ absurd (false≢true (first.1 p)) | inr q ↦ second.1 q ],
 )
 
--- 6
+-- Condition 6.
 
 pub version_is : (v : ℤ) → (bad_version v ≡ None) ↔ ((v ≡ pos 1) ⊎ (v ≡ pos 2))
 unfolding bad_version
@@ -49,7 +49,7 @@ version_is v =
     then_words (none_where (not (int_eq v (pos 1) || int_eq v (pos 2))) (refused BadVersion place.Document))
     (then_words (not_words (int_eq v (pos 1) || int_eq v (pos 2))) (either_passes (int_eq v (pos 1)) (int_eq v (pos 2)) (Decides-int_eq v (pos 1)) (Decides-int_eq v (pos 2))))
 
--- 7
+-- Condition 7.
 none_beyond_limit : {A : Type 0} (limit : ℕ) (at_place : ℕ → Place) (xs : List A)
     → (beyond limit at_place xs ≡ None) ↔ (length xs ≤ limit)
 none_beyond_limit limit at_place xs =
@@ -94,7 +94,7 @@ sizes_are w =
           turn.1 (hosts.1 few_hosts, (entries.1 (subst (λ n. n ≤ prefix_limit) count few_prefixes), (invariants.1 few_invariants, (templates.1 few_templates, tt)))),
     )
 
--- 8
+-- Condition 8.
 pub all_legal : (names : List Mention) → (bad_name names ≡ None) ↔ (list_all (λ (m : Mention). is_name m.name) names ≡ true)
 unfolding bad_name
 all_legal names = passed_row (λ (m : Mention). is_name m.name) (λ (m : Mention). refused_item BadName m.place m.item) names
@@ -124,7 +124,7 @@ names_are w =
     (and_words {P = All (λ (h : WrittenHost). IsTrue (is_name h.name)) w.hosts} (list_all (λ (h : WrittenHost). is_name h.name) w.hosts) _ (all_tested (λ (h : WrittenHost). is_name h.name) w.hosts)
     (and_words (all_assigns is_name w.invariants) (all_ends is_name w.flows) (assigns_named w.invariants) (ends_named w.flows))))
 
--- 9
+-- Condition 9.
 abbrev pub same_name : WrittenHost → WrittenHost → Bool
 same_name h g = bytes_eq h.name g.name
 
@@ -135,7 +135,7 @@ hosts_differ : (hs : List WrittenHost) → (duplicate_host hs ≡ None) ↔ AllP
 unfolding duplicate_host
 hosts_differ hs = then_words (numbered_pairs_row same_name _ hs) (names_differ hs)
 
--- 10
+-- Condition 10.
 some_long : (n : ℕ) → nat_lt 0 n ≡ true → 0 < n
 some_long n h = grind (arith, nat_tests)
 
@@ -158,7 +158,7 @@ all_prefixes w =
     then_words (passed_row (λ (e : Entry). is_prefix e.prefix) (λ (e : Entry). refused_item BadPrefix (place.Host e.host) e.item) (all_entries w))
     (then_words (same_test (all_texts is_prefix w)) (all_say_prefixes (texts w.hosts)))
 
--- 11
+-- Condition 11.
 says_exact : (o : Option Prefix) → (has_host_bits o ≡ false) ↔ ((p : Prefix) → o ≡ Some p → IsTrue (is_exact p))
 says_exact None = (λ h p none. cc, λ all. refl)
 says_exact (Some p) =
@@ -176,7 +176,7 @@ all_exact w =
     then_words (each_row (λ (e : Entry). has_host_bits e.prefix) (λ (e : Entry). refused_item HostBits (place.Host e.host) e.item) (all_entries w))
     (then_words (same_test (all_texts (λ o. not (has_host_bits o)) w)) (all_say_exact (texts w.hosts)))
 
--- 12
+-- Condition 12.
 addressed : (ts : List (List ℕ)) (rest : Bool) → (lacks_address ts rest ≡ false) ↔ ((rest ≡ true) ↔ (ts ≡ []))
 addressed [] true = (λ h. (λ marked. refl, λ none. refl), λ iff. refl)
 addressed [] false = (λ h. cc, λ iff. absurd (false≢true (iff.1 refl)))
@@ -193,7 +193,7 @@ all_addressed hs =
     then_words (numbered_row (λ (h : WrittenHost). lacks_address h.at h.rest) (λ h. refused NoAddress (place.Host h.number)) hs)
     (have_addresses hs)
 
--- 13
+-- Condition 13.
 not_both : (a b : Bool) → ((b && a) ≡ false) ↔ (a ≡ true → b ≡ true → ⊥)
 not_both true true = (λ h. cc, λ never. absurd (never refl refl))
 not_both true false = (λ h first second. false≢true second, λ never. refl)
@@ -213,7 +213,7 @@ one_rest : (hs : List WrittenHost) → (two_rests hs ≡ None) ↔ AllPairs AreN
 unfolding two_rests
 one_rest hs = then_words (numbered_pairs_row both_rest _ hs) (rests_apart hs)
 
--- 14
+-- Condition 14.
 swapped : (p q : Prefix) → ShareAddress p q → ShareAddress q p
 swapped p q (a, within, first, second) = (a, within, second, first)
 
@@ -246,7 +246,7 @@ all_apart w =
     then_words (pairs_row (λ (e f : Entry). entries_meet e.prefix f.prefix) _ (all_entries w))
     (then_words (same_test (no_pair_texts entries_meet w)) (texts_apart (texts w.hosts)))
 
--- 6 to 14: none of the conditions refuses a description exactly where these facts hold of it
+-- Conditions 6 to 14 do not refuse a description if and only if these facts hold for it.
 pub has_hosts : (w : Written) → (first_of (host_conditions w) ≡ None) ↔ HasHosts w
 unfolding host_conditions
 has_hosts w = (

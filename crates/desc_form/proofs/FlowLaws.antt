@@ -1,5 +1,5 @@
--- A flow is read from a value exactly where the value is the array of its texts; and flows fit a version exactly where it is 2 or
--- none of them has services.
+-- A flow is parsed from a value if and only if the value is the array of its strings. Flows are valid for a version if and only if it is 2
+-- or none of them has services.
 use Rattle.std.proofs.Common.{◌≡◌, ◌≢◌, ℕ, ℤ, pos, Bool, true, false, ◌||◌, ◌==◌, suc, ◌-◌, ◌<◌, ◌≤◌, List, [], ◌∷◌, length, Option, Some, None, option_map, option_and_then, refl, ap, ◌∙◌, sym, subst, arith}
 use Rattle.std.proofs.lemmas.Bool.{and_parts, false≢true}
 use Rattle.std.proofs.lemmas.Bool.Decides.{Decides-int_eq, nat_tests}
@@ -17,7 +17,7 @@ use Rattle.table_core.specs.Listing.{each}
 use Rattle.table_core.specs.Tables.{elements, elements_of}
 use Rattle.text_core.proofs.StepsLaws.{bind_some}
 
--- each text of a list is read, and only of a list of texts
+-- Each string of a list is parsed, and only lists of strings are parsed.
 texts_by : (d : Data) (ds : List Data) (here : Option (List ℕ)) (rest : Option (List (List ℕ))) (texts : List (List ℕ)) → as_str d ≡ here
     → each as_str ds ≡ rest → ((others : List (List ℕ)) → rest ≡ Some others → AllZip IsText ds others)
     → option_and_then (λ x. option_map (λ xs. x ∷ xs) rest) here ≡ Some texts → AllZip IsText (d ∷ ds) texts
@@ -43,7 +43,7 @@ flow_texts [] f said = cc
 flow_texts (a ∷ []) f said = cc
 flow_texts (a ∷ b ∷ texts) f said = cc
 
--- what is read of a value is the flow that it is
+-- The flow that is parsed from a value corresponds to the value.
 pub flow_read : (d : Data) (f : WrittenFlow) → flow_written d ≡ Some f → IsFlow d f
 unfolding flow_written elements_of
 flow_read (array ds) f read =
@@ -55,7 +55,7 @@ pub flow_says : (d : Data) (f : WrittenFlow) → IsFlow d f → flow_written d �
 unfolding flow_written elements_of
 flow_says d f (ds, is_array, zipped) = rw (is_array, texts_say (elements ds) (f.from ∷ f.to ∷ f.services) zipped) refl
 
--- ---- values, the services apart
+-- ---- values, without the services
 
 all_texts : (ds : List Data) → list_all is_text ds ≡ true → each as_str ds ≡ Some (filter_map as_str ds)
 all_texts [] all = refl
@@ -81,7 +81,7 @@ pub values_no_texts : (a b : Data) (ds : List Data) (from to : List ℕ) → as_
     → flow_of_values (a ∷ b ∷ ds) ≡ None
 values_no_texts a b ds from to first second none = rw (first, second, not_all_texts ds none) refl
 
--- their number alone
+-- Their number only.
 pub no_services : (ds : List Data) → list_all is_text ds ≡ false → option_map (λ (f : WrittenFlow). length f.services) (flow_of_values ds) ≡ None
 no_services ds none = rw (not_all_texts ds none) refl
 
@@ -116,7 +116,7 @@ differs : (n : ℤ) → n ≢ pos 2 → (b : Bool) → int_eq n (pos 2) ≡ b �
 differs n other false is = refl
 differs n other true is = absurd (other ((Decides-int_eq n (pos 2)).0 is))
 
--- flows that fit a version other than 2 have no services
+-- Flows that are valid for a version other than 2 have no services.
 pub whole_where : (n : ℤ) (fs : List WrittenFlow) → list_all (fits_version (Some n)) fs ≡ true → n ≢ pos 2
     → All (λ (f : WrittenFlow). f.services ≡ []) fs
 whole_where n [] fit other = All-nil (λ (f : WrittenFlow). f.services ≡ [])
@@ -145,12 +145,12 @@ fit_by n fs true two whole = fit_two n fs two
 fit_by n fs false two whole =
     fit_whole n fs (whole (λ same. false≢true (sym two ∙ (Decides-int_eq n (pos 2)).1 same)))
 
--- flows fit a version if it is 2 or none of them has services
+-- Flows are valid for a version if it is 2 or none of them has services.
 pub fit_where : (n : ℤ) (fs : List WrittenFlow) → (n ≢ pos 2 → All (λ (f : WrittenFlow). f.services ≡ []) fs)
     → list_all (fits_version (Some n)) fs ≡ true
 fit_where n fs whole = fit_by n fs (int_eq n (pos 2)) refl whole
 
--- the version that a document says is the number at its key
+-- The version of a document is the number at its key.
 pub said_version : (o : Option Data) (n : ℤ) → IsSomeAnd o (λ d. IsInteger d n) → option_and_then as_integer o ≡ Some n
 said_version None n stands = absurd stands
 said_version (Some d) n stands = rw stands refl

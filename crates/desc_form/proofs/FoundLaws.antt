@@ -1,4 +1,4 @@
--- What is found when all places were gone through is the first place for each of the three conditions.
+-- The findings after all places are the first places for each of the three conditions.
 use Rattle.std.proofs.Common.{◌≡◌, ℕ, ℤ, ◌+◌, Bool, true, false, cond, List, [], ◌∷◌, ◌++◌, map, Option, Some, None, option_map, refl, ap, ◌∙◌, sym}
 use Rattle.std.specs.Prelude.{find, flat_map, codes}
 use Rattle.std.specs.Option.{option_or}
@@ -25,7 +25,7 @@ after_invariants_is f k (d ∷ ds) =
     after_invariants_is (after_all f here) (k + 1) ds
     ∙ sym (after_append f here (flat_map invariant_spots (numbered_from (k + 1) ds)))
 
--- the place of the first of some spots where a condition holds
+-- The place of the first spot whose value satisfies a condition.
 abbrev place_of : (Place → Data → Bool) → List Spot → Option Place
 place_of holds ss = option_map (λ s. s.place) (find (λ s. holds s.place s.value) ss)
 
@@ -63,7 +63,7 @@ after_is f (s ∷ ss) =
       first_more (has_wrong_type f.version) f.wrong s ss,
     ) refl
 
--- the document, then the hosts, then the invariants, then the flows, then the templates
+-- The document, then the hosts, then the invariants, then the flows, then the templates.
 pub in_parts : (ms : Members)
     → after_all (after_all (after_invariants (after_all (after (nothing_found (version_said ms)) (record { place = Document; value = table ms }))
     (map (spot_in Host) (numbered (listed (codes "host") ms)))) 1 (listed (codes "invariant") ms))
@@ -83,7 +83,7 @@ in_parts ms =
     ∙ after_append (after_all (after_all start hosts) invariants) flows templates)
     ∙ after_is (nothing_found (version_said ms)) (spots ms)
 
--- that place is refused
+-- The refusal of that place.
 mapped_twice : {A B C : Type 0} (f : A → B) (g : B → C) (o : Option A) → option_map g (option_map f o) ≡ option_map (λ x. g (f x)) o
 mapped_twice f g None = refl
 mapped_twice f g (Some x) = refl

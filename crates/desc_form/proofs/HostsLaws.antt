@@ -1,4 +1,4 @@
--- The hosts of a description that none of the conditions 6 to 14 refuses are hosts, and its sizes are within the limits.
+-- The hosts of a description that none of conditions 6 to 14 refuses are valid, and its sizes are within the limits.
 use Rattle.std.proofs.Common.{◌≡◌, ℕ, IsTrue, Bool, true, false, not, ◌&&◌, nat_lt, List, [], ◌∷◌, map, length, Option, Some, None, refl, sym, ap, ◌∙◌, arith}
 use Rattle.std.proofs.lemmas.Bool.{and_parts}
 use Rattle.std.proofs.lemmas.List.{length-map}
@@ -25,14 +25,14 @@ use Rattle.host_net.specs.inner.Hosts.{IsHosts, is_network}
 use Rattle.host_net.specs.Prefix.{meets, prefix_of}
 use Rattle.host_net.specs.declared.prefix.Prefix.{Prefix}
 
--- 8: the names of hosts, in assigns and in flows are names
+-- 8: the names of hosts, in assigns and in flows are legal.
 pub legal_names : (w : Written) → first_of (host_conditions w) ≡ None → IsTrue (list_all (λ (m : Mention). is_name m.name) (all_names w))
 unfolding host_conditions
 legal_names w h =
     let (_, (_, (names, _))) = (in_turn (host_conditions w)).0 h in
     (all_legal (all_names w)).0 names
 
--- a host has prefixes where it has entries
+-- A host has prefixes if it has entries.
 addressed_said : (o : Option Prefix) (ps : List Prefix) (rest : Bool) → option_map_or (λ p. nat_lt 0 p.len) o false ≡ true
     → not rest ≡ true → not (lacks_address (cons_option o ps) rest) ≡ true
 addressed_said None ps rest prefix address = cc
@@ -68,7 +68,7 @@ no_pair_hosts : (r : Host → Host → Bool) (w : Written) → no_pair (λ h g. 
 unfolding network_hosts
 no_pair_hosts r w h = no_pair-map r network_host w.hosts ∙ h
 
--- the hosts of a description that no condition on hosts refuses
+-- The hosts of a description that no condition on hosts refuses.
 hosts_by : (w : Written) → HasHosts w → IsHosts (network_hosts w)
 unfolding network_hosts
 hosts_by w has =

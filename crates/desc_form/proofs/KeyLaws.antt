@@ -1,4 +1,4 @@
--- What the tests of a key say of what stands there, and the other way.
+-- The tests of a key are equivalent to facts about its value.
 use Rattle.std.proofs.Common.{◌≡◌, ℕ, ℤ, pos, Bool, true, false, not, ◌||◌, List, [], ◌∷◌, Option, Some, None, Ordering, Less, Equal, Greater, nat_cmp, refl, ap, ◌∙◌, sym, subst}
 use Rattle.std.proofs.lemmas.Bool.{and_parts, false≢true}
 use Rattle.std.proofs.lemmas.Map.Lookups.{exact_bytes}
@@ -14,7 +14,7 @@ use Rattle.desc_form.specs.inner.WrittenForm.{IsAnswers, IsArray, IsBoolean, IsI
 use Rattle.table_core.specs.Keys.{is_one_of, is_text}
 use Rattle.table_core.specs.Tables.{all_keys, elements, elements_of, has_only, keys_in}
 
--- what the tests of a key say, by what stands there
+-- The facts about the value that the tests of a key imply.
 pub text_stands : (o : Option Data) → is_some o ≡ true → (not (is_some o) || is_some (option_and_then as_str o)) ≡ true
     → IsSomeAnd o (λ d. IsText d (unwrap_or (option_and_then as_str o) []))
 text_stands None there suits = cc
@@ -33,7 +33,7 @@ boolean_stands None suits = refl
 boolean_stands (Some (boolean b)) suits = refl
 boolean_stands (Some _) suits = cc
 
--- the two words for answers
+-- The two words for answers.
 abbrev pub is_answers : List ℕ → Bool
 is_answers word = is_one_of (codes "all" ∷ codes "none" ∷ []) word
 
@@ -41,7 +41,7 @@ first_of_two : (a b : Bool) → b ≡ false → (a || (b || false)) ≡ true →
 first_of_two true b is_false either = refl
 first_of_two false b is_false either = cc
 
--- the word that is not the second of the two is the first
+-- A word that is one of the two but not the second is the first.
 answers_word : (s : List ℕ) (b : Bool) → bytes_eq s (codes "none") ≡ b → is_answers s ≡ true
     → s ≡ (if not b then codes "all" else codes "none")
 answers_word s true is_none suits = (bytes_eq-Decides s (codes "none")).0 is_none
@@ -84,7 +84,7 @@ texts_stand_or None suits = refl
 texts_stand_or (Some (array ds)) suits = (ds, refl, all_texts (elements ds) suits)
 texts_stand_or (Some _) suits = cc
 
--- what has to be there is there
+-- A required value is present.
 pub there : (P : Type 0) (Q : Data → Type 0) (o : Option Data) → is_some o ≡ true → MatchOption o P Q → IsSomeAnd o Q
 there P Q None is stands = cc
 there P Q (Some d) is stands = stands
@@ -97,7 +97,7 @@ pub some_there : (Q : Data → Type 0) (o : Option Data) → IsSomeAnd o Q → i
 some_there Q None stands = absurd stands
 some_there Q (Some d) stands = refl
 
--- nothing stands at a key that is none of those that the table has
+-- A key that is not among the keys of the table has no value.
 pub absent_by : (o : Ordering) (keys : List (List ℕ)) (key l : List ℕ) (d : Data) (ms : Members) → slice_cmp nat_cmp key l ≡ o
     → list_any (bytes_eq key) keys ≡ false → list_any (bytes_eq l) keys ≡ true → get_member key ms ≡ None
     → match_ordering o (get_member key ms) (Some d) (get_member key ms) ≡ None
@@ -118,7 +118,7 @@ pub absent : (keys : List (List ℕ)) (key : List ℕ) (ms : Members) → list_a
 unfolding has_only
 absent keys key ms out only = absent_in keys key ms out only
 
--- the other way: what stands at a key passes its tests
+-- Conversely, a valid value of a key passes its tests.
 pub text_suits : (o : Option Data) (x : List ℕ) → IsSomeAnd o (λ d. IsText d x)
     → (is_some o ≡ true) × ((not (is_some o) || is_some (option_and_then as_str o)) ≡ true)
 text_suits None x stands = absurd stands
@@ -149,7 +149,7 @@ unfolding elements_of
 array_suits Is None xs stands = refl
 array_suits Is (Some d) xs (ds, is_array, zipped) = rw is_array refl
 
--- and its elements are the list
+-- Its elements correspond to the list.
 pub array_zips : {A : Type 0} (Is : Data → A → Type 0) (o : Option Data) (xs : List A) → MatchOption o (xs ≡ []) (λ d. IsArray Is d xs)
     → AllZip Is (unwrap_or (option_and_then elements_of o) []) xs
 unfolding elements_of

@@ -1,4 +1,4 @@
--- Tests of all the names that stand in a description, place by place.
+-- Tests of all names that are used in a description, place by place.
 use Rattle.std.proofs.Common.{◌≡◌, ℕ, ◌+◌, Bool, true, false, cond, not, ◌&&◌, List, [], ◌∷◌, ◌++◌, map, Option, Some, option_map, refl, ap, ◌∙◌}
 use Rattle.std.proofs.lemmas.List.Folds.{list_all-append}
 use Rattle.std.specs.List.{find, flat_map, list_all}
@@ -45,7 +45,7 @@ flows_tested : (test : List ℕ → Bool) (k : ℕ) (fs : List WrittenFlow)
 flows_tested test k [] = refl
 flows_tested test k (f ∷ fs) = both_then (test f.from) (test f.to) _ (all_ends test fs) (flows_tested test (k + 1) fs)
 
--- the names that stand for hosts: in assigns, then in flows
+-- The names that refer to hosts: in assigns, then in flows.
 pub used_tested : (test : List ℕ → Bool) (w : Written)
     → list_all (λ (m : Mention). test m.name) (used_names w) ≡ (all_assigns test w.invariants && all_ends test w.flows)
 unfolding used_names
@@ -53,7 +53,7 @@ used_tested test w =
     list_all-append (λ (m : Mention). test m.name) (flat_map assign_names_of (numbered w.invariants)) (flat_map flow_names_of (numbered w.flows))
     ∙ (λ t. invariants_tested test 1 w.invariants t && flows_tested test 1 w.flows t)
 
--- all names: of hosts, then those
+-- All names: those of hosts, then those that refer to hosts.
 pub names_tested : (test : List ℕ → Bool) (w : Written)
     → list_all (λ (m : Mention). test m.name) (all_names w)
     ≡ (list_all (λ (h : WrittenHost). test h.name) w.hosts && (all_assigns test w.invariants && all_ends test w.flows))
@@ -62,7 +62,7 @@ names_tested test w =
     list_all-append (λ (m : Mention). test m.name) (map host_name (numbered w.hosts)) (used_names w)
     ∙ (λ t. hosts_tested test 1 w.hosts t && used_tested test w t)
 
--- the first name that is no legal one, part by part
+-- The first illegal name, part by part.
 found_by : {A B : Type 0} (tell : A → B) (b : Bool) (x : A) (here behind : Option A) (rest : Option B)
     → option_map tell behind ≡ option_or (option_map tell here) rest
     → option_map tell (cond b (Some x) behind) ≡ option_or (option_map tell (cond b (Some x) here)) rest

@@ -1,4 +1,4 @@
--- Where a search finds nothing, in plain words: exactly where each element fails its test, or each two of them.
+-- A search that finds nothing, as facts: if and only if each element fails its test, or each pair of elements does.
 use Rattle.std.proofs.Common.{◌≡◌, ◌↔◌, ℕ, zero, suc, ◌<◌, Bool, true, false, not, ◌&&◌, List, [], ◌∷◌, ◌++◌, Option, None, refl, ap, arith}
 use Rattle.std.proofs.lemmas.Bool.{and_from, and_parts}
 use Rattle.std.proofs.lemmas.List.Elements.{All-from_recursion, recursion_from_All}
@@ -14,7 +14,7 @@ not_true : (b : Bool) → not b ≡ true → b ≡ false
 not_true true h = cc
 not_true false h = refl
 
--- a test of each element
+-- A test of each element.
 pub tested_by : {A : Type 0} (p : A → Bool) (xs : List A) → list_all p xs ≡ true → AllByRecursion (λ x. p x ≡ true) xs
 tested_by p [] h = tt
 tested_by p (x ∷ xs) h = let (here, behind) = and_parts (p x) (list_all p xs) h in (here, tested_by p xs behind)
@@ -34,7 +34,7 @@ none_tested p xs =
     let tested = all_tested (λ x. not (p x)) xs in
     (λ h k d within. not_true _ (tested.0 h k d within), λ all. tested.1 (λ k d within. ap not (all k d within)))
 
--- a test of each two elements
+-- A test of each pair of elements.
 none_below : (j : ℕ) → j < 0 → ⊥
 none_below j h = omega arith
 
@@ -60,7 +60,8 @@ pairs_testing r (x ∷ xs) pairs =
 pub no_pair_tested : {A : Type 0} (r : A → A → Bool) (xs : List A) → (no_pair r xs ≡ true) ↔ AllPairs (λ x y. r y x ≡ false) xs
 no_pair_tested r xs = (pairs_tested r xs, pairs_testing r xs)
 
--- the other way of the laws of firsts: what no element meets is not found, and where no element bars a later one there is no pair
+-- The converse of the lemmas on first matches: an element that satisfies no test is not found, and without a conflicting element there is
+-- no pair.
 pub unfound : {A : Type 0} (p : A → Bool) (xs : List A) → list_all (λ x. not (p x)) xs ≡ true → find p xs ≡ None
 unfound p [] h = refl
 unfound p (x ∷ xs) h =
@@ -88,7 +89,7 @@ unbarred_behind {A} bars before (x ∷ xs) apart unbarring =
 pub unbarred : {A : Type 0} (bars : A → A → Bool) (xs : List A) → no_pair bars xs ≡ true → first_pair bars xs ≡ None
 unbarred bars xs apart = unbarred_behind bars [] xs apart refl
 
--- a condition that is told where a test holds, and two conditions in turn
+-- A condition that is reported if a test holds, and two conditions in order.
 pub none_where : {A : Type 0} (holds : Bool) (x : A) → (where_holds holds x ≡ None) ↔ (holds ≡ false)
 none_where holds x = (holds_not holds x, λ not_here. rw not_here refl)
 

@@ -1,4 +1,4 @@
--- A pair is read from a value exactly where the value is the array of its two texts.
+-- A pair is parsed from a value if and only if the value is the array of its two strings.
 use Rattle.std.proofs.Common.{◌≡◌, ℕ, suc, Bool, true, false, ◌==◌, List, [], ◌∷◌, length, Option, Some, None, option_map, refl, ap, ◌∙◌, sym, subst, arith}
 use Rattle.std.proofs.lemmas.Bool.{and_parts}
 use Rattle.std.proofs.lemmas.Bool.Decides.{nat_tests}
@@ -19,7 +19,7 @@ none_behind : {A : Type 0} (xs : List A) → (length xs == 0) ≡ true → xs �
 none_behind [] is = refl
 none_behind (x ∷ xs) is = absurd (some_long (length xs) is)
 
--- the flow of a pair has nothing behind its two texts
+-- The flow of a pair has nothing after its two strings.
 pair_by : (from to : List ℕ) (services : List (List ℕ)) (b : Bool) (p : WrittenPair) → (length services == 0) ≡ b
     → (if b then Some (record { sender = from; receiver = to }) else None) ≡ Some p → from ∷ to ∷ services ≡ p.sender ∷ p.receiver ∷ []
 pair_by from to services true p is said =
@@ -29,7 +29,7 @@ pair_by from to services true p is said =
     λ i. sender i ∷ receiver i ∷ none i
 pair_by from to services false p is said = cc
 
--- what is read of a value is the pair that it is
+-- The pair that is parsed from a value corresponds to the value.
 pub pair_read : (d : Data) (p : WrittenPair) → pair_written d ≡ Some p → IsPair d p
 unfolding pair_written
 pair_read d p read =
@@ -49,7 +49,7 @@ pair_first : (d : Data) (ds : List Data) (o : Option WrittenPair) → pair_writt
 pair_first d ds None read there zipped = cc
 pair_first d ds (Some p) read there zipped = (pair_read d p read, zipped)
 
--- where each element is a pair, each is read
+-- If each element is a pair, each is parsed.
 pub pairs_read : (ds : List Data) → list_all (λ d. is_some (pair_written d)) ds ≡ true → AllZip IsPair ds (filter_map pair_written ds)
 pairs_read [] all = tt
 pairs_read (d ∷ ds) all =
@@ -61,7 +61,7 @@ pairs_say [] ps zipped = refl
 pairs_say (d ∷ ds) [] zipped = absurd zipped
 pairs_say (d ∷ ds) (p ∷ ps) (is, zipped) = rw (pair_says d p is, pairs_say ds ps zipped) refl
 
--- a value is a pair where it is a flow without services
+-- A value is a pair if it is a flow without services.
 abbrev paired : List ℕ → List ℕ → Bool → Option WrittenPair
 paired from to b = if b then Some (record { sender = from; receiver = to }) else None
 

@@ -1,5 +1,5 @@
--- A condition refuses nothing exactly where a test passes, form by form: one test, a test of each element or of each two, what is found
--- in one element after the other, and several conditions in turn. And a test passes exactly where its words hold.
+-- A condition refuses nothing if and only if a test passes, form by form: a single test, a test of each element or of each pair, a search
+-- in each element in order, and several conditions in order. A test passes if and only if the facts hold.
 use Rattle.std.proofs.Common.{◌≡◌, ◌≢◌, ◌↔◌, ℕ, ◌+◌, ◌≤◌, Bool, true, false, not, ◌&&◌, nat_lt, List, [], ◌∷◌, Option, None, option_map, refl, sym, ap, ◌∙◌, arith}
 use Rattle.std.proofs.lemmas.Bool.{and_from, and_parts, false≢true}
 use Rattle.std.proofs.lemmas.Bool.Decides.{nat_tests}
@@ -20,13 +20,13 @@ as_it_is = (λ a. a, λ a. a)
 pub same_test : {a b : Bool} → a ≡ b → (a ≡ true) ↔ (b ≡ true)
 same_test same = (λ h. sym same ∙ h, λ h. same ∙ h)
 
--- ---- what a test says
+-- ---- the facts of a test
 
 pub not_words : (b : Bool) → (not b ≡ false) ↔ (b ≡ true)
 not_words true = (λ h. refl, λ h. refl)
 not_words false = (λ h. cc, λ h. cc)
 
--- a test that is not passed, for one that decides a fact
+-- A test that fails, for a test that decides a fact.
 pub never_words : (b : Bool) (P : Type 0) → (b ≡ true → P) → (P → b ≡ true) → (b ≡ false) ↔ (P → ⊥)
 never_words true P says said = (λ h. cc, λ never. absurd (never (says refl)))
 never_words false P says said = (λ h p. false≢true (said p), λ never. refl)
@@ -49,13 +49,13 @@ few_words limit n = (small limit n, not_beyond limit n)
 pub unequal_words : (a b : List ℕ) → (bytes_eq a b ≡ false) ↔ (a ≢ b)
 unequal_words a b = let same = bytes_eq-Decides a b in never_words (bytes_eq a b) (a ≡ b) same.0 same.1
 
--- the same, where the later one is asked first
+-- The same, with the two arguments exchanged.
 pub differ_words : (a b : List ℕ) → (bytes_eq b a ≡ false) ↔ (a ≢ b)
 differ_words a b =
     let same = bytes_eq-Decides b a in
     never_words (bytes_eq b a) (a ≡ b) (λ t. sym (same.0 t)) (λ e. same.1 (sym e))
 
--- ---- what a test of each element, or of each two, says
+-- ---- the facts of a test of each element, or of each pair
 
 weaker : {A : Type 0} (P Q : A → Type 0) (xs : List A) → ((x : A) → P x → Q x) → All P xs → All Q xs
 weaker P Q xs step all = λ k d within. step _ (all k d within)
@@ -80,9 +80,9 @@ pairs_say r R say xs =
     then_words (no_pair_tested r xs)
     (weaker_pairs (λ x y. r y x ≡ false) R xs (λ x y. (say x y).0), weaker_pairs R (λ x y. r y x ≡ false) xs (λ x y. (say x y).1))
 
--- ---- what refuses nothing
+-- ---- conditions that refuse nothing
 
--- the first element that meets a test
+-- The first element that satisfies a test.
 pub each_row : {A B : Type 0} (p : A → Bool) (tell : A → B) (xs : List A)
     → (option_map tell (find p xs) ≡ None) ↔ (list_all (λ x. not (p x)) xs ≡ true)
 each_row p tell xs = (λ none. none_found p xs (none_mapped tell (find p xs) none), λ all. ap (option_map tell) (unfound p xs all))
@@ -99,12 +99,12 @@ not_twice false = refl
 pub all_twice : {A : Type 0} (p : A → Bool) (xs : List A) → list_all (λ x. not (not (p x))) xs ≡ list_all p xs
 all_twice p xs = λ k. list_all (λ x. not_twice (p x) k) xs
 
--- the first element that fails a test
+-- The first element that fails a test.
 pub passed_row : {A B : Type 0} (p : A → Bool) (tell : A → B) (xs : List A)
     → (option_map tell (find (λ x. not (p x)) xs) ≡ None) ↔ (list_all p xs ≡ true)
 passed_row p tell xs = then_words (each_row (λ x. not (p x)) tell xs) (same_test (all_twice p xs))
 
--- the first element that an earlier one bars
+-- The first element that conflicts with an earlier one.
 pub pairs_row : {A B : Type 0} (bars : A → A → Bool) (tell : Pair A → B) (xs : List A)
     → (option_map tell (first_pair bars xs) ≡ None) ↔ (no_pair bars xs ≡ true)
 pairs_row bars tell xs = (
@@ -117,7 +117,7 @@ pub numbered_pairs_row : {A B : Type 0} (bars : A → A → Bool) (tell : Pair (
 numbered_pairs_row {A} bars tell xs =
     then_words (pairs_row (λ (x y : Numbered A). bars x.what y.what) tell (numbered xs)) (same_test (no_pair_numbered bars 1 xs))
 
--- what is found first in one element after the other
+-- The first finding in a list of elements.
 abbrev pub nth : {A : Type 0} → ℕ → A → Numbered A
 nth k x = record { number = k; what = x }
 
@@ -134,7 +134,7 @@ pub tested_row : {A B : Type 0} (f : Numbered A → Option B) (test : A → Bool
     → (xs : List A) → (first_found f (numbered xs) ≡ None) ↔ (list_all test xs ≡ true)
 tested_row f test says xs = then_words (found_row f (λ x. test x ≡ true) says 1 xs) (testing test xs, tested_by test xs)
 
--- several conditions in turn
+-- Several conditions in order.
 pub in_turn : {A : Type 0} (os : List (Option A)) → (first_of os ≡ None) ↔ AllByRecursion (λ o. o ≡ None) os
 in_turn [] = (λ none. tt, λ all. refl)
 in_turn (o ∷ os) =

@@ -1,5 +1,5 @@
--- A description of the right form is shallow: it has six arrays and tables one in another at most, and in them no date, no time and
--- no float, if that is so of the tables of its assigns. Their further keys are left to the templates.
+-- A description of a valid form is shallow: it nests at most six arrays and tables, without dates, times and floats, if this holds for the
+-- tables of its assigns. Their further keys depend on the templates.
 use Rattle.std.specs.Ordering.{int_eq}
 use Rattle.std.proofs.Common.{◌≡◌, ℕ, suc, pos, ◌≤◌, Bool, true, false, List, [], ◌∷◌, Option, Some, None, refl, sym, subst, arith}
 use Rattle.std.specs.List.{AllByRecursion, AllZip}
@@ -12,7 +12,7 @@ use Rattle.table_core.specs.Shallow.{IsShallow}
 use Rattle.table_core.proofs.ShallowLaws.{IsShallowAt, array_shallow, table_shallow}
 use Rattle.table_core.specs.Tables.{elements}
 
--- whatever says something of this kind has so many levels at most
+-- A value of this form has at most this many levels.
 abbrev AreShallow : {A : Type 0} → (Data → A → Type 0) → ℕ → Type 0
 AreShallow {A = A} Is n = (d : Data) (x : A) → is_sorted d ≡ true → Is d x → IsShallow n d
 
@@ -35,7 +35,7 @@ arrays_are : {A : Type 0} (Is : Data → A → Type 0) (n : ℕ) → AreShallow 
 arrays_are Is n each d xs sorted (ds, is, zipped) =
     subst (IsShallow (suc n)) (sym is) (array_shallow Is n each ds xs (subst (λ (e : Data). is_sorted e ≡ true) is sorted) zipped)
 
--- whatever stands at a key has so many levels at most
+-- The value at a key has at most this many levels.
 stands_by : {A : Type 0} (Is : Data → A → Type 0) (n m : ℕ) → n ≤ m → AreShallow Is n → (o : Option Data) (x : A) → IsSomeAnd o (λ d. Is d x)
     → (d : Data) → o ≡ Some d → is_sorted d ≡ true → IsShallow m d
 stands_by Is n m less each None x stands d is sorted = absurd stands
@@ -61,7 +61,7 @@ tables_are : {A : Type 0} (Is : Members → A → Type 0) (n : ℕ) → ((ms : M
 tables_are Is n each d x sorted (ms, is, fits) =
     subst (IsShallow n) (sym is) (each ms x (subst (λ (e : Data). is_sorted e ≡ true) is sorted) fits)
 
--- table by table
+-- Table by table.
 host_is : (ms : Members) (h : WrittenHost) → members_are_sorted ms ≡ true → IsHost ms h → IsShallow 2 (table ms)
 host_is ms h sorted is =
     table_shallow 1 ms (codes "name" ∷ codes "at" ∷ codes "rest" ∷ []) sorted is.only (
@@ -75,7 +75,7 @@ host_is ms h sorted is =
 flow_is : AreShallow IsFlow 1
 flow_is d f sorted is = arrays_are IsText 0 texts_are d (f.from ∷ f.to ∷ f.services) sorted is
 
--- the table of an assign has two levels at most
+-- The table of an assign has two levels at most.
 abbrev pub IsShallowAssign : WrittenAssign → Type 0
 IsShallowAssign a = members_are_sorted a.table ≡ true → IsShallow 2 (table a.table)
 
@@ -86,7 +86,7 @@ with_both Is P [] (x ∷ xs) zipped all = absurd zipped
 with_both Is P (d ∷ ds) [] zipped all = absurd zipped
 with_both Is P (d ∷ ds) (x ∷ xs) (is, zipped) (here, all) = ((is, here), with_both Is P ds xs zipped all)
 
--- an array whose elements are as shallow where something more is true of each
+-- An array whose elements are shallow if an additional property holds for each.
 arrays_with : {A : Type 0} (Is : Data → A → Type 0) (P : A → Type 0) (n : ℕ) → AreShallow (λ d x. Is d x × P x) n
     → (d : Data) (xs : List A) → is_sorted d ≡ true → IsArray Is d xs → AllByRecursion P xs → IsShallow (suc n) d
 arrays_with Is P n each d xs sorted (ds, is, zipped) all =
@@ -150,14 +150,14 @@ template_is ms t sorted is =
       ),
     )
 
--- the key that only version 2 has
+-- The key that exists only in version 2.
 template_at : (b : Bool) (ms : Members) (ts : List WrittenTemplate) → StandsOr [] (IsArray (IsTable IsTemplate)) (codes "template") ms ts
     → AllByRecursion (IsShallowAt 5 ms) (template_names b)
 template_at true ms ts stands =
     (at_or (IsArray (IsTable IsTemplate)) 4 5 (omega arith) (arrays_are (IsTable IsTemplate) 3 (tables_are IsTemplate 3 template_is)) ms (codes "template") [] ts stands, tt)
 template_at false ms ts stands = tt
 
--- the document
+-- The document.
 pub written_shallow : (ms : Members) (w : Written) → members_are_sorted ms ≡ true → IsWritten ms w → AllByRecursion AreShallowAssigns w.invariants
     → IsShallow 6 (table ms)
 written_shallow ms w sorted is all =

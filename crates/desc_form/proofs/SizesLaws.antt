@@ -1,4 +1,4 @@
--- What a list that is longer than its limit is refused for, whatever the limit and whatever else stands in the description.
+-- The refusal of a list that is longer than its limit, for all limits and regardless of the rest of the description.
 use Rattle.std.proofs.Common.{◌≡◌, ◌+◌, ◌<◌, ◌≤◌, List, length, Some, refl}
 use Rattle.std.proofs.lemmas.Bool.{lt-ltb, le-ltb}
 use Rattle.std.specs.Prelude.{slice_get}
@@ -10,13 +10,13 @@ use Rattle.desc_form.specs.declared.refusal.Why.TheVariants.{TooMany}
 use Rattle.desc_form.specs.HostConditions.{Entry, too_many}
 use Rattle.host_net.specs.Limits.{host_limit, prefix_limit}
 
--- a longer list is refused at the first element beyond the limit
+-- A longer list is refused at the first element beyond the limit.
 pub many_hosts : (hs : List WrittenHost) (es : List Entry) (is : List WrittenInvariant) (ts : List WrittenTemplate)
     → host_limit < length hs → too_many hs es is ts ≡ Some (refused TooMany (Host (host_limit + 1)))
 unfolding too_many
 many_hosts hs es is ts longer = let above = lt-ltb _ _ longer in rw above refl
 
--- with no host too many, it is the entry behind the last that there may be
+-- If the hosts are within the limit, it is the entry after the last allowed one.
 pub many_prefixes : (hs : List WrittenHost) (es : List Entry) (is : List WrittenInvariant) (ts : List WrittenTemplate) (e : Entry)
     → length hs ≤ host_limit → slice_get es prefix_limit ≡ Some e → too_many hs es is ts ≡ Some (refused_item TooMany (Host e.host) e.item)
 unfolding too_many

@@ -1,11 +1,11 @@
--- Laws of the places of a description: three conditions hold first nowhere exactly where none of them holds at any place.
+-- Lemmas on the places of a description: three conditions have no first place if and only if none of them holds at any place.
 use Rattle.std.proofs.Common.{◌≡◌, Bool, true, false, cond, ◌||◌, List, [], ◌∷◌, ◌++◌, Some, None, Option, refl}
 use Rattle.std.proofs.lemmas.Bool.{or_parts}
 use Rattle.std.specs.Prelude.{find}
 use Rattle.std.specs.List.{AllByRecursion}
 use Rattle.desc_form.specs.Places.{Spot}
 
--- a test of a place fails at all of them
+-- A test of a place fails at all of them.
 abbrev pub Fails : (Spot → Bool) → List Spot → Type 0
 Fails p ss = AllByRecursion (λ s. p s ≡ false) ss
 

@@ -1,5 +1,5 @@
--- A description is of the right form exactly where a record says what is written in it, and then the record that is read says it: nothing
--- is passed over.
+-- A description has a valid form if and only if it has a raw description, and then the parsed raw description is the one: nothing is
+-- skipped.
 use Rattle.std.proofs.Common.{◌≡◌, ◌↔◌, ℕ, ℤ, pos, ◌+◌, Bool, true, false, not, ◌&&◌, ◌||◌, List, [], ◌∷◌, ◌++◌, append-nil, map, Option, Some, None, refl, ap, ◌∙◌, sym, subst}
 use Rattle.std.proofs.lemmas.Bool.{and_parts, or_parts, not-false}
 use Rattle.std.specs.Cmp.{first_so, second_so}
@@ -28,15 +28,15 @@ use Rattle.desc_form.specs.inner.WrittenForm.{IsAssign, IsFlow, IsFormed, IsHost
 use Rattle.table_core.specs.Keys.{Key, all_suit, has_only_keys, lacks_key, suits_in}
 use Rattle.table_core.specs.Tables.{boolean_at, has_key, has_only, integer_at, list_at, text_at}
 
--- one of the three conditions holds at a place
+-- One of the three conditions holds at a place.
 abbrev bad : Option ℤ → Place → Data → Bool
 bad v place d = has_unknown_key v place d || (has_missing_key v place d || has_wrong_type v place d)
 
--- none of them does at any of some places
+-- None of them does at any of some places.
 abbrev AreGood : Option ℤ → List Spot → Type 0
 AreGood v ss = Fails (λ s. bad v s.place s.value) ss
 
--- a value is a table, and what is read there is as it should be
+-- A value is a table, and the value parsed from it is valid.
 abbrev IsReadIn : {A : Type 0} → (Members → A → Type 0) → (Members → A) → Data → Type 0
 IsReadIn Is read d = (ms : Members) × (d ≡ table ms) × Is ms (read ms)
 
@@ -82,7 +82,7 @@ zip_first : {A : Type 0} (Is : Members → A → Type 0) (read : Members → A) 
 zip_first Is read d ds (ms, is_table, fits) rest =
     subst (λ (e : Data). AllZip (IsTable Is) (e ∷ ds) (map read (filter_map as_table (e ∷ ds)))) (sym is_table) ((ms, refl, fits), rest)
 
--- where no element of a list is bad, each is read
+-- If no element of a list is bad, each is parsed.
 tables_read : (v : Option ℤ) {A : Type 0} (Is : Members → A → Type 0) (read : Members → A) (place : ℕ → Place)
     → ((k : ℕ) (d : Data) → bad v (place k) d ≡ false → IsReadIn Is read d)
     → (k : ℕ) (ds : List Data) → AreGood v (map (spot_in place) (numbered_from k ds))
@@ -121,7 +121,7 @@ invariants_read v k (d ∷ ds) good =
     let (here, behind) = fails_apart _ (invariant_spots (record { number = k; what = d })) (flat_map invariant_spots (numbered_from (k + 1) ds)) good in
     zip_first IsInvariant invariant_written d ds (invariant_reads v k d here) (invariants_read v (k + 1) ds behind)
 
--- where no element of a list is bad, each is a flow that fits the version
+-- If no element of a list is bad, each is a flow that is valid for the version.
 flow_first : (v : Option ℤ) (d : Data) (ds : List Data) (o : Option WrittenFlow) → flow_written d ≡ o
     → not (option_map_or (fits_version v) o false) ≡ false
     → AllZip IsFlow ds (filter_map flow_written ds) × (list_all (fits_version v) (filter_map flow_written ds) ≡ true)
@@ -170,7 +170,7 @@ template_reads v k (table ms) good =
     (ms, refl, template_stands v k ms parts.0 rest.0 wrong.0 (not-false _ wrong.1))
 template_reads v k _ good = cc
 
--- the key for templates is one of a document of version 2 alone
+-- The key for templates is only a key of a document of version 2.
 names_by : (b : Bool) → map (λ (key : Key). key.name) (template_keys b) ≡ template_names b
 names_by true = refl
 names_by false = refl
@@ -232,7 +232,7 @@ document_stands v ms said (document, behind) =
           (tables_read v IsTemplate template_written Template (template_reads v) 1 (listed (codes "template") ms) templates);
     }
 
--- a description of the right form is what is written in it, each element of its arrays included
+-- A description of a valid form has its raw description, including each element of its arrays.
 pub written_stands : (ms : Members) → first_of (form_conditions ms) ≡ None → IsWritten ms (written ms)
 unfolding form_conditions first_place
 written_stands ms formed =
@@ -244,9 +244,9 @@ written_stands ms formed =
     (fails_where_none (λ s. has_unknown_key v s.place s.value) (λ s. has_missing_key v s.place s.value) (λ s. has_wrong_type v s.place s.value) (spots ms)
     (none_mapped _ _ unknown) (none_mapped _ _ missing) (none_mapped _ _ wrong))
 
--- The other way: where something is written, none of the three conditions holds.
+-- The converse: if there is a raw description, none of the three conditions holds.
 
--- they hold of no table with these keys and values
+-- They do not hold for a table with these keys and values.
 none_bad : {only lacks suits : Bool} → only ≡ true → lacks ≡ false → suits ≡ true → (not only || (lacks || not suits)) ≡ false
 none_bad only lacks suits = rw (only, lacks, suits) refl
 
@@ -270,7 +270,7 @@ assign_good v k m ms a stands =
     let host = text_suits (get_member (codes "host") ms) a.host stands.host in
     none_bad {only = true} refl (present host.0 refl) (both_true host.1 refl)
 
--- where each element of a list is a good table, none is bad
+-- If each element of a list is a valid table, none is bad.
 tables_good : (v : Option ℤ) {A : Type 0} (Is : Members → A → Type 0) (place : ℕ → Place)
     → ((k : ℕ) (ms : Members) (x : A) → Is ms x → bad v (place k) (table ms) ≡ false)
     → (k : ℕ) (ds : List Data) (xs : List A) → AllZip (IsTable Is) ds xs → AreGood v (map (spot_in place) (numbered_from k ds))
@@ -329,7 +329,7 @@ template_good v k ms t stands =
     (present name.0 (present strategy.0 (present (some_there (λ d. IsArray IsText d t.kinds) (get_member (codes "kinds") ms) stands.kinds) (present default.0 (present deny.0 refl)))))
     suits pairs
 
--- and may be absent
+-- It may also be absent.
 template_optional : (b : Bool) (ms : Members) → list_any (λ (key : Key). key.needed && not (has_key key.name ms)) (template_keys b) ≡ false
 template_optional true ms = refl
 template_optional false ms = refl
@@ -375,7 +375,7 @@ nothing_bad ms w stands fit =
           (tables_good v IsTemplate Template (template_good v) 1 (listed (codes "template") ms) w.templates (array_zips (IsTable IsTemplate) (get_member (codes "template") ms) w.templates stands.templates)))),
     )
 
--- a description in which something is written is of the right form
+-- A description with a raw description has a valid form.
 pub formed_where_written : (ms : Members) (w : Written) → IsWritten ms w → first_of (form_conditions ms) ≡ None
 unfolding form_conditions first_place integer_at
 formed_where_written ms w stands =
@@ -386,6 +386,6 @@ formed_where_written ms w stands =
     none_where_fails (λ s. has_unknown_key v s.place s.value) (λ s. has_missing_key v s.place s.value) (λ s. has_wrong_type v s.place s.value) (spots ms) good in
     rw (unknown, missing, wrong) refl
 
--- a description is of the right form exactly where none of the three conditions holds
+-- A description has a valid form if and only if none of the three conditions holds.
 pub formed : (ms : Members) → (first_of (form_conditions ms) ≡ None) ↔ IsFormed ms
 formed ms = (λ none. (written ms, written_stands ms none), λ (w, stands). formed_where_written ms w stands)

@@ -1,4 +1,4 @@
--- A table says one thing: whatever record says what is written in it is the one that is read.
+-- The raw description of a table is unique: it is the one that is parsed.
 use Rattle.std.proofs.Common.{◌≡◌, ℕ, Bool, true, false, List, [], ◌∷◌, Option, Some, None, ap, ◌∙◌, refl, subst, sym}
 use Rattle.std.specs.List.{AllZip}
 use Rattle.std.specs.Prelude.{codes, IsSomeAnd, MatchOption, unwrap_or}
@@ -9,7 +9,7 @@ use Rattle.desc_form.specs.inner.WrittenForm.{IsAnswers, IsArray, IsAssign, IsBo
 use Rattle.desc_form.proofs.WrittenLaws.{formed_where_written, written_stands}
 use Rattle.table_core.specs.Tables.{elements}
 
--- what says something says one thing at most
+-- A relation that determines its right side.
 abbrev IsSaidOnce : {D A : Type 0} → (D → A → Type 0) → Type 0
 IsSaidOnce {D = D} {A = A} Is = (d : D) (x y : A) → Is d x → Is d y → x ≡ y
 
@@ -68,7 +68,7 @@ pair_once d p q is was =
     let receiver : p.receiver ≡ q.receiver = cc in
     λ i. record { sender = sender i; receiver = receiver i }
 
--- at a key
+-- At a key.
 some_once : {A : Type 0} (Is : Data → A → Type 0) → IsSaidOnce Is → (o : Option Data) (x y : A) → IsSomeAnd o (λ d. Is d x)
     → IsSomeAnd o (λ d. Is d y) → x ≡ y
 some_once Is once None x y here there = absurd here
@@ -85,7 +85,7 @@ default_once Is once (Some d) default x y here there = once d x y here there
 stands_or_once : {A : Type 0} (default : A) (Is : Data → A → Type 0) → IsSaidOnce Is → (key : List ℕ) → IsSaidOnce (StandsOr default Is key)
 stands_or_once default Is once key ms x y here there = default_once Is once (get_member key ms) default x y here there
 
--- table by table
+-- Table by table.
 host_once : IsSaidOnce IsHost
 host_once ms g h is was =
     let name = stands_once IsText text_once (codes "name") ms g.name h.name is.name was.name in
@@ -116,7 +116,7 @@ template_once ms t u is was =
     let deny = stands_once (IsArray IsPair) (array_once IsPair pair_once) (codes "deny") ms t.deny u.deny is.deny was.deny in
     λ i. record { name = name i; strategy = strategy i; kinds = kinds i; default = default i; deny = deny i }
 
--- there is one record at most
+-- There is at most one raw description.
 pub written_once : (ms : Members) (v w : Written) → IsWritten ms v → IsWritten ms w → v ≡ w
 written_once ms v w is was =
     let version = stands_once IsInteger integer_once (codes "topos") ms v.version w.version is.version was.version in
@@ -142,6 +142,6 @@ written_once ms v w is was =
       templates = templates i;
     }
 
--- what is written is what is read
+-- The raw description is the one that is parsed.
 pub written_is : (ms : Members) (w : Written) → IsWritten ms w → w ≡ written ms
 written_is ms w is = written_once ms w (written ms) is (written_stands ms (formed_where_written ms w is))

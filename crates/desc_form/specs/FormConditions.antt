@@ -1,4 +1,4 @@
--- The conditions on the form of a description, in their order: 3 to 5.
+-- The conditions on the form of a description, in order: 3 to 5.
 use Rattle.std.specs.Prelude.{List, [], ◌∷◌, Option}
 use Rattle.toml.specs.Data.{Members}
 use Rattle.desc_form.specs.declared.refusal.Refusal.{Refusal}

@@ -1,4 +1,4 @@
--- Which keys the tables of a description have, and what may stand at each, place by place (the description's format, docs/FORMATS.md).
+-- The keys of each table of a description, and the type of each value, place by place (the description's format, docs/FORMATS.md).
 use Rattle.std.specs.Prelude.{ℤ, pos, Bool, false, if◌then◌else◌, List, [], ◌∷◌, Option, codes}
 use Rattle.std.specs.Option.{option_map_or}
 use Rattle.std.specs.Ordering.{int_eq}
@@ -8,19 +8,20 @@ use Rattle.toml.specs.Data.{Members}
 use Rattle.table_core.specs.Tables.{integer_at}
 use Rattle.table_core.specs.Keys.{Key, Text, OneOf, Integer, Boolean, Array, Texts, needed, optional}
 
--- the version that a document says, if it says a whole number
+-- The version number of a document, if it is an integer.
 abbrev pub version_said : Members → Option ℤ
 version_said document = integer_at (codes "topos") document
 
--- the document says version 2
+-- The document is of version 2.
 abbrev pub says_second : Option ℤ → Bool
 says_second said = option_map_or (λ version. int_eq version (pos 2)) said false
 
--- only version 2 has templates
+-- Only version 2 has templates.
 abbrev pub template_keys : Bool → List Key
 template_keys second = if second then optional (codes "template") Array ∷ [] else []
 
--- the keys of the table at a place, in a document that says a version. An assign has further keys by its template; a flow is no table
+-- The keys of the table at a place, in a document of the given version. An assign has further keys that depend on its template; a flow is
+-- no table.
 abbrev pub keys_of : Option ℤ → Place → List Key
 keys_of said Document =
     needed (codes "topos") Integer

@@ -1,4 +1,4 @@
--- Refusals of a description: why, where, and what is told with it (the description's format, docs/FORMATS.md).
+-- Refusals of a description: cause, place, and details (the description's format, docs/FORMATS.md).
 use Rattle.std.specs.Prelude.{ℕ, Bool, List, [], find, Option, option_map, codes}
 use Rattle.text_core.specs.Firsts.{first_pair, numbered}
 use Rattle.desc_form.specs.declared.refusal.Place.{Place}
@@ -6,7 +6,7 @@ use Rattle.desc_form.specs.declared.refusal.Refusal.{Refusal}
 use Rattle.desc_form.specs.declared.refusal.Why.{Why}
 use Rattle.desc_form.specs.declared.refusal.Why.TheVariants.{TooLong, NotToml, UnknownKey, MissingKey, WrongType, BadVersion, TooMany, BadName, DuplicateHost, BadPrefix, HostBits, NoAddress, TwoRests, Overlap, UnknownTemplate, UndeclaredHost, DuplicateAssign, BadAttribute, SelfFlow, DuplicateFlow, BadService, ManyServices, BadTemplate, NotLawful}
 
--- the number of each cause, from 1, and its name
+-- The number of each cause, from 1, and its name.
 abbrev pub cause : Why → ℕ × List ℕ
 cause TooLong = (1, codes "TooLong")
 cause NotToml = (2, codes "NotToml")
@@ -33,29 +33,31 @@ cause ManyServices = (22, codes "ManyServices")
 cause BadTemplate = (23, codes "BadTemplate")
 cause NotLawful = (24, codes "NotLawful")
 
+-- The number of a cause.
 abbrev pub number : Why → ℕ
 number why = (cause why).0
 
+-- The name of a cause.
 abbrev pub name : Why → List ℕ
 name why = (cause why).1
 
--- a refusal that tells a place alone
+-- A refusal that reports only a place.
 abbrev pub refused : Why → Place → Refusal
 refused why place = record { why = why; place = place; item = 0; other = 0; name = [] }
 
--- one that tells an item of the place too
+-- A refusal that also reports an item of the place.
 abbrev pub refused_item : Why → Place → ℕ → Refusal
 refused_item why place item = record (refused why place) { item = item }
 
--- one that tells the earlier one that bars it
+-- A refusal that reports the earlier element with which this one conflicts.
 abbrev pub refused_by : Why → Place → ℕ → Refusal
 refused_by why place other = record (refused why place) { other = other }
 
--- the first element of which a test holds is refused, at the place of its number
+-- The first element that satisfies a test is refused, at the place of its number.
 abbrev pub first_at : {A : Type 0} → Why → (ℕ → Place) → (A → Bool) → List A → Option Refusal
 first_at why place test xs = option_map (λ x. refused why (place x.number)) (find (λ x. test x.what) (numbered xs))
 
--- the first element that an earlier one bars is refused, at the place of its number
+-- The first element that conflicts with an earlier one is refused, at the place of its number.
 abbrev pub barred_at : {A : Type 0} → Why → (ℕ → Place) → (A → A → Bool) → List A → Option Refusal
 barred_at why place bars xs =
     option_map (λ p. refused_by why (place p.later.number) p.earlier.number) (first_pair (λ x y. bars x.what y.what) (numbered xs))

@@ -1,6 +1,6 @@
--- A description as it is written: its texts, before any of them is looked up or read as a name, a prefix or a template.
--- Where a table has a missing key or a value of a wrong type, it is refused for that, and what is said here does not count.
--- Where none has, this is all that the description says: WrittenForm says it key by key.
+-- A raw description: its texts, before name resolution and before any of them is parsed as a name, a prefix or a template. If a table has a
+-- missing key or a value of a wrong type, it is refused for that, and its raw description is irrelevant. Otherwise the raw description is
+-- complete: WrittenForm defines it key by key.
 use Rattle.std.specs.Prelude.{ℕ, ℤ, pos, Bool, false, not, List, [], map, filter_map, codes, unwrap_or}
 use Rattle.std.specs.Str.{bytes_eq}
 use Rattle.toml.specs.Data.{Members, as_str, as_table}
@@ -9,21 +9,23 @@ use Rattle.desc_form.specs.WrittenFlow.{WrittenFlow, flow_written}
 use Rattle.desc_form.specs.WrittenTemplate.{WrittenTemplate, pair_written}
 use Rattle.table_core.specs.Tables.{boolean_at, has_key, integer_at, text_at}
 
+-- A raw host: its name, the entries of its prefix list, and the rest mark.
 pub record WrittenHost : Type 0 where
   pub name : List ℕ
   pub at : List (List ℕ)
   pub rest : Bool
 
--- the name of the host, and the table that says its attribute
+-- A raw assign: the name of the host, and the table that specifies its attribute.
 pub record WrittenAssign : Type 0 where
   pub host : List ℕ
   pub table : Members
 
+-- A raw invariant: the name of its template, and its assigns.
 pub record WrittenInvariant : Type 0 where
   pub template : List ℕ
   pub assigns : List WrittenAssign
 
--- given says whether the key `flow` is there; answers, whether flows may have answers
+-- A raw description. `given` states whether the key `flow` is present; `answers` states whether flows may have answers.
 pub record Written : Type 0 where
   pub version : ℤ
   pub answers : Bool
@@ -33,10 +35,11 @@ pub record Written : Type 0 where
   pub flows : List WrittenFlow
   pub templates : List WrittenTemplate
 
--- the text at a key
+-- The string at a key.
 abbrev pub text_in : List ℕ → Members → List ℕ
 text_in key ms = unwrap_or (text_at key ms) []
 
+-- The raw host of a table.
 unfoldable pub host_written : Members → WrittenHost
 host_written ms = record {
   name = text_in (codes "name") ms;
@@ -44,15 +47,18 @@ host_written ms = record {
   rest = unwrap_or (boolean_at (codes "rest") ms) false;
 }
 
+-- The raw assign of a table.
 unfoldable pub assign_written : Members → WrittenAssign
 assign_written ms = record { host = text_in (codes "host") ms; table = ms }
 
+-- The raw invariant of a table.
 unfoldable pub invariant_written : Members → WrittenInvariant
 invariant_written ms = record {
   template = text_in (codes "template") ms;
   assigns = map assign_written (filter_map as_table (listed (codes "assign") ms));
 }
 
+-- The raw template of a table.
 unfoldable pub template_written : Members → WrittenTemplate
 template_written ms = record {
   name = text_in (codes "name") ms;
@@ -62,7 +68,7 @@ template_written ms = record {
   deny = filter_map pair_written (listed (codes "deny") ms);
 }
 
--- answers are given unless the description says none
+-- The raw description of a table. Flows have answers unless the description states that there are none.
 unfoldable pub written : Members → Written
 written ms = record {
   version = unwrap_or (integer_at (codes "topos") ms) (pos 0);

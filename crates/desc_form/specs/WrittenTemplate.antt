@@ -1,15 +1,15 @@
--- A template as it is written: the words for its kinds, and the pairs of them that are denied (the description's format,
--- docs/FORMATS.md).
+-- A raw template: the names of its kinds, and the pairs of kinds that are denied (the description's format, docs/FORMATS.md).
 use Rattle.std.specs.Prelude.{ℕ, ◌==◌, if◌then◌else◌, List, length, Option, Some, None}
 use Rattle.toml.specs.Data.{Data}
 use Rattle.desc_form.specs.WrittenFlow.{WrittenFlow, flow_written}
 use Rattle.text_core.specs.Steps.{◌>>=◌}
 
--- the kinds of a sender and a receiver
+-- The kinds of a sender and a receiver.
 pub record WrittenPair : Type 0 where
   pub sender : List ℕ
   pub receiver : List ℕ
 
+-- A raw template: its name, its strategy, its kinds, its default kind, and the denied pairs.
 pub record WrittenTemplate : Type 0 where
   pub name : List ℕ
   pub strategy : List ℕ
@@ -17,10 +17,10 @@ pub record WrittenTemplate : Type 0 where
   pub default : List ℕ
   pub deny : List WrittenPair
 
--- a pair is written as a flow is, and nothing stands behind it
+-- A pair has the form of a flow without services.
 abbrev pub pair_of_flow : WrittenFlow → Option WrittenPair
 pair_of_flow f = if length f.services == 0 then Some (record { sender = f.from; receiver = f.to }) else None
 
--- the pair that an array of two texts says
+-- The pair of an array of two strings.
 unfoldable pub pair_written : Data → Option WrittenPair
 pair_written d = flow_written d >>= pair_of_flow

@@ -1,4 +1,4 @@
-//! The refusals for a host or a prefix that an earlier one bars.
+//! The refusals for a host or a prefix that conflicts with an earlier one.
 ghost use Rattle.std.specs.Prelude.{◌≡◌, map, option_map};
 ghost use Rattle.desc_form.specs.declared.refusal.Place.TheVariants.{Host};
 ghost use Rattle.desc_form.specs.declared.refusal.Why.TheVariants.{Overlap};
@@ -15,7 +15,7 @@ use crate::written::WrittenHost;
 use host_net::Prefix;
 use text_core::{Pair, first_pair};
 
-/// A host has the name of an earlier one.
+/// Returns the refusal of a host with the name of an earlier one.
 pub(crate) fn duplicate_host(hosts: &[WrittenHost<'_>]) -> Option<Refusal>
     ensures { result ≡ duplicate_host (map host_view hosts.now) }
 {
@@ -23,7 +23,7 @@ pub(crate) fn duplicate_host(hosts: &[WrittenHost<'_>]) -> Option<Refusal>
     barred_host(Why::DuplicateHost, pair)
 }
 
-/// A second host has the rest mark.
+/// Returns the refusal of a second host with the rest mark.
 pub(crate) fn two_rests(hosts: &[WrittenHost<'_>]) -> Option<Refusal>
     ensures { result ≡ two_rests (map host_view hosts.now) }
 {
@@ -31,7 +31,7 @@ pub(crate) fn two_rests(hosts: &[WrittenHost<'_>]) -> Option<Refusal>
     barred_host(Why::TwoRests, pair)
 }
 
-/// The refusal for a host that an earlier one bars.
+/// Returns the refusal of a host that conflicts with an earlier one.
 fn barred_host(why: Why, pair: Option<Pair<'_, WrittenHost<'_>>>) -> Option<Refusal>
     ensures { result ≡ option_map (λ p. refused_by why (Host p.later.number) p.earlier.number) (option_map pair_seen pair.entry) }
 {
@@ -40,7 +40,7 @@ fn barred_host(why: Why, pair: Option<Pair<'_, WrittenHost<'_>>>) -> Option<Refu
     Some(refusal.with_other(pair.earlier.number))
 }
 
-/// A prefix has an address in common with an earlier one.
+/// Returns the refusal of a prefix that shares an address with an earlier one.
 pub(crate) fn overlap(entries: &[Entry]) -> Option<Refusal>
     ensures { result ≡ overlap (map entry_view entries.now) }
 {
@@ -51,7 +51,7 @@ pub(crate) fn overlap(entries: &[Entry]) -> Option<Refusal>
     met_entry(pair)
 }
 
-/// The refusal for a prefix that an earlier one meets.
+/// Returns the refusal of a prefix that overlaps an earlier one.
 fn met_entry(pair: Option<Pair<'_, Entry>>) -> Option<Refusal>
     ensures { result ≡ option_map (λ p. refused_item_by Overlap (Host p.later.what.host) p.later.what.item p.earlier.what.host)
         (option_map pair_seen pair.entry) }
@@ -62,7 +62,7 @@ fn met_entry(pair: Option<Pair<'_, Entry>>) -> Option<Refusal>
     Some(refusal.with_item(later.item).with_other(earlier.host))
 }
 
-/// Whether the prefixes that two entries say have an address in common.
+/// Whether the prefixes of two entries share an address.
 fn entries_meet(said: Option<Prefix>, other: Option<Prefix>) -> bool
     ensures { result ≡ entries_meet said other }
 {

@@ -1,4 +1,4 @@
-//! The entries of the lists of prefixes, by host and item, and the refusals that look at them alone.
+//! The entries of the prefix lists, by host and item, and the refusals of single entries.
 ghost use Rattle.std.specs.Prelude.{◌≡◌, ◌++◌, flat_map, map, IfOk, OnOk};
 ghost use Rattle.desc_form.specs.declared.refusal.Place.TheVariants.{Host};
 ghost use Rattle.text_core.specs.Firsts.{numbered};
@@ -12,8 +12,8 @@ use crate::written::WrittenHost;
 use host_net::{PREFIX_LIMIT, Prefix, read_prefix};
 use std::alloc::{AllocError, Global};
 
-/// An entry of the list of prefixes of a host, by the number of the host and its own there, from 1,
-/// and the prefix that it says. It is read once, and each condition looks at what was read.
+/// An entry of the prefix list of a host: the number of the host, its item number in the list, from
+/// 1, and the prefix that it denotes. It is parsed once, and each condition uses the parse result.
 #[derive(Clone, Copy)]
 pub(crate) struct Entry {
     pub(crate) host: u64,
@@ -22,7 +22,7 @@ pub(crate) struct Entry {
 }
 
 impl Entry {
-    /// The refusal that tells the entry.
+    /// Returns the refusal of the entry.
     fn refused(&self, why: Why) -> Refusal
         ensures { result ≡ refused_item why (Host self.now.host) self.now.item }
     {
@@ -30,7 +30,7 @@ impl Entry {
     }
 }
 
-/// The entries of all hosts, by host and item.
+/// Returns the entries of all hosts, by host and item.
 pub(crate) fn all_entries(
     alloc: Global,
     hosts: &[WrittenHost<'_>],
@@ -64,7 +64,7 @@ fn read_entry(host: u64, item: u64, text: &str) -> Entry
     }
 }
 
-/// All hosts together have more prefixes than they may have.
+/// Returns the refusal if the number of prefixes of all hosts exceeds the limit.
 pub(crate) fn too_many_prefixes(entries: &[Entry]) -> Option<Refusal>
     ensures { result ≡ too_many_prefixes (map entry_view entries.now) }
 {
@@ -72,7 +72,7 @@ pub(crate) fn too_many_prefixes(entries: &[Entry]) -> Option<Refusal>
     Some(entry.refused(Why::TooMany))
 }
 
-/// An entry is no prefix, or one of length 0.
+/// Returns the refusal of an entry that is no prefix, or a prefix of length 0.
 #[tactic(auto, unfolding(crate::specs::HostConditions::bad_prefix))]
 pub(crate) fn bad_prefix(entries: &[Entry]) -> Option<Refusal>
     ensures { result ≡ bad_prefix (map entry_view entries.now) }
@@ -85,7 +85,7 @@ pub(crate) fn bad_prefix(entries: &[Entry]) -> Option<Refusal>
     None
 }
 
-/// An entry has bits after its length.
+/// Returns the refusal of an entry with bits set after its length.
 #[tactic(auto, unfolding(crate::specs::HostConditions::host_bits))]
 pub(crate) fn host_bits(entries: &[Entry]) -> Option<Refusal>
     ensures { result ≡ host_bits (map entry_view entries.now) }
@@ -108,7 +108,7 @@ fn is_prefix(said: Option<Prefix>) -> bool
     }
 }
 
-/// Whether the entry is a prefix with bits after its length.
+/// Whether the entry is a prefix with bits set after its length.
 fn has_host_bits(said: Option<Prefix>) -> bool
     ensures { result ≡ has_host_bits said }
 {

@@ -1,4 +1,4 @@
-//! A flow as it is written, and a pair of kinds, which is written in the same way.
+//! Raw flows, and pairs of kinds, which have the same form.
 ghost use Rattle.std.specs.Prelude.{◌≡◌, false, is_some, length, map, option_map, IfOk};
 ghost use Rattle.std.specs.List.{list_all};
 ghost use Rattle.std.specs.Option.{option_map_or};
@@ -13,7 +13,7 @@ use std::alloc::{AllocError, Global};
 use table_core::{are_texts, elements};
 use toml::Value;
 
-/// Whether the value is a flow, in a document that says a version: only version 2 has services.
+/// Whether the value is a flow, in a document of the given version: only version 2 has services.
 pub(crate) fn is_flow(version: Option<i64>, value: &Value) -> bool
     ensures { result ≡ option_map_or (fits_version version) (flow_written (view value.now)) false }
 {
@@ -36,7 +36,7 @@ fn all_are_pairs(values: &[Value]) -> bool
     values.iter().all(|value| is_pair(value))
 }
 
-/// Whether the value is an array of two texts.
+/// Whether the value is an array of two strings.
 fn is_pair(value: &Value) -> bool
     ensures { result ≡ is_some (pair_written (view value.now)) }
 {
@@ -46,7 +46,7 @@ fn is_pair(value: &Value) -> bool
     }
 }
 
-/// The pair that an array of two texts says.
+/// Returns the pair of an array of two strings.
 #[tactic(auto, unfolding(crate::specs::WrittenTemplate::pair_written))]
 pub(crate) fn read_pair(alloc: Global, value: &Value) -> Result<Option<WrittenPair<'_>>, AllocError>
     ensures { IfOk result (λ pair. option_map pair_view pair ≡ pair_written (view value.now)) }
@@ -57,7 +57,7 @@ pub(crate) fn read_pair(alloc: Global, value: &Value) -> Result<Option<WrittenPa
     }
 }
 
-/// The pair that a flow is, if it has no services.
+/// Returns the pair of a flow without services.
 fn pair_of_flow<'a>(flow: &WrittenFlow<'a>) -> Option<WrittenPair<'a>>
     ensures { option_map pair_view result ≡ pair_of_flow (flow_view flow.now) }
 {
@@ -70,7 +70,8 @@ fn pair_of_flow<'a>(flow: &WrittenFlow<'a>) -> Option<WrittenPair<'a>>
     })
 }
 
-/// How many services the flow has that an array says, if it says one. This takes no memory.
+/// Returns the number of services of the flow of an array, if the array is a flow. Does not
+/// allocate.
 #[tactic(auto, unfolding(crate::specs::WrittenFlow::flow_written))]
 fn service_count(value: &Value) -> Option<usize>
     ensures { result ≡ option_map (λ f. length f.services) (flow_written (view value.now)) }
@@ -78,7 +79,7 @@ fn service_count(value: &Value) -> Option<usize>
     services_behind(elements(value)?)
 }
 
-/// How many services stand behind two names, if all values are texts.
+/// Returns the number of services after two names, if all values are strings.
 #[tactic(auto, using(crate::proofs::FlowLaws::no_services))]
 fn services_behind(values: &[Value]) -> Option<usize>
     ensures { result ≡ option_map (λ f. length f.services) (flow_of_values (map view values.now)) }
@@ -89,7 +90,7 @@ fn services_behind(values: &[Value]) -> Option<usize>
     values.len().checked_sub(2)
 }
 
-/// The flow that an array says.
+/// Returns the flow of an array.
 #[tactic(auto, unfolding(crate::specs::WrittenFlow::flow_written))]
 pub(crate) fn read_flow(alloc: Global, value: &Value) -> Result<Option<WrittenFlow<'_>>, AllocError>
     ensures { IfOk result (λ flow. option_map flow_view flow ≡ flow_written (view value.now)) }
@@ -100,7 +101,7 @@ pub(crate) fn read_flow(alloc: Global, value: &Value) -> Result<Option<WrittenFl
     }
 }
 
-/// The flow that some values say, if they are two texts, or more.
+/// Returns the flow of a list of values, if they are at least two strings.
 fn flow_of(alloc: Global, values: &[Value]) -> Result<Option<WrittenFlow<'_>>, AllocError>
     ensures { IfOk result (λ flow. option_map flow_view flow ≡ flow_of_values (map view values.now)) }
 {

@@ -1,4 +1,4 @@
-//! The refusals of a written description for its version, its size and its hosts.
+//! The refusals of a raw description for its version, its sizes and its hosts.
 ghost use Rattle.std.specs.Prelude.{◌≡◌, ◌↔◌, None, map, IfOk};
 ghost use Rattle.text_core.specs.Firsts.{first_of};
 ghost use Rattle.desc_form.specs.inner.WrittenView.{host_view, written_view};
@@ -15,12 +15,12 @@ use crate::sizes::too_many;
 use crate::written::{Written, WrittenHost};
 use std::alloc::{AllocError, Global};
 
-/// The first condition on the version, the sizes, the names and the hosts of a description that
-/// refuses it.
+/// Returns the refusal of the first condition on the version, the sizes, the names and the hosts of
+/// a description that applies.
 pub fn host_refusal(alloc: Global, written: &Written<'_>) -> Result<Option<Refusal>, AllocError>
     ensures first { IfOk result (λ refused. refused ≡ first_of (host_conditions (written_view written.now))) }
 
-    // None where all is as it should be, and only there.
+    // The result is `None` if and only if all of these are valid.
     ensures facts { IfOk result (λ refused. (refused ≡ None) ↔ HasHosts (written_view written.now)) }
 {
     refusal_of(alloc, written)
@@ -34,8 +34,8 @@ fn refusal_of(alloc: Global, written: &Written<'_>) -> Result<Option<Refusal>, A
     Ok(first_refusal(written, &entries))
 }
 
-/// The same, with the entries of the description at hand. Hosts and entries are compared with one
-/// another only where there are few of them.
+/// The same, for the entries of the description. Hosts and entries are compared pairwise only if
+/// their numbers are within the limits.
 #[tactic(auto, unfolding(crate::specs::HostConditions::host_conditions))]
 fn first_refusal(written: &Written<'_>, entries: &[Entry]) -> Option<Refusal>
     requires { map entry_view entries.now ≡ all_entries (written_view written.now) }
@@ -60,7 +60,7 @@ fn first_refusal(written: &Written<'_>, entries: &[Entry]) -> Option<Refusal>
     address_refusal(&written.hosts, entries)
 }
 
-/// The first condition on prefixes and rest marks.
+/// Returns the refusal of the first condition on prefixes and rest marks.
 fn address_refusal(hosts: &[WrittenHost<'_>], entries: &[Entry]) -> Option<Refusal>
     ensures { result ≡ first_of (address_conditions (map host_view hosts.now) (map entry_view entries.now)) }
 {
@@ -83,7 +83,7 @@ fn address_refusal(hosts: &[WrittenHost<'_>], entries: &[Entry]) -> Option<Refus
     overlap(entries)
 }
 
-/// The version is neither 1 nor 2.
+/// Returns the refusal of a version that is neither 1 nor 2.
 #[tactic(auto, unfolding(crate::specs::HostConditions::bad_version))]
 fn bad_version(written: &Written<'_>) -> Option<Refusal>
     ensures { result ≡ bad_version written.now.version }
@@ -94,7 +94,7 @@ fn bad_version(written: &Written<'_>) -> Option<Refusal>
     Some(Refusal::at(Why::BadVersion, Place::Document))
 }
 
-/// The host has neither a prefix nor the rest mark, or it has both.
+/// Whether the host has neither a prefix nor the rest mark, or both.
 fn lacks_address(host: &WrittenHost<'_>) -> bool
     ensures { result ≡ lacks_address (host_view host.now).at (host_view host.now).rest }
 {
@@ -105,7 +105,7 @@ fn lacks_address(host: &WrittenHost<'_>) -> bool
     }
 }
 
-/// The first host that has neither a prefix nor the rest mark, or both.
+/// Returns the refusal of the first host that has neither a prefix nor the rest mark, or both.
 #[tactic(auto, unfolding(crate::specs::HostConditions::no_address))]
 fn no_address(hosts: &[WrittenHost<'_>]) -> Option<Refusal>
     ensures { result ≡ no_address (map host_view hosts.now) }

@@ -1,4 +1,4 @@
-//! From a written description to its hosts.
+//! Construction of the hosts of a raw description.
 ghost use Rattle.std.specs.Prelude.{◌≡◌, ◌++◌, ◌∷◌, [], None, filter_map, map, IfOk, IsTrue, OnOk};
 ghost use Rattle.std.specs.List.{list_all};
 ghost use Rattle.text_core.specs.Firsts.{first_of};
@@ -13,7 +13,7 @@ use crate::written::{Written, WrittenHost};
 use host_net::{Hosts, Name, Prefix, read_prefix};
 use std::alloc::{AllocError, Global};
 
-/// The hosts of a description that none of the conditions on hosts refuses.
+/// Returns the hosts of a description that none of the conditions on hosts refuses.
 pub fn read_hosts(alloc: Global, written: &Written<'_>) -> Result<Hosts, AllocError>
     requires { first_of (host_conditions (written_view written.now)) ≡ None }
     ensures { IfOk result (λ hosts. hosts ≡ network_hosts (written_view written.now)) }
@@ -35,7 +35,7 @@ fn add_host(alloc: Global, hosts: &mut Hosts, host: &WrittenHost<'_>) -> Result<
     hosts.push(Name::of(host.name.as_bytes()), &prefixes, host.rest)
 }
 
-/// The prefixes that the entries of a host say.
+/// Returns the prefixes that the entries of a host denote.
 fn prefixes_among(alloc: Global, entries: &[&str]) -> Result<Vec<Prefix>, AllocError>
     ensures { IfOk result (λ prefixes. prefixes.items ≡ filter_map prefix_of (map (λ entry. entry.now) entries.now)) }
 {

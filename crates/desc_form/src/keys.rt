@@ -1,4 +1,4 @@
-//! Which keys the tables of a description have, place by place.
+//! The keys of each table of a description, place by place.
 ghost use Rattle.std.specs.Prelude.{◌≡◌, map};
 ghost use Rattle.desc_form.specs.Keys.{keys_of};
 ghost use Rattle.desc_form.specs.declared.refusal.Place.TheVariants.{Document};
@@ -18,7 +18,7 @@ static DOCUMENT: [Key; 5] = [
     Key::Optional("flow", Kind::List),
 ];
 
-// Version 2 has templates too.
+// Version 2 also has templates.
 static SECOND_DOCUMENT: [Key; 6] = [
     Key::Needed("topos", Kind::Integer),
     Key::Optional("answers", Kind::OneOf(&ANSWERS)),
@@ -49,7 +49,7 @@ static TEMPLATE: [Key; 5] = [
     Key::Needed("deny", Kind::List),
 ];
 
-/// The keys of a document that says a version.
+/// Returns the keys of a document of the given version.
 fn document_keys(version: Option<i64>) -> &'static [Key]
     ensures { map key_view result.now ≡ keys_of version Document }
 {
@@ -59,8 +59,8 @@ fn document_keys(version: Option<i64>) -> &'static [Key]
     }
 }
 
-/// The keys of the table at a place, in a document that says a version. An assign has further keys by its
-/// template.
+/// Returns the keys of the table at a place, in a document of the given version. An assign has
+/// further keys that depend on its template.
 pub(crate) fn keys_of(version: Option<i64>, place: Place) -> &'static [Key]
     ensures { map key_view result.now ≡ keys_of version place }
 {

@@ -1,6 +1,6 @@
-//! The form of a description, before any name is looked up: which keys its tables have, which values
-//! stand at them, and the texts that are written there. Here also stand the refusals of a description,
-//! since their order begins with the form.
+//! The form of a description, before name resolution: the keys of its tables, the types of their
+//! values, and the raw description. This crate also defines the refusals of a description, since
+//! their order begins with the form.
 #![tactic(auto)]
 
 mod barred;

@@ -1,4 +1,4 @@
-//! The names that stand for hosts in a description, place by place: in its assigns and in its flows.
+//! The names that refer to hosts in a description, place by place: in its assigns and in its flows.
 ghost use Rattle.std.specs.Prelude.{◌≡◌, ◌++◌, flat_map, map, IfOk, OnOk};
 ghost use Rattle.text_core.specs.Firsts.{numbered};
 ghost use Rattle.desc_form.specs.inner.WrittenView.{assign_view, flow_view, invariant_view, written_view};
@@ -9,7 +9,7 @@ use crate::refusal::Place;
 use crate::written::{Written, WrittenAssign, WrittenFlow, WrittenInvariant};
 use std::alloc::{AllocError, Global};
 
-/// A name, and the place where it stands: in a flow as item 1 or 2, elsewhere as item 0.
+/// A name and its place: in a flow it is item 1 or 2, elsewhere item 0.
 #[derive(Clone, Copy)]
 pub struct Mention<'a> {
     pub place: Place,
@@ -17,7 +17,7 @@ pub struct Mention<'a> {
     pub name: &'a str,
 }
 
-/// The names that stand for hosts: in assigns, then in flows.
+/// Returns the names that refer to hosts: in assigns, then in flows.
 pub fn used_names<'a>(alloc: Global, written: &Written<'a>) -> Result<Vec<Mention<'a>>, AllocError>
     ensures { IfOk result (λ names. map mention_view names.items ≡ used_names (written_view written.now)) }
 {
@@ -51,7 +51,7 @@ fn push_assign_names<'a>(
     Ok(())
 }
 
-/// The names in the assigns of the invariant with a number.
+/// Appends the names in the assigns of the invariant with a number.
 fn push_names_of<'a>(
     names: &mut Vec<Mention<'a>>,
     number: u64,

@@ -1,5 +1,5 @@
-//! The refusal for a text that is no legal name, in the place of a host's name: at hosts, then in
-//! assigns, then in flows. The names are looked at where they stand, and nothing is collected.
+//! The refusal for a text that is no legal name, in the position of a host's name: at hosts, then
+//! in assigns, then in flows. The names are checked in place, without collecting them.
 ghost use Rattle.std.specs.Prelude.{◌≡◌, flat_map, map};
 ghost use Rattle.desc_form.specs.inner.WrittenView.{assign_view, flow_view, host_view, invariant_view, written_view};
 ghost use Rattle.desc_form.specs.HostConditions.{bad_name};
@@ -11,7 +11,7 @@ use crate::refusal::{Place, Refusal, Why};
 use crate::written::{Written, WrittenAssign, WrittenFlow, WrittenHost, WrittenInvariant};
 use text_core::is_name;
 
-/// A text in the place of a name is no legal name.
+/// Returns the refusal of a text in the position of a name that is no legal name.
 #[tactic(auto, unfolding(crate::specs::Mentions::all_names, crate::specs::Mentions::used_names), using(crate::proofs::NamesLaws::bad_name_append, crate::proofs::NamesLaws::bad_name_in_turn))]
 pub(crate) fn bad_name(written: &Written<'_>) -> Option<Refusal>
     ensures { result ≡ bad_name (all_names (written_view written.now)) }

@@ -1,6 +1,6 @@
-//! The form of a description: the first place where a table has an unknown key, the first where one
-//! lacks a key, and the first where a value is of a wrong type. Places are the document, the hosts, each
-//! invariant and its assigns, the flows, and the templates, and are gone through once, in this order.
+//! The form of a description: the first place with an unknown key, the first with a missing key,
+//! and the first with a value of a wrong type. Places are the document, the hosts, each invariant
+//! and its assigns, the flows, and the templates. One pass visits them in this order.
 ghost use Rattle.std.specs.Prelude.{◌≡◌, ◌||◌, true, not, map};
 ghost use Rattle.std.specs.Option.{option_map_or};
 ghost use Rattle.toml.specs.Data.{as_table, table};
@@ -41,7 +41,7 @@ impl Row {
     }
 }
 
-/// The elements at a key, none where no list stands there.
+/// Returns the elements at a key; the empty list if the value is no list.
 #[tactic(auto, unfolding(crate::specs::Places::listed))]
 pub fn listed<'a>(table: &'a Table, key: &str) -> &'a [Value]
     ensures { map view result.now ≡ listed key.now (table_view table.now) }
@@ -52,7 +52,7 @@ pub fn listed<'a>(table: &'a Table, key: &str) -> &'a [Value]
     }
 }
 
-/// The assigns of an invariant.
+/// Returns the assigns of an invariant.
 #[tactic(auto, unfolding(crate::specs::Places::assigns_of, crate::specs::Places::listed))]
 pub fn assigns_of(value: &Value) -> &[Value]
     ensures { map view result.now ≡ assigns_of (view value.now) }
@@ -86,15 +86,15 @@ fn has_missing_key(version: Option<i64>, place: Place, value: &Value) -> bool
     }
 }
 
-/// Whether what is denied is pairs.
+/// Whether all elements of `deny` are pairs.
 fn denies_pairs(table: &Table) -> bool
     ensures { result ≡ denies_pairs (table_view table.now) }
 {
     are_pairs(listed(table, "deny"))
 }
 
-/// Whether the value is no table, or one in which something is not of its kind, or that denies what is no
-/// pair.
+/// Whether the value is no table, or a table in which some value has a wrong type or `deny` has an
+/// element that is no pair.
 fn is_no_template(version: Option<i64>, place: Place, value: &Value) -> bool
     ensures { result ≡ option_map_or (λ ms. not (all_suit (keys_of version place) ms) || not (denies_pairs ms)) (as_table (view value.now)) true }
 {
@@ -120,11 +120,11 @@ fn has_wrong_type(version: Option<i64>, place: Place, value: &Value) -> bool
     }
 }
 
-/// What is found at the places that were gone through: where a key is unknown, where one is missing, and
-/// where a value is of a wrong type, each time at the first place.
+/// The findings at the places visited so far: the first unknown key, the first missing key, and the
+/// first value of a wrong type.
 #[derive(Clone, Copy)]
 pub(crate) struct Found {
-    /// The version that the document says.
+    /// The version of the document.
     version: Option<i64>,
     pub(crate) unknown: Option<Place>,
     pub(crate) missing: Option<Place>,
@@ -132,7 +132,7 @@ pub(crate) struct Found {
 }
 
 impl Found {
-    /// What is found in the whole document.
+    /// Returns the findings in the whole document.
     pub(crate) fn of(document: &Table) -> Found
         ensures { result ≡ first_places (table_view document.now) }
     {
@@ -144,7 +144,7 @@ impl Found {
         found
     }
 
-    /// What is found at the document itself, which is a table and no value.
+    /// Returns the findings at the document itself, which is a table and not a value.
     #[tactic(auto, unfolding(crate::specs::Places::has_wrong_type))]
     fn at_document(document: &Table) -> Found
         ensures { result ≡ after (nothing_found (version_said (table_view document.now)))

@@ -1,12 +1,12 @@
-//! A refusal of a description: the first condition on descriptions that fails, and where.
+//! A refusal of a description: the first condition on descriptions that applies, and its place.
 
 ghost use Rattle.std.specs.Prelude.{◌≡◌};
 ghost use Rattle.desc_form.specs.Refusals.{number, name, refused};
 
 use host_net::Name;
 
-/// A place in a description. Hosts, invariants, the assigns of one invariant, flows and templates count
-/// from 1.
+/// A place in a description. Hosts, invariants, the assigns of one invariant, flows and templates
+/// are numbered from 1.
 #[derive(Clone, Copy, PartialEq, Eq, Debug)]
 pub enum Place {
     /// The document as a whole.
@@ -23,65 +23,66 @@ pub enum Place {
     Template(u64),
 }
 
-/// Why a description is refused. The causes stand in the order in which they are told, and count
-/// from 1.
+/// The cause of a refusal. The variants are in the order of precedence, and are numbered from 1.
 #[derive(Clone, Copy, PartialEq, Eq, Debug)]
 pub enum Why {
-    /// The file has more bytes than a description may have.
+    /// The file exceeds the size limit of a description.
     TooLong,
-    /// The file is no TOML document.
+    /// The file is not a TOML document.
     NotToml,
-    /// The document, a host, an invariant or a template has a key that a description does not know.
+    /// The document, a host, an invariant or a template has an unknown key.
     UnknownKey,
-    /// A key that has to be there is absent.
+    /// A required key is absent.
     MissingKey,
-    /// A value is of another type than its key asks for, the word for answers is unknown, an element
-    /// that should be a table is none, an element of `deny` is not two texts, or a flow is not two
-    /// texts, or in version 2 not two or more.
+    /// A value has another type than its key requires, the word for answers is unknown, an element
+    /// that should be a table is not one, an element of `deny` is not two strings, or a flow is not
+    /// two strings, or in version 2 not two or more.
     WrongType,
     /// The version of the description is neither 1 nor 2.
     BadVersion,
-    /// There are more hosts, prefixes, invariants or templates than there may be.
+    /// The number of hosts, prefixes, invariants or templates exceeds its limit.
     TooMany,
-    /// A text in the place of a host name is no legal name.
+    /// A text in the position of a host name is not a legal name.
     BadName,
     /// Two hosts have the same name.
     DuplicateHost,
-    /// An entry of `at` is no prefix, or is one of length 0.
+    /// An entry of `at` is not a prefix, or is a prefix of length 0.
     BadPrefix,
     /// A prefix has bits set after its length.
     HostBits,
-    /// A host has neither a prefix nor the rest mark, or it has both.
+    /// A host has neither a prefix nor the rest mark, or both.
     NoAddress,
     /// Two hosts have the rest mark.
     TwoRests,
-    /// Two prefixes have an address in common.
+    /// Two prefixes share an address.
     Overlap,
-    /// An invariant names a template that there is not, nor is one declared under that name.
+    /// An invariant names a template that is neither one of the ten nor declared.
     UnknownTemplate,
     /// An assign or a flow names a host that is not declared.
     UndeclaredHost,
     /// An invariant assigns two attributes to one host.
     DuplicateAssign,
-    /// What an assign says is no attribute of its template.
+    /// The table of an assign does not specify an attribute of its template.
     BadAttribute,
     /// A flow leads from a host to itself.
     SelfFlow,
-    /// A flow is listed twice, whatever its services are.
+    /// A flow is listed twice, regardless of its services.
     DuplicateFlow,
-    /// A text behind the two names of a flow is no service.
+    /// A text after the two names of a flow is not a service.
     BadService,
-    /// A flow has more services than it may have.
+    /// The number of services of a flow exceeds the limit.
     ManyServices,
-    /// A declared template has a name that is none or is taken, an unknown strategy, no kinds or too many,
-    /// a kind that is no name or stands twice, or a default or a denied kind that is none of its kinds.
+    /// A declared template is invalid: its name is illegal or taken, its strategy is unknown, it
+    /// has no kinds or too many, a kind is an illegal name or repeated, or the default or a denied
+    /// kind is not one of its kinds.
     BadTemplate,
-    /// A pair of kinds is denied, and its partner is not: with the default kind at the host that is blamed.
+    /// A pair of kinds is denied, but its partner is not: the pair with the default kind at the
+    /// offending host.
     NotLawful,
 }
 
 impl Why {
-    /// The number of the cause, from 1.
+    /// Returns the number of the cause, from 1.
     pub fn number(&self) -> u8
         ensures { result ≡ number self.now }
     {
@@ -113,7 +114,7 @@ impl Why {
         }
     }
 
-    /// The name of the cause, as it is printed.
+    /// Returns the name of the cause, as it is printed.
     pub fn name(&self) -> &str
         ensures { result.now ≡ name self.now }
     {
@@ -146,21 +147,21 @@ impl Why {
     }
 }
 
-/// What is told of a refusal. `item`, `other` and `name` are 0 and empty where none is told.
+/// A refusal with its details. `item`, `other` and `name` are 0 or empty if the cause has none.
 #[derive(Clone, Copy, Debug)]
 pub struct Refusal {
     pub why: Why,
     pub place: Place,
-    /// The prefix of a host, the text in a flow, or the pair of a template, that is refused, from 1.
+    /// The refused prefix of a host, text in a flow, or pair of a template, from 1.
     pub item: u64,
-    /// The earlier host, assign or flow that bars this one, from 1.
+    /// The earlier host, assign or flow with which this one conflicts, from 1.
     pub other: u64,
     /// The name that no host has.
     pub name: Name,
 }
 
 impl Refusal {
-    /// The refusal that tells a place alone.
+    /// Returns a refusal that reports only a place.
     pub fn at(why: Why, place: Place) -> Refusal
         ensures { result ≡ refused why place }
     {
@@ -173,21 +174,21 @@ impl Refusal {
         }
     }
 
-    /// The same, with the item of the place that is refused.
+    /// Returns the refusal with the refused item of the place.
     pub fn with_item(self, item: u64) -> Refusal
         ensures { result ≡ record self { item = item } }
     {
         Refusal { item, ..self }
     }
 
-    /// The same, with the earlier host, assign or flow that bars this one.
+    /// Returns the refusal with the earlier host, assign or flow with which this one conflicts.
     pub fn with_other(self, other: u64) -> Refusal
         ensures { result ≡ record self { other = other } }
     {
         Refusal { other, ..self }
     }
 
-    /// The same, with the name that no host has.
+    /// Returns the refusal with the name that no host has.
     pub fn with_name(self, name: Name) -> Refusal
         ensures { result ≡ record self { name = name } }
     {

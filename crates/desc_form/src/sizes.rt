@@ -11,10 +11,11 @@ use crate::refusal::{Place, Refusal, Why};
 use crate::written::{Written, WrittenHost, WrittenInvariant, WrittenTemplate};
 use host_net::{HOST_LIMIT, INVARIANT_LIMIT};
 
-/// How many templates may be declared.
+/// The greatest number of declared templates.
 const TEMPLATE_LIMIT: usize = 16;
 
-/// There are too many hosts, then too many prefixes, then too many invariants, then too many templates.
+/// Returns the refusal of too many hosts, then of too many prefixes, then of too many invariants,
+/// then of too many templates.
 #[tactic(auto, unfolding(crate::specs::HostConditions::too_many))]
 pub(crate) fn too_many(written: &Written<'_>, entries: &[Entry]) -> Option<Refusal>
     ensures { result ≡ too_many (written_view written.now).hosts (map entry_view entries.now)
@@ -26,7 +27,7 @@ pub(crate) fn too_many(written: &Written<'_>, entries: &[Entry]) -> Option<Refus
         .or(too_many_templates(&written.templates))
 }
 
-/// There are more hosts than there may be.
+/// Returns the refusal if the number of hosts exceeds the limit.
 fn too_many_hosts(hosts: &[WrittenHost<'_>]) -> Option<Refusal>
     ensures { result ≡ beyond host_limit Host (map host_view hosts.now) }
 {
@@ -36,7 +37,7 @@ fn too_many_hosts(hosts: &[WrittenHost<'_>]) -> Option<Refusal>
     Some(Refusal::at(Why::TooMany, Place::Host(HOST_LIMIT as u64 + 1)))
 }
 
-/// There are more invariants than there may be.
+/// Returns the refusal if the number of invariants exceeds the limit.
 fn too_many_invariants(invariants: &[WrittenInvariant<'_>]) -> Option<Refusal>
     ensures { result ≡ beyond invariant_limit Invariant (map invariant_view invariants.now) }
 {
@@ -46,7 +47,7 @@ fn too_many_invariants(invariants: &[WrittenInvariant<'_>]) -> Option<Refusal>
     Some(Refusal::at(Why::TooMany, Place::Invariant(INVARIANT_LIMIT as u64 + 1)))
 }
 
-/// There are more templates than there may be.
+/// Returns the refusal if the number of templates exceeds the limit.
 fn too_many_templates(templates: &[WrittenTemplate<'_>]) -> Option<Refusal>
     ensures { result ≡ beyond template_limit Template (map template_view templates.now) }
 {

@@ -1,4 +1,4 @@
-//! Whether a description is well formed: the refusals for keys and for types of values.
+//! Well-formedness of a description: the refusals for keys and for types of values.
 ghost use Rattle.std.specs.Prelude.{◌≡◌, ◌↔◌, None, option_map};
 ghost use Rattle.text_core.specs.Firsts.{first_of};
 ghost use Rattle.desc_form.specs.Refusals.{refused};
@@ -10,8 +10,8 @@ use crate::places::Found;
 use crate::refusal::{Place, Refusal, Why};
 use toml::Table;
 
-/// Why the description is not well formed: a key that is unknown anywhere comes before one that is
-/// missing anywhere, and that before a value of a wrong type.
+/// Returns the reason why the description is not well formed: an unknown key anywhere takes
+/// precedence over a missing key anywhere, and that over a value of a wrong type.
 pub fn form_refusal(document: &Table) -> Option<Refusal>
     ensures first { result ≡ first_of (form_conditions (table_view document.now)) }
     ensures formed { (result ≡ None) ↔ IsFormed (table_view document.now) }
@@ -29,7 +29,7 @@ fn first_refusal(document: &Table) -> Option<Refusal>
         .or(refusal_at(Why::WrongType, found.wrong))
 }
 
-/// The refusal that tells a place, if there is one.
+/// Returns the refusal of a place, if there is one.
 fn refusal_at(why: Why, place: Option<Place>) -> Option<Refusal>
     ensures { result ≡ option_map (refused why) place }
 {

@@ -1,4 +1,4 @@
-//! What stands in the tables of a description, read without looking anything up.
+//! The raw description: the content of the tables, without name resolution.
 ghost use Rattle.std.specs.Prelude.{◌≡◌, None, filter_map, IfOk, map};
 ghost use Rattle.text_core.specs.Firsts.{first_of};
 ghost use Rattle.desc_form.specs.FormConditions.{form_conditions};
@@ -18,7 +18,7 @@ use std::alloc::{AllocError, Global};
 use table_core::{boolean_at, has_key, integer_at, text_at};
 use toml::{Table, Value};
 
-/// A host: its name, its prefixes as texts, and whether it is the rest host.
+/// A host: its name, its prefixes as strings, and whether it is the rest host.
 #[derive(Drop)]
 pub struct WrittenHost<'a> {
     pub name: &'a str,
@@ -26,7 +26,7 @@ pub struct WrittenHost<'a> {
     pub rest: bool,
 }
 
-/// An assign: the name of its host, and the table that says an attribute.
+/// An assign: the name of its host, and the table that specifies an attribute.
 #[derive(Clone, Copy)]
 pub struct WrittenAssign<'a> {
     pub host: &'a str,
@@ -40,7 +40,7 @@ pub struct WrittenInvariant<'a> {
     pub assigns: Vec<WrittenAssign<'a>>,
 }
 
-/// A flow: the names of its two hosts, and its services as texts, none where it is whole.
+/// A flow: the names of its two hosts, and its services as strings; an unrestricted flow has none.
 #[derive(Drop)]
 pub struct WrittenFlow<'a> {
     pub from: &'a str,
@@ -55,8 +55,8 @@ pub struct WrittenPair<'a> {
     pub receiver: &'a str,
 }
 
-/// A template: its name, its strategy, the words for its kinds, that of its default, and the pairs that
-/// it denies.
+/// A template: its name, its strategy, the names of its kinds and of its default, and the pairs
+/// that it denies.
 #[derive(Drop)]
 pub struct WrittenTemplate<'a> {
     pub name: &'a str,
@@ -66,7 +66,7 @@ pub struct WrittenTemplate<'a> {
     pub deny: Vec<WrittenPair<'a>>,
 }
 
-/// A description as it is written, before anything is looked up.
+/// A raw description, before name resolution.
 #[derive(Drop)]
 pub struct Written<'a> {
     pub version: i64,
@@ -74,13 +74,13 @@ pub struct Written<'a> {
     pub answers: bool,
     pub hosts: Vec<WrittenHost<'a>>,
     pub invariants: Vec<WrittenInvariant<'a>>,
-    /// Whether the key `flow` is there, if only with an empty list.
+    /// Whether the key `flow` is present, possibly with an empty list.
     pub given: bool,
     pub flows: Vec<WrittenFlow<'a>>,
     pub templates: Vec<WrittenTemplate<'a>>,
 }
 
-/// The text at a key, empty where none stands there.
+/// Returns the string at a key; the empty string if there is none.
 pub fn text_in<'a>(table: &'a Table, key: &str) -> &'a str
     ensures { result.now ≡ text_in key.now (table_view table.now) }
 {
@@ -90,7 +90,7 @@ pub fn text_in<'a>(table: &'a Table, key: &str) -> &'a str
     }
 }
 
-/// The texts among some values.
+/// Returns the strings among some values.
 pub(crate) fn texts_among(alloc: Global, values: &[Value]) -> Result<Vec<&str>, AllocError>
     ensures { IfOk result (λ texts. map (λ text. text.now) texts.items ≡ filter_map as_str (map view values.now)) }
 {
@@ -115,7 +115,7 @@ fn host_written(alloc: Global, table: &Table) -> Result<WrittenHost<'_>, AllocEr
     })
 }
 
-/// The hosts among some values.
+/// Returns the hosts among some values.
 fn hosts_among(alloc: Global, values: &[Value]) -> Result<Vec<WrittenHost<'_>>, AllocError>
     ensures { IfOk result (λ hosts. map host_view hosts.items ≡ map host_written (filter_map as_table (map view values.now))) }
 {
@@ -138,7 +138,7 @@ fn assign_written(table: &Table) -> WrittenAssign<'_>
     }
 }
 
-/// The assigns among some values.
+/// Returns the assigns among some values.
 fn assigns_among(alloc: Global, values: &[Value]) -> Result<Vec<WrittenAssign<'_>>, AllocError>
     ensures { IfOk result (λ assigns. map assign_view assigns.items ≡ map assign_written (filter_map as_table (map view values.now))) }
 {
@@ -162,7 +162,7 @@ fn invariant_written(alloc: Global, table: &Table) -> Result<WrittenInvariant<'_
     })
 }
 
-/// The invariants among some values.
+/// Returns the invariants among some values.
 fn invariants_among(
     alloc: Global,
     values: &[Value],
@@ -179,7 +179,7 @@ fn invariants_among(
     Ok(invariants)
 }
 
-/// The flows among some values.
+/// Returns the flows among some values.
 fn flows_among(alloc: Global, values: &[Value]) -> Result<Vec<WrittenFlow<'_>>, AllocError>
     ensures { IfOk result (λ flows. map flow_view flows.items ≡ filter_map flow_written (map view values.now)) }
 {
@@ -192,7 +192,7 @@ fn flows_among(alloc: Global, values: &[Value]) -> Result<Vec<WrittenFlow<'_>>, 
     Ok(flows)
 }
 
-/// The pairs among some values.
+/// Returns the pairs among some values.
 fn pairs_among(alloc: Global, values: &[Value]) -> Result<Vec<WrittenPair<'_>>, AllocError>
     ensures { IfOk result (λ pairs. map pair_view pairs.items ≡ filter_map pair_written (map view values.now)) }
 {
@@ -220,7 +220,7 @@ fn template_written(alloc: Global, table: &Table) -> Result<WrittenTemplate<'_>,
     })
 }
 
-/// The templates among some values.
+/// Returns the templates among some values.
 fn templates_among(alloc: Global, values: &[Value]) -> Result<Vec<WrittenTemplate<'_>>, AllocError>
     ensures { IfOk result (λ templates. map template_view templates.items
         ≡ map template_written (filter_map as_table (map view values.now))) }
@@ -234,16 +234,16 @@ fn templates_among(alloc: Global, values: &[Value]) -> Result<Vec<WrittenTemplat
     Ok(templates)
 }
 
-/// What is written in a description. Where a key is missing or a value is of a wrong type, nothing
-/// stands in its place: such a description is refused for that.
+/// Reads a raw description. A missing key or a value of a wrong type is skipped: such a description
+/// is refused for it.
 pub fn read_written(alloc: Global, document: &Table) -> Result<Written<'_>, AllocError>
     ensures read { IfOk result (λ read. written_view read ≡ written (table_view document.now)) }
 
-    // Where the form is right, nothing is passed over.
+    // If the form is valid, nothing is skipped.
     ensures whole { first_of (form_conditions (table_view document.now)) ≡ None
         → IfOk result (λ read. IsWritten (table_view document.now) (written_view read)) }
 
-    // A document says one thing: whatever is written in it is what is read.
+    // A document has one raw description, and this is the result.
     ensures one { (said : meant.Written) → IsWritten (table_view document.now) said → IfOk result (λ read. written_view read ≡ said) }
 {
     written_in(alloc, document)

@@ -1,4 +1,4 @@
--- What the private type of an entry stands for, and what is said of entries.
+-- The model of the private type of an entry, and tests of entries.
 use Rattle.std.specs.Prelude.{ℕ, Bool, false, not, nat_lt, List, map, slice_get, Option, option_map}
 use Rattle.std.specs.Option.{option_map_or}
 use Rattle.desc_form.specs.HostConditions as condition
@@ -21,14 +21,14 @@ entry_at host e = record { host = host; item = e.number; prefix = prefix_of e.wh
 abbrev pub entries_at : ℕ → List (List ℕ) → List condition.Entry
 entries_at host texts = map (entry_at host) (numbered texts)
 
--- all hosts together have more prefixes than there may be
+-- The number of prefixes of all hosts exceeds the limit.
 abbrev pub too_many_prefixes : List condition.Entry → Option Refusal
 too_many_prefixes es = option_map (λ e. refused_item TooMany (Host e.host) e.item) (slice_get es prefix_limit)
 
--- the entry is a prefix of at least one bit
+-- The entry is a prefix of at least one bit.
 abbrev pub is_prefix : Option Prefix → Bool
 is_prefix said = option_map_or (λ p. nat_lt 0 p.len) said false
 
--- the entry is a prefix with bits after its length
+-- The entry is a prefix with bits set after its length.
 abbrev pub has_host_bits : Option Prefix → Bool
 has_host_bits said = option_map_or (λ p. not (is_exact p)) said false

@@ -1,5 +1,5 @@
--- What is true of a written description that none of the conditions 6 to 14 refuses, in plain words: its version, its sizes, its
--- names, its hosts and their prefixes (the description's format, docs/FORMATS.md).
+-- A direct characterization of the raw descriptions that none of conditions 6 to 14 refuses: their version, their sizes, their names, their
+-- hosts and their prefixes (the description's format, docs/FORMATS.md).
 use Rattle.std.specs.Prelude.{◌≡◌, ◌≢◌, ◌↔◌, ◌⊎◌, ◌≤◌, ◌<◌, ℕ, pos, true, IsTrue, List, [], length, flat_map, Some}
 use Rattle.std.specs.List.{All, AllPairs}
 use Rattle.desc_form.specs.Written.{Written, WrittenHost}
@@ -10,23 +10,23 @@ use Rattle.host_net.specs.Prefix.{is_exact, prefix_of}
 use Rattle.host_net.specs.declared.prefix.Prefix.{Prefix}
 use Rattle.text_core.specs.Name.{is_name}
 
--- the entries of all hosts, in order
+-- The entries of all hosts, in order.
 abbrev pub texts : List WrittenHost → List (List ℕ)
 texts hs = flat_map (λ h. h.at) hs
 
--- the entry is a prefix of at least one bit
+-- The entry is a prefix of at least one bit.
 abbrev pub SaysPrefix : List ℕ → Type 0
 SaysPrefix text = (p : Prefix) × (prefix_of text ≡ Some p) × (0 < p.len)
 
--- no bits of the entry's prefix are set after its length
+-- No bits of the entry's prefix are set after its length.
 abbrev pub SaysExact : List ℕ → Type 0
 SaysExact text = (p : Prefix) → prefix_of text ≡ Some p → IsTrue (is_exact p)
 
--- the prefixes of two entries have no address in common
+-- The prefixes of two entries are disjoint.
 abbrev pub AreApart : List ℕ → List ℕ → Type 0
 AreApart text other = (p q : Prefix) → prefix_of text ≡ Some p → prefix_of other ≡ Some q → ShareAddress p q → ⊥
 
--- the host has the rest mark exactly where it has no entry
+-- The host has the rest mark if and only if it has no entry.
 abbrev pub HasAddress : WrittenHost → Type 0
 HasAddress h = (h.rest ≡ true) ↔ (h.at ≡ [])
 

@@ -1,4 +1,4 @@
--- What the type of a mention stands for, and the names of a host and of an assign.
+-- The model of the code's type of a name use, and the names of a host and of an assign.
 use Rattle.std.specs.Prelude.{ℕ}
 use Rattle.desc_form.specs.Mentions as meant
 use Rattle.desc_form.specs.Written.{WrittenAssign, WrittenHost}
@@ -12,6 +12,6 @@ mention_view m = record { place = m.place; item = m.item; name = m.name.now }
 abbrev pub host_name : Numbered WrittenHost → meant.Mention
 host_name h = record { place = Host h.number; item = 0; name = h.what.name }
 
--- the name in an assign of the invariant with a number
+-- The name in an assign of the invariant with a number.
 abbrev pub assign_name : ℕ → Numbered WrittenAssign → meant.Mention
 assign_name invariant a = record { place = Assign invariant a.number; item = 0; name = a.what.host }

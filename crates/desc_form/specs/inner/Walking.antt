@@ -1,5 +1,5 @@
--- What is found as the places are gone through one by one: what the private functions compute that go through them. Nothing
--- here has to be believed: FoundLaws proves that the first places come out.
+-- The findings of an iteration over the places: the results of the private functions that iterate. Nothing here is trusted: FoundLaws
+-- proves that the findings are the first places.
 use Rattle.std.specs.Prelude.{ℕ, ◌+◌, ℤ, Bool, List, [], ◌∷◌, find, Option, None, option_map}
 use Rattle.std.specs.Option.{option_or}
 use Rattle.toml.specs.Data.{Data, Members}
@@ -12,18 +12,18 @@ use Rattle.text_core.specs.Firsts.{where_holds}
 use Rattle.desc_form.specs.Keys.{version_said}
 use Rattle.desc_form.specs.Places.{Spot, has_unknown_key, has_missing_key, has_wrong_type, invariant_spots, spots}
 
--- the place with a number in one of the lists
+-- The place with a number in one of the lists.
 abbrev pub place_in : Row → ℕ → Place
 place_in Hosts k = Host k
 place_in (Assigns invariant) k = Assign invariant k
 place_in Flows k = FlowAt k
 place_in Templates k = Template k
 
--- nothing, in a document that says a version
+-- No findings, in a document of the given version.
 abbrev pub nothing_found : Option ℤ → Found
 nothing_found said = record { version = said; unknown = None; missing = None; wrong = None }
 
--- after one more place
+-- The findings after one more place.
 abbrev pub after : Found → Spot → Found
 after f s = record {
   version = f.version;
@@ -32,21 +32,21 @@ after f s = record {
   wrong = option_or f.wrong (where_holds (has_wrong_type f.version s.place s.value) s.place);
 }
 
--- after further places
+-- The findings after further places.
 abbrev pub after_all : Found → List Spot → Found
 after_all f [] = f
 after_all f (s ∷ ss) = after_all (after f s) ss
 
--- after the invariants from number k on, each with its assigns
+-- The findings after the invariants from number k on, each with its assigns.
 abbrev pub after_invariants : Found → ℕ → List Data → Found
 after_invariants f k [] = f
 after_invariants f k (d ∷ ds) = after_invariants (after_all f (invariant_spots (record { number = k; what = d }))) (k + 1) ds
 
--- the first place where a condition holds of what stands there
+-- The first place whose value satisfies a condition.
 unfoldable pub place_where : (Option ℤ → Place → Data → Bool) → Members → Option Place
 place_where holds document = option_map (λ s. s.place) (find (λ s. holds (version_said document) s.place s.value) (spots document))
 
--- the first place for each of the three conditions
+-- The first place for each of the three conditions.
 abbrev pub first_places : Members → Found
 first_places document = record {
   version = version_said document;

@@ -1,5 +1,5 @@
--- The form of a description (its format, docs/FORMATS.md), table by table: which keys it has, what stands at each, and what the
--- record of its texts says of it.
+-- The form of a description (its format, docs/FORMATS.md), table by table: its keys, the value at each key, and the corresponding field of
+-- the raw description.
 use Rattle.std.specs.Prelude.{◌≡◌, ◌≢◌, ℕ, ℤ, pos, Bool, true, false, if◌then◌else◌, List, [], ◌∷◌, codes, is_some, IsTrue, IsSomeAnd, MatchOption}
 use Rattle.std.specs.List.{All, AllZip}
 use Rattle.std.specs.Ordering.{int_eq}
@@ -9,7 +9,7 @@ use Rattle.desc_form.specs.WrittenFlow.{WrittenFlow}
 use Rattle.desc_form.specs.WrittenTemplate.{WrittenPair, WrittenTemplate}
 use Rattle.table_core.specs.Tables.{elements, has_only}
 
--- values by their type
+-- Values by their type.
 abbrev pub IsText : Data → List ℕ → Type 0
 IsText d text = d ≡ string text
 
@@ -19,52 +19,52 @@ IsInteger d number = d ≡ integer number
 abbrev pub IsBoolean : Data → Bool → Type 0
 IsBoolean d truth = d ≡ boolean truth
 
--- the words for answers
+-- The words for answers.
 abbrev pub IsAnswers : Data → Bool → Type 0
 IsAnswers d answers = d ≡ string (if answers then codes "all" else codes "none")
 
--- an array: each of its elements is what the list has in its place
+-- An array whose elements correspond to those of the list.
 abbrev pub IsArray : {A : Type 0} → (Data → A → Type 0) → Data → List A → Type 0
 IsArray Is d xs = (ds : Items) × (d ≡ array ds) × AllZip Is (elements ds) xs
 
--- an array of two texts: the kinds of a sender and a receiver
+-- An array of two strings: the kinds of a sender and a receiver.
 abbrev pub IsPair : Data → WrittenPair → Type 0
 IsPair d pair = IsArray IsText d (pair.sender ∷ pair.receiver ∷ [])
 
--- an array of texts: two names, and the services behind them
+-- An array of strings: two names, followed by services.
 abbrev pub IsFlow : Data → WrittenFlow → Type 0
 IsFlow d flow = IsArray IsText d (flow.from ∷ flow.to ∷ flow.services)
 
 abbrev pub IsTable : {A : Type 0} → (Members → A → Type 0) → Data → A → Type 0
 IsTable Is d x = (ms : Members) × (d ≡ table ms) × Is ms x
 
--- something stands at the key, and that is x
+-- The key has a value that corresponds to x.
 abbrev pub Stands : {A : Type 0} → (Data → A → Type 0) → List ℕ → Members → A → Type 0
 Stands Is key ms x = IsSomeAnd (get_member key ms) (λ d. Is d x)
 
--- so it is, or nothing stands there and x is the default
+-- The key has a value that corresponds to x, or the key is absent and x is the default.
 abbrev pub StandsOr : {A : Type 0} → A → (Data → A → Type 0) → List ℕ → Members → A → Type 0
 StandsOr default Is key ms x = MatchOption (get_member key ms) (x ≡ default) (λ d. Is d x)
 
--- an element of `host`
+-- An element of `host`.
 pub record IsHost (ms : Members) (h : WrittenHost) : Type 0 where
   pub only : IsTrue (has_only (codes "name" ∷ codes "at" ∷ codes "rest" ∷ []) ms)
   pub name : Stands IsText (codes "name") ms h.name
   pub at : StandsOr [] (IsArray IsText) (codes "at") ms h.at
   pub rest : StandsOr false IsBoolean (codes "rest") ms h.rest
 
--- an element of `assign`; its further keys are left to its template
+-- An element of `assign`. Its further keys depend on its template.
 pub record IsAssign (ms : Members) (a : WrittenAssign) : Type 0 where
   pub host : Stands IsText (codes "host") ms a.host
   pub table : a.table ≡ ms
 
--- an element of `invariant`
+-- An element of `invariant`.
 pub record IsInvariant (ms : Members) (i : WrittenInvariant) : Type 0 where
   pub only : IsTrue (has_only (codes "template" ∷ codes "assign" ∷ []) ms)
   pub template : Stands IsText (codes "template") ms i.template
   pub assigns : StandsOr [] (IsArray (IsTable IsAssign)) (codes "assign") ms i.assigns
 
--- an element of `template`
+-- An element of `template`.
 pub record IsTemplate (ms : Members) (t : WrittenTemplate) : Type 0 where
   pub only : IsTrue (has_only (codes "name" ∷ codes "strategy" ∷ codes "kinds" ∷ codes "default" ∷ codes "deny" ∷ []) ms)
   pub name : Stands IsText (codes "name") ms t.name
@@ -73,7 +73,7 @@ pub record IsTemplate (ms : Members) (t : WrittenTemplate) : Type 0 where
   pub default : Stands IsText (codes "default") ms t.default
   pub deny : Stands (IsArray IsPair) (codes "deny") ms t.deny
 
--- the names of the keys of a document of a version; only version 2 has templates
+-- The names of the keys of a document of a version. Only version 2 has templates.
 abbrev pub template_names : Bool → List (List ℕ)
 template_names second = if second then codes "template" ∷ [] else []
 
@@ -81,7 +81,7 @@ abbrev pub document_names : ℤ → List (List ℕ)
 document_names version =
     codes "topos" ∷ codes "answers" ∷ codes "host" ∷ codes "invariant" ∷ codes "flow" ∷ template_names (int_eq version (pos 2))
 
--- the document; only version 2 has templates, and flows with services
+-- The document. Only version 2 has templates, and flows with services.
 pub record IsWritten (ms : Members) (w : Written) : Type 0 where
   pub only : IsTrue (has_only (document_names w.version) ms)
   pub version : Stands IsInteger (codes "topos") ms w.version
@@ -93,6 +93,6 @@ pub record IsWritten (ms : Members) (w : Written) : Type 0 where
   pub whole : w.version ≢ pos 2 → All (λ f. f.services ≡ []) w.flows
   pub templates : StandsOr [] (IsArray (IsTable IsTemplate)) (codes "template") ms w.templates
 
--- the description is of the right form: some record says what is written in it
+-- The description has a valid form: it has a raw description.
 abbrev pub IsFormed : Members → Type 0
 IsFormed ms = (w : Written) × IsWritten ms w

@@ -1,4 +1,4 @@
--- What the code's types of a written description stand for.
+-- The models of the code's types of a raw description.
 use Rattle.std.specs.Prelude.{map}
 use Rattle.toml.specs.View.{table_view}
 use Rattle.desc_form.specs.Written as meant

@@ -14,7 +14,7 @@ take_all : {A : Type 0} (xs : List A) → take (length xs) xs ≡ xs
 take_all [] = refl
 take_all (x ∷ xs) = ap (λ ys. x ∷ ys) (take_all xs)
 
--- two values, and those behind them
+-- Two values, and those after them.
 parted : {A B : Type 0} (f : A → B) (xs : List A) (x y : A) → 2 ≤ length xs → x ≡ get_or xs 0 x → y ≡ get_or xs 1 y
     → map f xs ≡ f x ∷ f y ∷ map f (take (length xs - 2) (drop 2 xs))
 parted f [] x y long first second = absurd (omega (arith, long))

@@ -13,7 +13,7 @@ use Rattle.desc_form.proofs.AddingLemmas.{known_here}
 use Rattle.host_net.proofs.AcceptedLaws.{accepted, networks_of}
 use Rattle.desc_form.proofs.hosts.read_hosts.Goals as goal
 
--- the hosts that were added, the next one and those that are left
+-- The hosts added so far, the next one and the remaining ones.
 known_next : (w : Written) (hosts : List Host) (xs : List WrittenHost) (i : ℕ) (x : WrittenHost) → first_of (host_conditions (written_view w)) ≡ None → xs ≡ w.hosts.items
     → i < length xs → x ≡ get_or xs i x → hosts ++ map network_host (map host_view (drop i xs)) ≡ map network_host (map host_view xs)
     → IsHosts (hosts ++ network_host (host_view x) ∷ map network_host (map host_view (drop (suc i) xs)))
