@@ -1,4 +1,4 @@
--- What is said of a template that an invariant names, by the form of the template.
+-- Facts about the template of an invariant, by the attribute format of the template.
 use Rattle.std.proofs.Common.{◌≡◌, ℕ, ◌<◌, List, [], length, Some, refl, ap, ◌∙◌, sym, arith}
 use Rattle.std.proofs.lemmas.List.FromFn.{length-map-range_with_len}
 use Rattle.std.specs.Prelude.{unwrap_or}
@@ -20,14 +20,14 @@ pub made_by_form : (hosts : List Host) (c : Choice) (assigns : List Given)
 unfolding made_by
 made_by_form hosts c assigns = refl
 
--- an invariant that is made has an attribute for each host
+-- An invariant that is made has an attribute for each host.
 pub made_sized : (hosts : List Host) (c : Choice) (assigns : List Given) → (meaning_of (made_by hosts c assigns)).size ≡ length hosts
 unfolding made_by
 made_sized hosts (OneOfTen t) assigns = ap (λ inv. (meaning_of inv).size) (sym (invariant_is hosts t assigns)) ∙ invariant_sized hosts t assigns
 made_sized hosts (OwnTable t) assigns =
     length-map-range_with_len (λ host. unwrap_or (last_said (says (table_form (declared_by t)) hosts) [] host assigns) (table_said t).default) 0 (length hosts)
 
--- the assign that is bad is one of those that are given
+-- A bad assign is one of the given assigns.
 pub bad_of_within : (hosts : List Host) (c : Choice) (assigns : List Given) (k : ℕ) → bad_of hosts c assigns ≡ Some k → k < length assigns
 bad_of_within hosts c assigns k is =
     omega (arith, bad_within (says (choice_form c) hosts) [] assigns k (sym (bad_by_form hosts c assigns) ∙ is))

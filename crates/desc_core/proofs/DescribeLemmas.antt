@@ -1,4 +1,4 @@
--- A description, from its bytes to its table and from there to what is written.
+-- A description, from its bytes to its table and from there to its raw description.
 use Rattle.std.proofs.Common.{◌≡◌, ℕ, Bool, true, false, List, ◌++◌, length, Option, Some, None, Result, Ok, Err, refl, ap, ◌∙◌, subst, sym}
 use Rattle.std.specs.Option.{ok_or, option_or}
 use Rattle.std.specs.Prelude.{◌≢◌, if◌then◌else◌, nat_lt, IfOk}
@@ -48,7 +48,7 @@ pub form_passed : (table : Members) → first_of (form_conditions table) ≡ Non
 unfolding described_by_table network_or
 form_passed table none = passed_to _ _ _ (network_of (written table)) (form_first table) none
 
--- what the table of the bytes says, or why there is none
+-- The result of the table of the bytes, or the reason why there is none.
 abbrev by_table : Result Members Refusal → Result Network Refusal
 by_table (Ok table) = described_by_table table
 by_table (Err r) = Err r
@@ -73,7 +73,7 @@ table_refused bytes Memory none = tt
 pub table_read : (bytes : List ℕ) (table : Members) → table_of bytes ≡ Ok table → described bytes ≡ described_by_table table
 table_read bytes table read = described_is bytes ∙ ap by_table read
 
--- of bytes
+-- For bytes.
 pub least_told : (bytes : List ℕ) (result : Result Network DescFault) → Reads result (described bytes) → (r : Refusal) → result ≡ Err (Refused r) → IsLeast 1 (conditions bytes) r
 least_told bytes result given r is = IsLeast-described bytes r (subst (λ (x : Result Network DescFault). Reads x (described bytes)) is given)
 
@@ -85,7 +85,7 @@ pub none_holds : (bytes : List ℕ) (result : Result Network DescFault) → Read
 none_holds bytes (Ok d) given = NoneHolds-described bytes d given
 none_holds bytes (Err fault) given = tt
 
--- of a table
+-- For a table.
 pub table_least : (table : Members) (result : Result Network DescFault) → Reads result (described_by_table table) → (r : Refusal) → result ≡ Err (Refused r)
     → IsLeast 3 (table_conditions table) r
 table_least table result given r is = IsLeast-table table r (subst (λ (x : Result Network DescFault). Reads x (described_by_table table)) is given)

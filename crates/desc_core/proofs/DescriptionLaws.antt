@@ -1,4 +1,4 @@
--- What follows for what is a description, and for what is refused.
+-- Consequences for descriptions that are accepted, and for those that are refused.
 use Rattle.std.proofs.Common.{◌≡◌, ℕ, ◌<◌, true, false, Bool, List, [], ◌∷◌, ◌++◌, length, Option, Some, None, Ok, Err, refl, ap, sym, ◌∙◌}
 use Rattle.std.proofs.lemmas.Bool.{lt-ltb}
 use Rattle.std.specs.Option.{option_map_or, option_or}
@@ -21,26 +21,26 @@ use Rattle.desc_form.specs.declared.refusal.Refusal.{Refusal}
 use Rattle.desc_form.specs.declared.refusal.Why.TheVariants.{NotToml, TooLong}
 use Rattle.desc_form.specs.HostConditions.{host_conditions}
 
--- no condition holds of the table, and d is its network
+-- No condition applies to the table, and d is its network.
 pub record IsAccepted (table : Members) (d : Network) : Type 0 where
   pub form : first_of (form_conditions table) ≡ None
   pub hosts : first_of (host_conditions (written table)) ≡ None
   pub uses : first_of (use_conditions (written table)) ≡ None
   pub network : network_of (written table) ≡ d
 
--- the bytes are a table that describes d
+-- The bytes are a table that describes d.
 pub record IsTableOf (bytes : List ℕ) (d : Network) : Type 0 where
   pub table : Members
   pub document : document bytes ≡ Some table
   pub says : described_by_table table ≡ Ok d
 
--- the first of two lists is that of the first, else that of the second
+-- The first of two concatenated lists is that of the first list, otherwise that of the second.
 pub first_of-append : {A : Type 0} (xs ys : List (Option A)) → first_of (xs ++ ys) ≡ option_or (first_of xs) (first_of ys)
 first_of-append [] ys = refl
 first_of-append (None ∷ xs) ys = first_of-append xs ys
 first_of-append (Some x ∷ xs) ys = refl
 
--- what is said where nothing is refused, and what is told where something is
+-- The result if nothing is refused, and the refusal otherwise.
 passed : {A : Type 0} (o : Option Refusal) (x y : A) → refused_or o x ≡ Ok y → (o ≡ None) × (x ≡ y)
 passed None x y said = (refl, cc)
 passed (Some r) x y said = cc
@@ -51,7 +51,7 @@ told_by (Some s) x r said = cc
 
 -- ---- tables
 
--- the conditions on a table in their groups: its form, its hosts, and what stands on the hosts
+-- The conditions on a table in groups: its form, its hosts, and the uses of the hosts.
 pub by_groups : (table : Members)
     → first_of (table_conditions table) ≡ option_or (first_of (form_conditions table)) (option_or (first_of (host_conditions (written table))) (first_of (use_conditions (written table))))
 unfolding table_conditions
@@ -90,12 +90,12 @@ pub table_of_bytes : (bytes : List ℕ) (d : Network) → described bytes ≡ Ok
 unfolding described
 table_of_bytes bytes d said = by_length bytes (nat_lt byte_limit (length bytes)) d said
 
--- what has more bytes than the limit is refused, whatever they are
+-- Bytes beyond the size limit are refused, regardless of their content.
 pub described-too_long : (bytes : List ℕ) → byte_limit < length bytes → described bytes ≡ Err (refused TooLong Document)
 unfolding described
 described-too_long bytes longer = let above = lt-ltb _ _ longer in rw above refl
 
--- what is told of bytes that are refused is the first of the conditions that hold
+-- The reported refusal of bytes is the first of the conditions that apply.
 told_of_document : (read : Option Members) (r : Refusal) → described_by read ≡ Err r
     → first_of (where_holds (is_none read) (refused NotToml Document) ∷ option_map_or table_conditions read []) ≡ Some r
 told_of_document None r said = cc
@@ -111,7 +111,7 @@ pub told : (bytes : List ℕ) (r : Refusal) → described bytes ≡ Err r → fi
 unfolding described conditions too_long not_toml
 told bytes r said = told_by_length (nat_lt byte_limit (length bytes)) (document bytes) r said
 
--- where the bytes describe a network, none of the conditions holds
+-- If the bytes describe a network, none of the conditions applies.
 none_of_document : (read : Option Members) (d : Network) → described_by read ≡ Ok d
     → first_of (where_holds (is_none read) (refused NotToml Document) ∷ option_map_or table_conditions read []) ≡ None
 none_of_document None d said = cc

@@ -1,4 +1,4 @@
--- What follows of the flows of a description: each lies between two of its hosts.
+-- Each flow of a description is between two of its hosts.
 use Rattle.std.proofs.Common.{refl, ◌≡◌, ℕ, inl, inr, true, sym, subst, eq-eqb, ◌==◌, ◌<◌, length, Option, Some, None, Bool, false, List, [], ◌∷◌, ◌∙◌}
 use Rattle.std.proofs.lemmas.Bool.{false≢true, or_cases}
 use Rattle.std.proofs.lemmas.Option.{option_and_then_some}
@@ -23,7 +23,7 @@ ends_differ false n from to f same is_from is_to is =
     let ends : between ≡ f = cc in
     subst (IsFlow n) ends (is_from, is_to, λ e. false≢true (sym same ∙ eq-eqb from to e))
 
--- a flow between two names is one between two of the hosts
+-- A flow between two names is one between two of the hosts.
 pub IsFlow-flow_of_names : (hosts : List Host) (names : WrittenFlow) (f : Flow) → flow_of_names hosts names ≡ Some f
     → IsFlow (length hosts) f
 IsFlow-flow_of_names hosts names f is =
@@ -41,7 +41,7 @@ between_by hosts names pairs (Some g) is later f listed =
       | inr behind ↦ later f behind
     ]
 
--- what a description lists are flows between two of its hosts
+-- The listed flows of a description are flows between two of its hosts.
 pub are_between : (hosts : List Host) (pairs : List WrittenFlow) (f : Flow) → IsTrue (has (filter_map (flow_of_names hosts) pairs) f)
     → IsFlow (length hosts) f
 are_between hosts [] f listed = has_nothing f listed

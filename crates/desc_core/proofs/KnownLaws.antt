@@ -1,4 +1,4 @@
--- Where all names of a description are known: the conditions on them, in terms of what was found.
+-- If all names of a description are known: the conditions on them, in terms of the resolved names.
 use Rattle.std.proofs.Common.{◌≡◌, ℕ, ◌+◌, ◌==◌, Bool, true, false, cond, not, ◌&&◌, List, [], ◌∷◌, map, length, Option, Some, None, option_map, option_and_then, is_none, is_some, refl, sym, ap, subst, ◌∙◌, arith}
 use Rattle.std.proofs.lemmas.Bool.{and_parts, false≢true}
 use Rattle.std.proofs.lemmas.Bool.Decides.{nat_tests}
@@ -49,7 +49,7 @@ zip_cons {A} {B} f x xs (Some y) (Some zs) ys here later is =
     let same : y ∷ zs ≡ ys = cc in
     subst (λ (us : List B). AllZip (λ x y. f x ≡ Some y) (x ∷ xs) us) same (here, later zs refl)
 
--- each element of the one list is read as that of the other in its place
+-- Each element of one list is parsed to the element of the other at the same index.
 pub each_zip : {A B : Type 0} (f : A → Option B) (xs : List A) (ys : List B) → each f xs ≡ Some ys → AllZip (λ x y. f x ≡ Some y) xs ys
 each_zip {A} {B} f [] ys is =
     let same : [] ≡ ys = cc in
@@ -61,7 +61,7 @@ some_by None rest all later = refl
 some_by (Some y) None all later = later
 some_by (Some y) (Some zs) all later = later
 
--- a list is read where each of its elements is
+-- A list is parsed if each of its elements is.
 pub each_is : {A B : Type 0} (f : A → Option B) (xs : List A) → is_some (each f xs) ≡ list_all (λ x. is_some (f x)) xs
 each_is f [] = refl
 each_is f (x ∷ xs) = some_by (f x) (each f xs) (list_all (λ y. is_some (f y)) xs) (each_is f xs)
@@ -72,7 +72,7 @@ all_read f xs ys is = sym (each_is f xs) ∙ ap is_some is
 never_none : {A B : Type 0} (f : A → Option B) (xs : List A) → each f xs ≡ None → list_all (λ x. is_some (f x)) xs ≡ true → ⊥
 never_none f xs is all = false≢true (sym (ap is_some is) ∙ each_is f xs ∙ all)
 
--- ---- what a name that is known says
+-- ---- facts about a known name
 
 declared_by : {A : Type 0} (o : Option A) (b : Bool) → is_none o ≡ not b → is_some o ≡ b
 declared_by None true is = cc
@@ -139,12 +139,12 @@ known_tests w = λ j. list_all (λ i. is_known w i j) w.invariants
 ends_tests : (w : Written) → list_all (λ f. is_some (ends_of (network_hosts w) f)) w.flows ≡ list_all (ends_test w) w.flows
 ends_tests w = λ j. list_all (λ f. are_ends w f j) w.flows
 
--- every invariant of a sound description is known
+-- Every invariant of a sound description is known.
 pub all_known : (w : Written) → PassesUses w → list_all (λ i. is_some (known_of w.templates (network_hosts w) i)) w.invariants ≡ true
 all_known w sound =
     known_tests w ∙ all_both (template_test w) (assigns_test w) (λ i. template_test w i && assigns_test w i) (λ i a b. rw (a, b) refl) w.invariants sound.templates sound.assigned
 
--- where all names are known, 15 and 16 refuse nothing
+-- If all names are known, conditions 15 and 16 refuse nothing.
 pub names_known : (w : Written) (ks : List Known) (es : List Flow) → each (known_of w.templates (network_hosts w)) w.invariants ≡ Some ks → each (ends_of (network_hosts w)) w.flows ≡ Some es
     → (unknown_template w ≡ None) × (undeclared_host w ≡ None)
 names_known w ks es known found =
@@ -154,7 +154,7 @@ names_known w ks es known found =
     let assigns = all_weaker (λ i. template_test w i && assigns_test w i) (assigns_test w) (λ i here. (and_parts (template_test w i) _ here).1) w.invariants both in
     ((templates_known w).1 templates, (hosts_declared w).1 (assigns, ends))
 
--- where one is unknown, one of them refuses the description
+-- If one is unknown, one of them refuses the description.
 pub unknown_invariant : (w : Written) → each (known_of w.templates (network_hosts w)) w.invariants ≡ None → first_of (name_conditions w) ≢ None
 unknown_invariant w none told =
     let (templates, from_16) = neither (unknown_template w) _ told in
@@ -193,7 +193,7 @@ invariants_are w ks known = made_zip w.templates (network_hosts w) w.invariants 
 
 -- ---- 19 and 20, and the set of flows
 
--- a written flow, and the flow between its hosts
+-- A raw flow, and the flow between its hosts.
 record Located (hosts : List Host) : Type 0 where
   written : WrittenFlow
   flow : Flow
@@ -240,7 +240,7 @@ numbers_equal a b h = grind (arith, nat_tests)
 some_equal : {A : Type 0} (x y : A) → Some x ≡ Some y → x ≡ y
 some_equal x y is = cc
 
--- two names are the same where their hosts are
+-- Two names are equal if their hosts are.
 one_test : (hosts : List Host) (a b : List ℕ) (i j : ℕ) → host_named hosts a ≡ Some i → host_named hosts b ≡ Some j → bytes_eq a b ≡ (i == j)
 one_test hosts a b i j at_a at_b =
     same_bools (bytes_eq a b) (i == j)
@@ -296,7 +296,7 @@ pub self_is : (w : Written) (es : List Flow) → each (ends_of (network_hosts w)
 unfolding self_flow
 self_is w es found = self_zip (network_hosts w) 1 w.flows es (each_zip (ends_of (network_hosts w)) w.flows es found)
 
--- flows of which none leads from a host to itself
+-- Flows none of which is from a host to itself.
 apart_from : (n : ℕ) (es : List Flow) → find (λ (f : Numbered Flow). f.what.from == f.what.to) (numbered_from n es) ≡ None → list_all (λ (e : Flow). not (e.from == e.to)) es ≡ true
 apart_from n [] none = refl
 apart_from n (e ∷ es) none = apart_step (e.from == e.to) (record { number = n; what = e }) _ _ none (apart_from (n + 1) es)
@@ -330,7 +330,7 @@ between_zip hosts (w ∷ ws) (e ∷ es) zipped apart =
     let (here, behind) = and_parts (not (e.from == e.to)) _ apart in
     λ j. cons_option (flow_is hosts w e zipped.0 here j) (between_zip hosts ws es zipped.1 behind j)
 
--- the flows that are asked for
+-- The asked flows.
 pub asked_is : (w : Written) (es : List Flow) → each (ends_of (network_hosts w)) w.flows ≡ Some es → self_found es ≡ None
     → asked_of w ≡ (if w.given then set_of es else every_flow (length w.hosts))
 unfolding asked_of

@@ -1,4 +1,4 @@
--- One name after the other is looked up: what is found so far, and what is left to find.
+-- Name resolution one by one: the resolved names so far, and the remaining ones.
 use Rattle.std.proofs.Common.{◌≡◌, ℕ, ◌+◌, ◌<◌, List, [], ◌∷◌, ◌++◌, map, drop, drop-cons, add-one, get_or, length, Option, Some, option_map, sym, ap, ◌∙◌}
 use Rattle.std.proofs.lemmas.List.{map-append}
 use Rattle.attr_core.specs.inner.AssignView.{given_of}
@@ -23,7 +23,7 @@ one_more view find given k w ws i whole within here says so_far =
     let next : drop i ws ≡ w ∷ drop (i + 1) ws = drop-cons ws i w within ∙ (λ j. sym here j ∷ drop (sym (add-one i) j) ws) in
     each_more find given k (view w) (map view (drop (i + 1) ws)) whole says (rw next at so_far)
 
--- what an assign gives, after those that came before
+-- The host and table of an assign, after those before it.
 pub assigns_more : (hosts : List Host) (given items : List read.Assign) (a : read.Assign) (w : WrittenAssign) (ws : List WrittenAssign) (i : ℕ) (whole : Option (List Given))
     → items ≡ given ++ a ∷ [] → i < length ws → w ≡ get_or ws i w → given_by hosts (assign_view w) ≡ Some (given_of a)
     → option_map (λ rest. map given_of given ++ rest) (each (given_by hosts) (map assign_view (drop i ws))) ≡ whole
@@ -32,7 +32,7 @@ assigns_more hosts given items a w ws i whole more within here says so_far =
     let more_given : map given_of items ≡ map given_of given ++ given_of a ∷ [] = ap (map given_of) more ∙ map-append given_of given (a ∷ []) in
     rw more_given (one_more assign_view (given_by hosts) (map given_of given) (given_of a) w ws i whole within here says so_far)
 
--- an invariant
+-- An invariant.
 pub invariants_more : (ts : List WrittenTemplate) (hosts : List Host) (known items : List KnownInvariant) (k : KnownInvariant) (w : WrittenInvariant) (ws : List WrittenInvariant) (i : ℕ) (whole : Option (List Known))
     → items ≡ known ++ k ∷ [] → i < length ws → w ≡ get_or ws i w → known_of ts hosts (invariant_view w) ≡ Some (known_view k)
     → option_map (λ rest. map known_view known ++ rest) (each (known_of ts hosts) (map invariant_view (drop i ws))) ≡ whole

@@ -1,5 +1,5 @@
--- What a table with too many hosts or prefixes is told, whatever the limits are: the first host, or the first entry of a prefix,
--- beyond them. No contract names these laws either.
+-- The refusal of a table with too many hosts or prefixes, for all limits: it is at the first host, or the first prefix entry, beyond the
+-- limit. No contract names these lemmas.
 use Rattle.std.proofs.Common.{◌≡◌, ◌<◌, ◌≤◌, ◌+◌, ◌⊎◌, ℤ, pos, length, Option, Some, None, Err, refl}
 use Rattle.std.specs.Option.{option_or}
 use Rattle.std.specs.Prelude.{slice_get}
@@ -20,7 +20,7 @@ use Rattle.desc_form.proofs.SizesLaws.{many_hosts, many_prefixes}
 use Rattle.host_net.specs.Limits.{host_limit, prefix_limit}
 use Rattle.text_core.specs.Firsts.{first_of}
 
--- a version that there is
+-- An existing version.
 abbrev pub IsVersion : ℤ → Type 0
 IsVersion version = (version ≡ pos 1) ⊎ (version ≡ pos 2)
 
@@ -33,7 +33,7 @@ refused_by_second : {A : Type 0} (o a b c : Option Refusal) (x : A) (r : Refusal
     → o ≡ option_or a (option_or b c) → a ≡ None → b ≡ Some r → refused_or o x ≡ Err r
 refused_by_second o a b c x r groups first second = rw (groups, first, second) refl
 
--- a table of the right form and version is told what its sizes are refused for
+-- The refusal of a table with valid form and version is that of its sizes.
 told_of_sizes : (table : Members) (r : Refusal) → IsFormed table → IsVersion (written table).version
     → too_many (written table).hosts (all_entries (written table)) (written table).invariants (written table).templates ≡ Some r → described_by_table table ≡ Err r
 unfolding described_by_table

@@ -1,4 +1,4 @@
--- What is read of each element of a list, where each can be read.
+-- Parsing each element of a list, if each can be parsed.
 use Rattle.std.proofs.Common.{◌≡◌, suc, Bool, true, List, [], ◌∷◌, length, Option, Some, None, is_some, refl, ap}
 use Rattle.std.proofs.lemmas.Bool.{and_parts}
 use Rattle.std.specs.List.{AllZip, cons_option, filter_map, list_all}
@@ -7,7 +7,7 @@ zip_by : {A B : Type 0} (f : A → Option B) (x : A) (xs : List A) (ys : List B)
 zip_by f x xs ys None is there rest = cc
 zip_by f x xs ys (Some y) is there rest = (is, rest)
 
--- nothing is passed over
+-- No element is skipped.
 pub zip_some : {A B : Type 0} (f : A → Option B) (xs : List A) → list_all (λ x. is_some (f x)) xs ≡ true → AllZip (λ x y. f x ≡ Some y) xs (filter_map f xs)
 zip_some f [] all = tt
 zip_some f (x ∷ xs) all =

@@ -1,4 +1,4 @@
--- Where no condition refuses the description, an invariant can be made of each template that one names.
+-- If no condition refuses the description, an invariant can be made of each template that an invariant names.
 use Rattle.std.proofs.Common.{◌≡◌, ℕ, ◌+◌, Bool, true, false, not, ◌&&◌, ◌==◌, List, [], ◌∷◌, ◌++◌, map, length, Option, Some, None, option_map, inl, inr, refl, ap, ◌∙◌, subst, arith}
 use Rattle.std.proofs.lemmas.Bool.{and_from, and_parts, eq-eqb, false≢true, or_cases, or_left, or_right, not_from_false, not_from_true, ltb-true, leb-true}
 use Rattle.std.proofs.lemmas.List.Elements.{All-from_recursion}
@@ -99,7 +99,7 @@ each_lawful : (ts : List WrittenTemplate) → AllByRecursion IsMakeable ts → A
 each_lawful [] all = tt
 each_lawful (t ∷ ts) (here, behind) = (here.lawful, each_lawful ts behind)
 
--- each table that is declared is lawful
+-- Each declared table is lawful.
 pub all_lawful : (w : Written) → bad_template w ≡ None → not_lawful w ≡ None → All (λ (t : WrittenTemplate). is_lawful (table_said t) ≡ true) w.templates
 all_lawful w good lawful =
     All-from_recursion (λ (t : WrittenTemplate). is_lawful (table_said t) ≡ true) w.templates
@@ -148,7 +148,7 @@ all_can ts hosts [] (k ∷ ks) all zipped = absurd zipped
 all_can ts hosts (i ∷ is) [] all zipped = tt
 all_can ts hosts (i ∷ is) (k ∷ ks) all (here, behind) = (known_can ts hosts i (known_view k) all here, all_can ts hosts is ks all behind)
 
--- of each invariant whose names are known an invariant can be made
+-- An invariant can be made of each invariant with resolved names.
 pub known_makeable : (w : Written) (hosts : List Host) (ks : List KnownInvariant) → templates_found w ≡ None
     → each (known_of w.templates hosts) w.invariants ≡ Some (map known_view ks) → All (λ (k : KnownInvariant). CanBeMade (known_view k).template) ks
 known_makeable w hosts ks none known =

@@ -1,4 +1,4 @@
--- A description that is accepted is accepted in version 2 too, and describes the same network.
+-- An accepted description is accepted in version 2 too, and describes the same network.
 use Rattle.std.proofs.Common.{◌≡◌, ◌≤◌, ℕ, pos, true, false, Bool, ◌||◌, List, [], ◌∷◌, length, codes, Option, Some, None, Ok, Result, Ordering, Less, Equal, Greater, nat_cmp, is_eq, refl, ap, ◌∙◌, sym, subst, arith}
 use Rattle.std.proofs.lemmas.Bool.{and_from, and_parts}
 use Rattle.std.proofs.lemmas.Bool.Decides.{nat_tests}
@@ -61,7 +61,7 @@ other_by Equal k l other d e ms order differs behind =
 other_by Greater k l other d e ms order differs behind =
     ap (λ (rest : Option Data). match_ordering (slice_cmp nat_cmp other l) rest (Some e) rest) behind
 
--- what stands at another key
+-- The value at another key.
 pub get_other : (k other : List ℕ) (d : Data) (ms : Members) → is_eq (slice_cmp nat_cmp other k) ≡ false
     → get_member other (with_member k d ms) ≡ get_member other ms
 get_other k other d no_members differs = passed_over (slice_cmp nat_cmp other k) None (Some d) differs
@@ -76,7 +76,7 @@ keys_by test Greater k l d e ms here all behind =
     let (first, _) = and_parts (test l) (all_keys test ms) all in
     and_from (test l) (all_keys test (with_member k d ms)) first behind
 
--- its keys
+-- Its keys.
 pub keys_with : (test : List ℕ → Bool) (k : List ℕ) (d : Data) (ms : Members) → test k ≡ true → all_keys test ms ≡ true
     → all_keys test (with_member k d ms) ≡ true
 keys_with test k d no_members here all = and_from (test k) true here refl
@@ -84,7 +84,7 @@ keys_with test k d (member l e ms) here all =
     let (_, behind) = and_parts (test l) (all_keys test ms) all in
     keys_by test (slice_cmp nat_cmp k l) k l d e ms here all (keys_with test k d ms here behind)
 
--- ---- what `toml` asks for of a table that it prints
+-- ---- the requirements of `toml` on a table that it prints
 
 abbrev ArePrintable : ℕ → Members → Type 0
 ArePrintable n ms = (members_depth ms ≤ n) × (members_are_plain ms ≡ true)
@@ -135,16 +135,16 @@ mutual
       let (here, behind) = and_parts (is_plain d) (members_are_plain ms) plain in
       and_from (has_valid_dates d) (members_have_valid_dates ms) (plain_dates d here) (members_dates ms behind)
 
--- the table in version 2 nests no deeper, and each of its dates is valid since there is none
+-- The table in version 2 nests no deeper, and it contains no dates.
 pub migrated_prints : (ms : Members) → IsShallow 6 (table ms) → (members_depth (migrated ms) ≤ 5) × (members_have_valid_dates (migrated ms) ≡ true)
 migrated_prints ms (deep, plain) =
     let few : members_depth ms ≤ 5 = omega (arith, deep) in
     let (small, all) = printable_with 5 (codes "topos") (integer (pos 2)) ms (omega arith) refl (few, plain) in
     (small, members_dates (migrated ms) all)
 
--- ---- what is written in it
+-- ---- its raw description
 
--- the same in version 2
+-- The same in version 2.
 abbrev in_version_2 : Written → Written
 in_version_2 w = record {
   version = pos 2;
@@ -160,14 +160,14 @@ at_other : (key : List ℕ) (ms : Members) (P : Option Data → Type 0) → is_e
     → P (get_member key (migrated ms))
 at_other key ms P differs stands = subst P (sym (get_other (codes "topos") key (integer (pos 2)) ms differs)) stands
 
--- the keys of every version are keys of version 2
+-- The keys of every version are keys of version 2.
 weaker_keys : (p q : List ℕ → Bool) (ms : Members) → ((k : List ℕ) → p k ≡ true → q k ≡ true) → all_keys p ms ≡ true → all_keys q ms ≡ true
 weaker_keys p q no_members step all = refl
 weaker_keys p q (member k d ms) step all =
     let (here, behind) = and_parts (p k) (all_keys p ms) all in
     and_from (q k) (all_keys q ms) (step k here) (weaker_keys p q ms step behind)
 
--- the names that each version has, and one more
+-- The names of each version, and one more.
 abbrev names_with : Bool → List (List ℕ)
 names_with second = codes "topos" ∷ codes "answers" ∷ codes "host" ∷ codes "invariant" ∷ codes "flow" ∷ template_names second
 
@@ -200,7 +200,7 @@ migrated_written ms w is =
       templates = at_other (codes "template") ms (λ o. MatchOption o (w.templates ≡ []) (λ d. IsArray (IsTable IsTemplate) d w.templates)) refl is.templates;
     }
 
--- ---- what it is refused for, and its network
+-- ---- its refusals and its network
 
 hosts_pass : (w : Written) → first_of (host_conditions w) ≡ None → first_of (host_conditions (in_version_2 w)) ≡ None
 unfolding host_conditions bad_version all_entries all_names used_names
@@ -223,7 +223,7 @@ described_by_written ms w same hosts uses is =
     unrefused (first_of (table_conditions ms)) _ _ _ (network_of (written ms)) (by_groups ms) (formed_where_written ms w is) no_hosts no_uses
     ∙ ap (λ (v : Written). Ok (network_of v)) (sym same)
 
--- the table in version 2 describes the same network
+-- The table in version 2 describes the same network.
 pub migrated_describes : (ms : Members) (d : Network) → described_by_table ms ≡ Ok d → described_by_table (migrated ms) ≡ Ok d
 migrated_describes ms d said =
     let none = accepted ms d said in
@@ -241,7 +241,7 @@ by_length true told given n is short = absurd (too_long n is short)
     too_long n long short = grind (arith, nat_tests)
 by_length false told given n is short = refl
 
--- so does a text that is its document, if it is short enough
+-- So does a text that is its document, if it is short enough.
 pub text_describes : (text : List ℕ) (ms : Members) (d : Network) → document text ≡ Some (migrated ms) → described_by_table ms ≡ Ok d
     → length text ≤ byte_limit → described text ≡ Ok d
 unfolding described

@@ -1,4 +1,4 @@
--- What is written of a description in version 2 is one text.
+-- The result of migrating a description to version 2 is unique.
 use Rattle.std.proofs.Common.{◌≡◌, ℕ, pos, true, false, List, Option, Some, Ordering, Less, Equal, Greater, nat_cmp, codes, refl, subst}
 use Rattle.std.proofs.lemmas.Bool.{and_from, and_parts}
 use Rattle.std.specs.Cmp.Lexicographic.{slice_cmp}

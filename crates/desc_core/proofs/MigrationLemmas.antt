@@ -1,4 +1,4 @@
--- From the calls of `migrate` to what it promises.
+-- Relates the calls of `migrate` to its contract.
 use Rattle.std.proofs.Common.{◌≡◌, ◌≤◌, ℕ, true, List, [], ◌∷◌, length, Ordering, Less, Equal, Greater, String, Global, string_bytes, Ok, Err, refl, ◌∙◌}
 use Rattle.std.proofs.lemmas.Str.{is_utf8-from_IsUtf8, IsUtf8-string_bytes}
 use Rattle.std.specs.BTreeMap.{insert_entry}
@@ -31,7 +31,7 @@ use Rattle.net_core.specs.Network.{Network}
 use Rattle.table_core.specs.Shallow.{IsShallow}
 use Rattle.table_core.proofs.SortedLaws.{parse_document-sorted}
 
--- an insert into the map of a table
+-- An insert into the map of a table.
 match_members : (o : Ordering) (a b c : List (String Global × Value))
     → members_view (match_ordering o a b c) ≡ match_ordering o (members_view a) (members_view b) (members_view c)
 match_members Less a b c = refl
@@ -43,12 +43,12 @@ pub inserted : (es : List (String Global × Value)) (k : String Global) (v : Val
 inserted [] k v = refl
 inserted (e ∷ es) k v = match_members (string_cmp k e.0) _ _ _ ∙ rw (inserted es k v) refl
 
--- a printed text is a document
+-- A printed text is a document.
 pub printed_document : (text : String Global) (ms : Members) → parse_document (string_bytes text) ≡ Some ms → document (string_bytes text) ≡ Some ms
 unfolding document
 printed_document text ms read = rw (is_utf8-from_IsUtf8 (string_bytes text) (IsUtf8-string_bytes text)) read
 
--- the table that was read
+-- The table that was parsed.
 read_by : (long : Bool) (read : Option Members) (ms : Members)
     → (if long then Err (refused TooLong Document) else ok_or read (refused NotToml Document)) ≡ Ok ms → read ≡ Some ms
 read_by true read ms is = cc
@@ -81,12 +81,12 @@ is_migrated bytes text ms d read said written printed = record {
   same = λ short. text_describes text ms d written said short;
 }
 
--- it is one that `toml` prints
+-- It is a table that `toml` prints.
 pub prints : (bytes : List ℕ) (ms next : Members) (d : Network) → table_of bytes ≡ Ok ms → described_by_table ms ≡ Ok d → next ≡ migrated ms
     → (members_depth next ≤ 5) × (members_have_valid_dates next ≡ true)
 prints bytes ms next d read said same = rw same (migrated_prints ms (read_shallow bytes ms d read said))
 
--- what is refused is what `describe` refuses
+-- A refusal is that of `describe`.
 pub refused_so : (bytes : List ℕ) (fault : DescFault) → Reads {A = Network} (Err fault) (described bytes) → Migrates bytes (Err fault)
 refused_so bytes (Refused refusal) told = told
 refused_so bytes Memory told = tt

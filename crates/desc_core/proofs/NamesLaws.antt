@@ -1,4 +1,4 @@
--- The names that stand for hosts: they are names, and they are those of hosts.
+-- The names that refer to hosts: they are valid names, and they are names of hosts.
 use Rattle.std.proofs.Common.{◌≡◌, ℕ, ◌+◌, Bool, true, false, not, ◌||◌, List, [], ◌∷◌, map, Option, Some, None, option_map, is_none, refl, sym, ◌∙◌}
 use Rattle.std.proofs.lemmas.Bool.{and_parts}
 use Rattle.std.proofs.lemmas.List.Folds.{list_all-append}

@@ -1,4 +1,4 @@
--- The narrowed flows of a description: what they are narrowed to are services, and not more than there may be.
+-- The restricted flows of a description: their services are valid and within the limit.
 use Rattle.std.proofs.Common.{◌≡◌, ℕ, ◌≤◌, Bool, true, not, ◌&&◌, List, [], ◌∷◌, length, Option, Some, None, option_and_then, refl, arith}
 use Rattle.std.proofs.lemmas.Bool.{and_from, and_parts}
 use Rattle.std.proofs.lemmas.Bool.Decides.{nat_tests}
@@ -28,7 +28,7 @@ few ss = not (nat_lt service_limit (length ss))
 abbrev fits : NarrowedFlow → Bool
 fits n = few n.services && list_all is_service n.services
 
--- what texts say are services, at most as many as there are texts
+-- The values that strings denote are services, at most as many as there are strings.
 said_by : (text : List ℕ) (o : Option Service) (ss : List Service) → service_of text ≡ o → list_all is_service ss ≡ true → list_all is_service (cons_option o ss) ≡ true
 said_by text None ss read rest = rest
 said_by text (Some s) ss read rest = and_from (is_service s) (list_all is_service ss) (service_of-spelled text s read).service rest
@@ -40,7 +40,7 @@ all_services (text ∷ texts) = said_by text (service_of text) (filter_map servi
 few_from : (n m : ℕ) → n ≤ m → not (nat_lt service_limit m) ≡ true → not (nat_lt service_limit n) ≡ true
 few_from n m less is = grind (arith, nat_tests)
 
--- a narrowed flow has those of its texts
+-- A restricted flow has the services of its strings.
 one_fits : (o : Option Flow) (ss : List Service) (ns : List NarrowedFlow) → few ss ≡ true → list_all is_service ss ≡ true → list_all fits ns ≡ true
     → list_all fits (cons_option (option_and_then (λ flow. narrowed_to flow ss) o) ns) ≡ true
 one_fits None ss ns short valid rest = rest
@@ -55,7 +55,7 @@ all_fit hosts (w ∷ ws) short =
     one_fits (flow_of_names hosts w) (services_said w) (filter_map (narrowed_of hosts) ws)
     (few_from (length (services_said w)) (length w.services) (no_longer service_of w.services) here) (all_services w.services) (all_fit hosts ws behind)
 
--- so has every flow
+-- The same for every flow.
 abbrev IsFewValid : List Service → Type 0
 IsFewValid ss = (length ss ≤ service_limit) × IsTrue (list_all is_service ss)
 

@@ -1,4 +1,4 @@
--- What is true of every network that is described.
+-- Invariants of every network that is described.
 use Rattle.std.proofs.Common.{◌≡◌, ℕ, ◌≤◌, Bool, true, false, List, [], ◌∷◌, length, Option, Some, None, option_map, Ok, sym, subst, arith}
 use Rattle.std.proofs.lemmas.List.Elements.{All-from_recursion}
 use Rattle.std.specs.List.{AllByRecursion, cons_option, filter_map}
@@ -38,7 +38,7 @@ asked_by w true few =
     IsFlowSet-set_of (length w.hosts) (filter_map (flow_of_names (network_hosts w)) w.flows) few (λ f listed. rw (← length-network_hosts w) (are_between (network_hosts w) w.flows f listed))
 asked_by w false few = IsFlowSet-every_flow (length w.hosts) few
 
--- each invariant has an attribute for each host
+-- Each invariant has an attribute for each host.
 sized_by : (hosts : List Host) (o : Option Known) (invs : List AnyInv)
     → AllByRecursion (λ (inv : AnyInv). (meaning_of inv).size ≡ length hosts) invs
     → AllByRecursion (λ (inv : AnyInv). (meaning_of inv).size ≡ length hosts) (cons_option (option_map (made_of hosts) o) invs)

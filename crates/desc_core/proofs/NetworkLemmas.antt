@@ -30,7 +30,7 @@ use Rattle.net_core.specs.Network.{Network}
 use Rattle.table_core.specs.Listing.{each}
 use Rattle.text_core.specs.Firsts.{first_of}
 
--- all names are known: what was found of the invariants and of the flows
+-- All names are known: the resolved invariants and flows.
 pub record AreKnown (w : Written) (hosts : List Host) (ks : List Known) (es : List Flow) : Type 0 where
   pub same : hosts ≡ network_hosts w
   pub known : each (known_of w.templates hosts) w.invariants ≡ Some ks
@@ -42,7 +42,7 @@ known_here w hosts ks es all = ap (λ hs. each (known_of w.templates hs) w.invar
 found_here : (w : Written) (hosts : List Host) (ks : List Known) (es : List Flow) → AreKnown w hosts ks es → each (ends_of (network_hosts w)) w.flows ≡ Some es
 found_here w hosts ks es all = ap (λ hs. each (ends_of hs) w.flows) (sym all.same) ∙ all.found
 
--- 17, 18 and 19
+-- Conditions 17, 18 and 19.
 abbrev before_last : Written → List Host → List Known → List Flow → Option Refusal
 before_last w hosts ks es = option_or (duplicate_assign w) (option_or (bad_known hosts ks) (self_found es))
 
@@ -78,7 +78,7 @@ uses_are w hosts ks es all =
     in_groups (unknown_template w) (undeclared_host w) (duplicate_assign w) (bad_attribute w) (self_flow w) (duplicate_flow w) (bad_service w) (many_services w) (bad_template w) (not_lawful w) templates declared
     ∙ (λ j. option_or (option_or (duplicate_assign w) (option_or ((bad_is w ks known ∙ ap (λ hs. bad_known hs ks) (sym all.same)) j) (self_is w es found j))) (option_or (twice_is w es found j) (option_or (services_found w.flows) (templates_found w))))
 
--- what refuses the description
+-- The refusal of the description.
 told : (w : Written) (r : Refusal) → first_of (use_conditions w) ≡ Some r → network_by_uses w ≡ Err r
 told w r is = rw is refl
 
@@ -108,14 +108,14 @@ pub refused_templates : (w : Written) (hosts : List Host) (ks : List Known) (es 
     → twice_found es ≡ None → services_found w.flows ≡ None → templates_found w ≡ Some r → network_by_uses w ≡ Err r
 refused_templates w hosts ks es r all before once last is = told w r (uses_are w hosts ks es all ∙ rw (before, once, last, is) refl)
 
--- the parts of what was refused last
+-- The parts of the last refusal.
 pub none_before : (c d e : Option Refusal) → option_or c (option_or d e) ≡ None → (d ≡ None) × (e ≡ None)
 none_before None None None none = (refl, refl)
 none_before None None (Some r) none = cc
 none_before None (Some r) e none = cc
 none_before (Some r) d e none = cc
 
--- the flows that are asked for, as they are made
+-- The asked flows, as they are built.
 abbrev pub made_set : Written → ℕ → List Flow → SetOfFlows
 made_set w n es = record { size = n; flows = if w.given then set_of es else every_flow n }
 
@@ -144,7 +144,7 @@ asked_made w hosts ks es n asked all before count said =
     let flows : asked_of w ≡ (if w.given then set_of es else every_flow (length w.hosts)) = asked_is w es (found_here w hosts ks es all) (none_before (duplicate_assign w) _ _ before).1 in
     (none, sym made ∙ ap (λ k. made_set w k es) size ∙ (λ j. record { size = length w.hosts; flows = sym flows j }))
 
--- the network, part by part
+-- The network, part by part.
 network_is : (w : Written) (hosts : List Host) (ks : List Known) (es : List Flow) (asked : SetOfFlows) (services : List NarrowedFlow) (invariants : List AnyInv) → AreKnown w hosts ks es
     → before_last w hosts ks es ≡ None → asked ≡ record { size = length w.hosts; flows = asked_of w } → services ≡ narrowed_among es w.flows → invariants ≡ map (made_of hosts) ks
     → network_of w ≡ record { hosts = hosts; asked = asked; services = services; given = w.given; answers = w.answers; invariants = invariants }
@@ -154,7 +154,7 @@ network_is w hosts ks es asked services invariants all before set narrowed made 
     let read : invariants_of w ≡ invariants = invariants_are w ks (known_here w hosts ks es all) ∙ ap (λ hs. map (made_of hs) ks) (sym all.same) ∙ sym made in
     λ i. record { hosts = sym all.same i; asked = sym set i; services = said i; given = w.given; answers = w.answers; invariants = read i }
 
--- that is a network, and what the description says
+-- The result is a network, and it is the one that the description specifies.
 pub network_read : (w : Written) (hosts : List Host) (ks : List Known) (es : List Flow) (asked : SetOfFlows) (services : List NarrowedFlow) (invariants : List AnyInv) → AreKnown w hosts ks es
     → first_of (host_conditions w) ≡ None → before_last w hosts ks es ≡ None → twice_found es ≡ None → services_found w.flows ≡ None → templates_found w ≡ None
     → asked ≡ record { size = length w.hosts; flows = asked_of w } → services ≡ narrowed_among es w.flows → invariants ≡ map (made_of hosts) ks
@@ -165,7 +165,7 @@ network_read w hosts ks es asked services invariants all free before once last t
     let network = network_is w hosts ks es asked services invariants all before set narrowed made in
     (subst IsNetwork network (IsNetwork-network_of w free none), rw none (ap Ok network))
 
--- with the conditions on hosts before
+-- With the conditions on hosts before them.
 pub hosts_refused : (w : Written) (r : Refusal) → first_of (host_conditions w) ≡ Some r → network_or w ≡ Err r
 unfolding network_or
 hosts_refused w r here =

@@ -1,4 +1,4 @@
--- The conditions stand in the order of their numbers, so what is told is the least number whose condition holds.
+-- The conditions are in the order of their numbers, so the reported refusal has the least number of those that apply.
 use Rattle.std.proofs.Common.{◌≡◌, ◌<◌, arith, ℕ, length, slice_get, zero, suc, ◌+◌, Bool, true, false, List, [], ◌∷◌, ◌++◌, Option, Some, None, option_map, option_and_then, Ok, Err, refl, ap, ◌∙◌, sym, subst}
 use Rattle.std.specs.Option.{option_map_or, option_or}
 use Rattle.std.specs.List.{list_all}
@@ -32,11 +32,11 @@ use Rattle.desc_core.specs.TemplateConditions.{bad_template, not_lawful, unlawfu
 use Rattle.desc_form.specs.WrittenTemplate.{WrittenTemplate}
 use Rattle.host_net.specs.Host.{Host}
 
--- what the condition refuses has this number
+-- The refusal of the condition has this number.
 abbrev pub Tells : ℕ → Option Refusal → Type 0
 Tells n o = (r : Refusal) → o ≡ Some r → number r.why ≡ n
 
--- the conditions have the numbers from n on
+-- The conditions are numbered from n on.
 abbrev pub InOrder : ℕ → List (Option Refusal) → Type 0
 InOrder n [] = Unit {0}
 InOrder n (o ∷ os) = Tells n o × InOrder (n + 1) os
@@ -101,7 +101,7 @@ tells_bad_service : (w : Written) → Tells 21 (bad_service w)
 unfolding bad_service
 tells_bad_service w = tells_found 21 bad_service_of (λ f. tells_map 21 _ (λ s. refl) _) (numbered w.flows)
 
--- the conditions have the numbers from 1 on
+-- The conditions are numbered from 1 on.
 form_in_order : (table : Members) → InOrder 3 (form_conditions table)
 unfolding form_conditions first_place
 form_in_order table = (tells_map 3 _ (λ p. refl) _, (tells_map 4 _ (λ p. refl) _, (tells_map 5 _ (λ p. refl) _, tt)))
@@ -188,7 +188,7 @@ none_before : (os : List (Option Refusal)) (k : ℕ) → ((j : ℕ) → j < k �
 none_before os k rest zero below = refl
 none_before os k rest (suc j) below = rest j (omega (arith, below))
 
--- what is told first has the least number
+-- The first reported refusal has the least number.
 least : (n : ℕ) (os : List (Option Refusal)) (r : Refusal) → InOrder n os → first_of os ≡ Some r → IsLeast n os r
 least n [] r order found = cc
 least n (Some s ∷ os) r order found = record {
@@ -207,20 +207,20 @@ least n (None ∷ os) r order found =
       first = none_before os rest.before rest.first;
     }
 
--- what is told of bytes that are refused has the least number whose condition holds
+-- The reported refusal of bytes has the least number of the conditions that apply.
 pub IsLeast-described : (bytes : List ℕ) (r : Refusal) → described bytes ≡ Err r → IsLeast 1 (conditions bytes) r
 IsLeast-described bytes r said = least 1 (conditions bytes) r (in_order bytes) (told bytes r said)
 
 pub IsLeast-table : (table : Members) (r : Refusal) → described_by_table table ≡ Err r → IsLeast 3 (table_conditions table) r
 IsLeast-table table r said = least 3 (table_conditions table) r (table_in_order table) (told_of_table table r said)
 
--- what is not told does not hold
+-- A condition that is not reported does not apply.
 none_first : (os : List (Option Refusal)) → first_of os ≡ None → list_all is_none os ≡ true
 none_first [] none = refl
 none_first (None ∷ os) none = none_first os none
 none_first (Some s ∷ os) none = cc
 
--- no condition holds of bytes that describe a network
+-- No condition applies to bytes that describe a network.
 pub NoneHolds-described : (bytes : List ℕ) (d : Network) → described bytes ≡ Ok d → NoneHolds (conditions bytes)
 NoneHolds-described bytes d said = none_first (conditions bytes) (none_told bytes d said)
 

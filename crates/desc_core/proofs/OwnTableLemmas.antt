@@ -1,4 +1,4 @@
--- The table that the code makes of a declared template.
+-- The table that the code builds for a declared template.
 use Rattle.std.proofs.Common.{◌≡◌, ℕ, ◌≤◌, ◌<◌, ◌+◌, List, length, Option, Some, None, refl, sym, arith}
 use Rattle.std.proofs.lemmas.List.Elements.{All-map}
 use Rattle.std.specs.List.{All}
@@ -21,7 +21,7 @@ pub table_is : (t : WrittenTemplate) (name : List ℕ) (strategy : Strategy) (ki
 table_is t name strategy kinds default denied a b c d e =
     λ i. record { name = a i; strategy = b i; kinds = c i; default = d i; denied = e i }
 
--- every number is one of a kind
+-- Every number is that of a kind.
 number_by : (kinds : List (List ℕ)) (word : List ℕ) (o : Option ℕ) → o ≡ kind_numbered kinds word → 1 ≤ length kinds → unwrap_or o 0 < length kinds
 number_by kinds word None is some = omega (arith, some)
 number_by kinds word (Some k) is some =

@@ -1,4 +1,4 @@
--- Flows that are put into a set one by one: the first that is there already, and the first that is the same.
+-- Flows that are inserted into a set one by one: the first that is present already, and the first that is equal to it.
 use Rattle.std.proofs.Common.{◌≡◌, ℕ, suc, ◌+◌, ◌<◌, Bool, true, false, cond, not, ◌||◌, List, [], ◌∷◌, ◌++◌, drop, drop-cons, add-one, get_or, take, length, Option, Some, None, option_map, Err, refl, sym, ap, ◌∙◌, arith}
 use Rattle.std.proofs.lemmas.List.{length-take-le, take_more}
 use Rattle.std.specs.List.{find, fold}
@@ -31,7 +31,7 @@ numbered_from-push k (g ∷ fs) f =
     let same : k + 1 + length fs ≡ k + suc (length fs) = omega arith in
     ap (λ ns. nth k g ∷ ns) (numbered_from-push (k + 1) fs f ∙ ap (λ n. numbered_from (k + 1) fs ++ nth n f ∷ []) same)
 
--- a flow that is not among these is none of them
+-- A flow that is not among these differs from each of them.
 absent_by : (b : Bool) (x : Numbered Flow) (rest : Bool) (o : Option (Numbered Flow)) → (b || rest) ≡ false → (rest ≡ false → o ≡ None) → cond b (Some x) o ≡ None
 absent_by true x rest o absent later = cc
 absent_by false x rest o absent later = later absent
@@ -65,7 +65,7 @@ next_numbered fs i f d within here =
 abbrev from_here : List Flow → ℕ → Option (Pair (Numbered Flow))
 from_here fs i = first_pair_behind same_as (numbered (take i fs)) (numbered_from (i + 1) (drop i fs))
 
--- the first of the flows before a place that is this one
+-- The first of the flows before an index that is equal to f.
 abbrev earlier_than : List Flow → ℕ → Flow → Option (Numbered Flow)
 earlier_than fs i f = find (λ (g : Numbered Flow). same_flow f g.what) (numbered (take i fs))
 
@@ -92,12 +92,12 @@ not_true : (b : Bool) → true ≡ not b → b ≡ false
 not_true true is = cc
 not_true false is = refl
 
--- a flow that does not change the set is one of the earlier ones
+-- A flow that does not change the set is equal to an earlier one.
 pub was_there : (fs : List Flow) (i : ℕ) (f : Flow) (n : ℕ) (s : SetOfFlows) (changed : Bool) → s ≡ set_until n fs i → changed ≡ not (has s.flows f) → changed ≡ false
     → has (take i fs) f ≡ true
 was_there fs i f n s changed made is same = sym (in_set fs i f n s made) ∙ not_false (has s.flows f) (sym same ∙ is)
 
--- one that does is none of them
+-- A flow that changes the set differs from each of them.
 pub one_more : (fs : List Flow) (i : ℕ) (f d : Flow) (n : ℕ) (s t : SetOfFlows) (changed : Bool) (whole : Option (Pair (Numbered Flow))) → i < length fs → f ≡ get_or fs i d → s ≡ set_until n fs i
     → from_here fs i ≡ whole → t ≡ record { size = s.size; flows = with_flow s.flows f } → changed ≡ not (has s.flows f) → changed ≡ true
     → (t ≡ set_until n fs (i + 1)) × (from_here fs (i + 1) ≡ whole)
@@ -108,7 +108,7 @@ one_more fs i f d n s t changed whole within here made so_far grown is differs =
       sym (here_is fs i f d within here ∙ ap (λ o. option_or (with_later i f o) (from_here fs (i + 1))) (absent_from 1 (take i fs) f absent)) ∙ so_far,
     )
 
--- what is told of the first that is there
+-- The report of the first flow that is present.
 pub repeated : (fs : List Flow) (i : ℕ) (f d : Flow) (earlier : ℕ) (x : SetOfFlows) → i < length fs → f ≡ get_or fs i d → earlier_than fs i f ≡ Some (nth earlier f)
     → from_here fs i ≡ first_pair_behind same_as [] (numbered fs) → refused_or (twice_found fs) x ≡ Err (refused_by DuplicateFlow (FlowAt (i + 1)) earlier)
 repeated fs i f d earlier x within here found so_far =

@@ -1,4 +1,4 @@
--- The services of flows, added one by one: each flow that has some comes behind those before it.
+-- The services of flows, added one by one: each flow with services is appended to those before it.
 use Rattle.std.proofs.Common.{◌≡◌, ℕ, Bool, true, not, ◌&&◌, List, [], ◌∷◌, ◌++◌, append-nil, append_assoc, length, Option, Some, None, option_and_then, refl, sym, ap, ◌∙◌, arith}
 use Rattle.std.proofs.lemmas.Bool.{and_from, and_parts, not-true}
 use Rattle.std.proofs.lemmas.Bool.Decides.{nat_tests}
@@ -27,7 +27,7 @@ use Rattle.text_core.specs.inner.Pairs.{no_pair}
 abbrev narrowed : Flow → List Service → NarrowedFlow
 narrowed e ss = record { from = e.from; to = e.to; services = ss }
 
--- the flow is none of the narrowed ones
+-- The flow is not among the restricted ones.
 abbrev pub is_new : List NarrowedFlow → Flow → Bool
 is_new ns e = list_all (λ n. not (is_between e.from e.to n)) ns
 
@@ -40,7 +40,7 @@ none_yet (n ∷ ns) e new =
 own_ends : (from to : ℕ) → ((from == from) && (to == to)) ≡ true
 own_ends from to = grind (arith, nat_tests)
 
--- one service more of a flow that is the last, or of one that is none yet
+-- One more service of a flow that is the last, or that is not restricted yet.
 last_grows : (ns : List NarrowedFlow) (e : Flow) (ss : List Service) (s : Service) → is_new ns e ≡ true
     → with_service (ns ++ narrowed e ss ∷ []) e.from e.to s ≡ ns ++ narrowed e (ss ++ s ∷ []) ∷ []
 last_grows [] e ss s new = rw (own_ends e.from e.to) refl
@@ -54,7 +54,7 @@ new_comes (n ∷ ns) e s new =
     let (here, behind) = and_parts (not (is_between e.from e.to n)) _ new in
     rw (not-true (is_between e.from e.to n) here) (ap (λ ms. n ∷ ms) (new_comes ns e s behind))
 
--- several
+-- Several services.
 all_grow : (ns : List NarrowedFlow) (e : Flow) (ss more : List Service) → is_new ns e ≡ true
     → with_services (ns ++ narrowed e ss ∷ []) e more ≡ ns ++ narrowed e (ss ++ more) ∷ []
 all_grow ns e ss [] new = ap (λ (us : List Service). ns ++ narrowed e us ∷ []) (sym (append-nil ss))
@@ -67,7 +67,7 @@ added : (ns : List NarrowedFlow) (e : Flow) (ss : List Service) → is_new ns e 
 added ns e [] new = sym (append-nil ns)
 added ns e (s ∷ ss) new = ap (λ ms. with_services ms e ss) (new_comes ns e s new) ∙ all_grow ns e (s ∷ []) ss new
 
--- the others are new still
+-- The other flows are still new.
 new_by : (ns : List NarrowedFlow) (e f : Flow) (ss : List Service) → is_new ns f ≡ true → not (same_flow f e) ≡ true → is_new (ns ++ cons_option (narrowed_to e ss) []) f ≡ true
 new_by ns e f [] new other = ap (λ ms. is_new ms f) (append-nil ns) ∙ new
 new_by ns e f (s ∷ ss) new other =
@@ -82,7 +82,7 @@ all_new ns e ss (f ∷ es) new others =
     let (other, rest) = and_parts (not (same_flow f e)) _ others in
     and_from (is_new (ns ++ cons_option (narrowed_to e ss) []) f) (list_all (is_new (ns ++ cons_option (narrowed_to e ss) [])) es) (new_by ns e f ss here other) (all_new ns e ss es behind rest)
 
--- what is narrowed so far, and the flows that are left
+-- The restricted flows so far, and the remaining flows.
 pub record AreLeft (ns : List NarrowedFlow) (es : List Flow) (ws : List WrittenFlow) (whole : List NarrowedFlow) : Type 0 where
   pub new : list_all (is_new ns) es ≡ true
   pub different : no_pair same_flow es ≡ true
@@ -104,7 +104,7 @@ one_added ns e es w ws whole left =
       so_far = rw (added ns e ss new) (behind_one ns (narrowed_to e ss) (narrowed_among es ws) ∙ left.so_far);
     }
 
--- at the beginning no flow has services
+-- Initially no flow has services.
 all_at_first : (es : List Flow) → list_all (is_new []) es ≡ true
 all_at_first [] = refl
 all_at_first (e ∷ es) = all_at_first es

@@ -1,4 +1,4 @@
--- One flow after the other gets its services: what is narrowed so far, and what is left to narrow.
+-- Adding the services of the flows in order: the restricted flows so far, and the remaining ones.
 use Rattle.std.proofs.Common.{◌≡◌, ℕ, ◌+◌, ◌<◌, true, not, List, [], ◌∷◌, map, drop, drop-cons, add-one, get_or, length, Some, sym, ◌∙◌}
 use Rattle.std.proofs.lemmas.Bool.{and_parts}
 use Rattle.std.proofs.lemmas.List.{length-map}
@@ -17,32 +17,32 @@ use Rattle.table_core.specs.Listing.{each}
 next : {A : Type 0} (xs : List A) (i : ℕ) (x d : A) → i < length xs → x ≡ get_or xs i d → drop i xs ≡ x ∷ drop (i + 1) xs
 next xs i x d within here = drop-cons xs i d within ∙ (λ j. sym here j ∷ drop (sym (add-one i) j) xs)
 
--- the flow of this turn, and those behind it
+-- The current flow, and those after it.
 left_here : (ns whole : List NarrowedFlow) (es : List Flow) (ws : List WrittenFlow) (i : ℕ) (e d : Flow) (w v : WrittenFlow) → i < length es → i < length ws → e ≡ get_or es i d → w ≡ get_or ws i v
     → AreLeft ns (drop i es) (map flow_view (drop i ws)) whole → AreLeft ns (e ∷ drop (i + 1) es) (flow_view w ∷ map flow_view (drop (i + 1) ws)) whole
 left_here ns whole es ws i e d w v within_es within_ws is_e is_w left = rw (next es i e d within_es is_e, next ws i w v within_ws is_w) at left
 
--- it has no services yet
+-- It has no services yet.
 pub none_here : (ns whole : List NarrowedFlow) (es : List Flow) (ws : List WrittenFlow) (i : ℕ) (e d : Flow) (w v : WrittenFlow) → i < length es → i < length ws → e ≡ get_or es i d → w ≡ get_or ws i v
     → AreLeft ns (drop i es) (map flow_view (drop i ws)) whole → services_of ns e.from e.to ≡ []
 none_here ns whole es ws i e d w v within_es within_ws is_e is_w left =
     let here = left_here ns whole es ws i e d w v within_es within_ws is_e is_w left in
     none_yet ns e (and_parts (is_new ns e) _ here.new).0
 
--- and then it has them
+-- Afterwards it has them.
 pub left_behind : (ns ms whole : List NarrowedFlow) (es : List Flow) (ws : List WrittenFlow) (i : ℕ) (e d : Flow) (w v : WrittenFlow) → i < length es → i < length ws → e ≡ get_or es i d → w ≡ get_or ws i v
     → ms ≡ with_services ns e (services_said (flow_view w)) → AreLeft ns (drop i es) (map flow_view (drop i ws)) whole
     → AreLeft ms (drop (i + 1) es) (map flow_view (drop (i + 1) ws)) whole
 left_behind ns ms whole es ws i e d w v within_es within_ws is_e is_w grown left =
     rw grown (one_added ns e (drop (i + 1) es) (flow_view w) (map flow_view (drop (i + 1) ws)) whole (left_here ns whole es ws i e d w v within_es within_ws is_e is_w left))
 
--- those behind it have not too many
+-- The flows after it are within the limit.
 pub few_behind : (ws : List WrittenFlow) (i : ℕ) (w v : WrittenFlow) → i < length ws → w ≡ get_or ws i v → list_all (λ f. not (has_many_services f)) (map flow_view (drop i ws)) ≡ true
     → list_all (λ f. not (has_many_services f)) (map flow_view (drop (i + 1) ws)) ≡ true
 few_behind ws i w v within is few =
     let here : list_all (λ f. not (has_many_services f)) (flow_view w ∷ map flow_view (drop (i + 1) ws)) ≡ true = rw (next ws i w v within is) at few in
     (and_parts (not (has_many_services (flow_view w))) _ here).1
 
--- there are as many flows between hosts as are written
+-- The number of resolved flows is the number of raw flows.
 pub as_many_written : (hosts : List Host) (ws : List WrittenFlow) (es : List Flow) → each (ends_of hosts) (map flow_view ws) ≡ Some es → length es ≡ length ws
 as_many_written hosts ws es found = as_many hosts (map flow_view ws) es found ∙ length-map ws flow_view

@@ -1,4 +1,4 @@
--- Where no pair of names is listed twice, no flow is.
+-- If no pair of names is listed twice, no flow is.
 use Rattle.std.proofs.Common.{◌≡◌, ℕ, ◌==◌, Bool, true, false, not, List, [], ◌∷◌, Option, Some, None, refl, sym, ap, ◌∙◌}
 use Rattle.std.proofs.lemmas.Bool.{and_from, and_parts}
 use Rattle.std.proofs.lemmas.Option.{option_and_then_some}
@@ -18,7 +18,7 @@ use Rattle.host_net.specs.Host.{Host, host_named}
 use Rattle.text_core.specs.inner.Pairs.{no_pair}
 use Rattle.host_net.proofs.NamedLaws.{one_name}
 
--- two pairs of names with one flow are the same
+-- Two pairs of names with the same flow are equal.
 flow_by : (b : Bool) (from to : ℕ) (f : Flow) → (if b then None else Some (record { from = from; to = to })) ≡ Some f → (from ≡ f.from) × (to ≡ f.to)
 flow_by true from to f is = cc
 flow_by false from to f is =

@@ -1,4 +1,4 @@
--- Worked refusals of descriptions with more than one fault, or at the edge of a rule. No contract names these laws either.
+-- Test vectors: descriptions with more than one error, or at the boundary of a rule. No contract names these lemmas.
 use Rattle.std.specs.Prelude.{◌≡◌, refl, pos, List, [], ◌∷◌, map, replicate, codes, Err}
 use Rattle.toml.specs.Data.{string, integer, table, no_members, member}
 use Rattle.attr_core.specs.Blp.{blp_attribute}
@@ -30,7 +30,7 @@ use Rattle.std.specs.Fmt.{digits}
 use Rattle.text_core.specs.inner.Decimal.{number}
 use Rattle.desc_core.proofs.Worked.{Row, row}
 
--- types and places, then limits, names, hosts, invariants
+-- Types and places, then limits, names, hosts, invariants.
 abbrev settled_rows : List Row
 settled_rows =
     row (described_as (string (codes "1")) a_to_b (list (host_a ∷ host_b ∷ []))) (refused WrongType Document)

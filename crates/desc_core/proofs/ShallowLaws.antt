@@ -1,5 +1,5 @@
--- The table of an accepted document is shallow: seven levels at most, from the document to a text in an array of an assign, and no
--- date, no time and no float.
+-- The table of an accepted document is shallow: at most seven levels, from the document to a string in an array of an assign, without
+-- dates, times and floats.
 use Rattle.std.proofs.Common.{◌≡◌, ℕ, true, List, [], ◌∷◌, Option, Some, None, option_and_then, option_map, Ok, refl, subst}
 use Rattle.std.specs.List.{AllByRecursion, AllZip}
 use Rattle.toml.specs.Data.{Members, table, members_are_sorted}
@@ -20,7 +20,7 @@ use Rattle.net_core.specs.Network.{Network}
 use Rattle.table_core.specs.Listing.{each}
 use Rattle.table_core.specs.Shallow.{IsShallow}
 
--- an assign and what it gives have the same table
+-- An assign and its resolved form have the same table.
 given_table : (hosts : List Host) (a : WrittenAssign) (g : Given) → given_by hosts a ≡ Some g → IsShallowGiven g → IsShallowAssign a
 given_table hosts a g gives shallow = by_host (host_named hosts a.host) gives
   where

@@ -1,4 +1,4 @@
--- A table describes the network that is written in it exactly where the facts of TableFacts hold of it.
+-- A table describes the network of its raw description if and only if the facts of TableFacts hold for it.
 use Rattle.std.proofs.Common.{◌≡◌, Option, None, Ok, refl, subst}
 use Rattle.std.specs.Option.{option_or}
 use Rattle.toml.specs.Data.{Members}
@@ -30,7 +30,7 @@ pub unrefused : {A : Type 0} (o a b c : Option Refusal) (x : A) → o ≡ option
     → refused_or o x ≡ Ok x
 unrefused o a b c x groups first second third = rw (groups, first, second, third) refl
 
--- what is right is accepted
+-- A valid table is accepted.
 pub described-IsRight : (table : Members) → IsRight table → described_by_table table ≡ Ok (network_of (written table))
 unfolding described_by_table
 described-IsRight table right =

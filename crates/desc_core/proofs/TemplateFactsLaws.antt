@@ -1,4 +1,4 @@
--- Neither of the conditions 23 and 24 refuses a description exactly where the facts of TemplateFacts hold of its templates.
+-- Conditions 23 and 24 do not refuse a description if and only if the facts of TemplateFacts hold for its templates.
 use Rattle.std.proofs.Common.{◌≡◌, ◌≢◌, ◌⊎◌, inl, inr, ℕ, zero, suc, ◌≤◌, ◌+◌, Bool, true, false, not, ◌&&◌, ◌||◌, nat_lt, nat_le, List, [], ◌∷◌, ◌++◌, length, Option, Some, None, option_map, is_none, codes, refl, sym, ap, ◌∙◌, arith}
 use Rattle.std.proofs.lemmas.Bool.{and_from, and_parts, false≢true, or_cases, or_left, or_right}
 use Rattle.std.proofs.lemmas.Bool.Decides.{nat_tests}
@@ -21,7 +21,7 @@ use Rattle.text_core.proofs.FirstsLaws.{none_mapped}
 use Rattle.text_core.specs.Name.{is_name}
 use Rattle.text_core.specs.inner.Pairs.{no_pair}
 
--- ---- a list has an element exactly where a test that it alone passes finds one
+-- ---- a list contains an element if and only if a test that only this element passes finds one
 
 found_contained : {A : Type 0} (p : A → Bool) (x : A) → ((y : A) → p y ≡ true → y ≡ x) → (xs : List A) → list_any p xs ≡ true → Contains xs x
 found_contained p x only [] found = absurd (false≢true found)
@@ -59,9 +59,9 @@ pair_among t sender receiver = (
       (and_from _ _ ((bytes_eq-Decides sender sender).1 refl) ((bytes_eq-Decides receiver receiver).1 refl)) t.deny,
 )
 
--- ---- 23: the test of a template alone, and that of its name among the earlier ones
+-- ---- 23: the test of a single template, and that of its name among the earlier ones
 
--- the template is one, whatever the others are
+-- The template is valid by itself, regardless of the others.
 abbrev pub is_template : WrittenTemplate → Bool
 is_template t = is_name t.name && is_none (template_named t.name) && has_strategy t && has_kinds t && uses_kinds t
 
@@ -113,7 +113,7 @@ all_free_behind : (earlier : List WrittenTemplate) (t : WrittenTemplate) (ts : L
     → list_all (is_free (earlier ++ t ∷ [])) ts ≡ (list_all (is_free earlier) ts && list_all (λ u. not (same_name u t)) ts)
 all_free_behind earlier t ts = (λ k. list_all (λ u. free_behind earlier t u k) ts) ∙ all_both (is_free earlier) (λ u. not (same_name u t)) ts
 
--- what is said of the templates behind the earlier ones
+-- The facts about the templates after the earlier ones.
 pub record AreTemplates (earlier ts : List WrittenTemplate) : Type 0 where
   pub each : list_all is_template ts ≡ true
   pub apart : no_pair same_name ts ≡ true
@@ -157,7 +157,7 @@ all_free : (ts : List WrittenTemplate) → list_all (is_free []) ts ≡ true
 all_free [] = refl
 all_free (t ∷ ts) = all_free ts
 
--- ---- 23, in plain words
+-- ---- 23, as facts
 
 none_is : {A : Type 0} (o : Option A) → (is_none o ≡ true) ↔ (o ≡ None)
 none_is None = (λ h. refl, λ h. refl)
@@ -183,7 +183,7 @@ none_any : {A : Type 0} (p : A → Bool) (xs : List A) → not (list_any p xs) �
 none_any p [] = refl
 none_any p (x ∷ xs) = not_or (p x) (list_any p xs) ∙ ap (λ b. not (p x) && b) (none_any p xs)
 
--- a later word is an earlier one
+-- A later word is equal to an earlier one.
 abbrev is_earlier : List ℕ → List ℕ → Bool
 is_earlier later earlier = bytes_eq earlier later
 
@@ -254,7 +254,7 @@ template_tested t is =
     (and_from (is_kind t t.default) (list_all (pair_test t) t.deny) ((word_among t.default t.kinds).1 is.default)
     ((pairs_words t).1 is.pairs))
 
--- each is a template, and no two have one name
+-- Each is a valid template, and no two have the same name.
 pub templates_are : (w : Written) → (bad_template w ≡ None) ↔ (All IsTemplate w.templates × AllPairs (λ t u. t.name ≢ u.name) w.templates)
 unfolding bad_template
 templates_are w =
@@ -268,7 +268,7 @@ templates_are w =
           (are_none [] 1 w.templates (record { each = each_is.1 each; apart = differ.1 apart; free = all_free w.templates })),
     )
 
--- ---- 24, in plain words
+-- ---- 24, as facts
 
 partner_by : (access : Bool) (a b : Bool) (P Q Is : Type 0) → ((access ≡ true) ↔ Is) → ((a ≡ true) ↔ P) → ((b ≡ true) ↔ Q)
     → ((if access then a else b) ≡ true) ↔ ((Is → P) × ((Is → ⊥) → Q))
@@ -290,7 +290,7 @@ partner_words t p =
       λ has. said (has.at_sender, has.at_receiver),
     )
 
--- each denied pair of each template has its partner
+-- Each denied pair of each template has its partner.
 pub partners_are : (ts : List WrittenTemplate)
     → (list_all (λ t. list_all (test.has_partner t) t.deny) ts ≡ true) ↔ All (λ t. All (HasPartner t) t.deny) ts
 partners_are ts =

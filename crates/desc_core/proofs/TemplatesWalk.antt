@@ -1,4 +1,4 @@
--- The templates one after the other, as the code goes through them: each is judged behind those before it.
+-- Iteration over the templates: each is checked after those before it.
 use Rattle.std.proofs.Common.{◌≡◌, ℕ, ◌+◌, ◌<◌, Bool, true, false, List, [], ◌∷◌, ◌++◌, map, take, drop, drop-cons, add-one, get_or, length, Option, Some, None, is_some, sym, ap, ◌∙◌}
 use Rattle.std.proofs.lemmas.List.{map-append, take_more}
 use Rattle.std.specs.Prelude.{if◌then◌else◌}

@@ -1,4 +1,4 @@
--- None of the conditions 15 to 24 refuses a description exactly where the facts of UseFacts hold of it.
+-- Conditions 15 to 24 do not refuse a description if and only if the facts of UseFacts hold for it.
 use Rattle.std.proofs.Common.{◌≡◌, ℕ, ◌≤◌, ◌+◌, Bool, true, false, not, ◌&&◌, List, length, Option, Some, None, option_map, option_and_then, is_none, is_some, refl, sym, ap, ◌∙◌}
 use Rattle.std.proofs.lemmas.List.Elements.{All-from_recursion, recursion_from_All}
 use Rattle.std.proofs.lemmas.Slice.Eq.{bytes_eq-Decides}
@@ -133,7 +133,7 @@ partners_there w = tested_row unlawful_at (λ t. list_all (has_partner t) t.deny
 
 -- ---- all of them
 
--- the facts as tests
+-- The facts as tests.
 pub record PassesUses (w : Written) : Type 0 where
   pub templates : list_all (λ (i : WrittenInvariant). is_some (chosen w.templates i.template)) w.invariants ≡ true
   pub assigned : list_all (assigns_test w) w.invariants ≡ true
@@ -198,7 +198,7 @@ uses-PassesUses w sound =
       ),
     )
 
--- ---- in plain words
+-- ---- as facts
 
 assigns_say : (w : Written)
     → (list_all (assigns_test w) w.invariants ≡ true) ↔ All (λ (i : WrittenInvariant). All (λ (a : WrittenAssign). IsTrue (is_declared w a.host)) i.assigns) w.invariants
@@ -281,6 +281,6 @@ tests-HasUses w uses = record {
   lawful = (lawful_says w).1 uses.lawful;
 }
 
--- none of the conditions 15 to 24 holds exactly where the facts do
+-- None of conditions 15 to 24 applies if and only if the facts hold.
 pub has_uses : (w : Written) → (first_of (use_conditions w) ≡ None) ↔ HasUses w
 has_uses w = (λ none. HasUses-tests w (PassesUses-uses w none), λ uses. uses-PassesUses w (tests-HasUses w uses))

@@ -1,4 +1,4 @@
--- The flows of a sound description: each lies between two of its hosts.
+-- Each flow of a sound description is between two of its hosts.
 use Rattle.std.proofs.Common.{◌≡◌, ℕ, ◌==◌, Bool, true, false, not, ◌&&◌, Option, Some, None, option_and_then, is_some, refl, sym, ap, ◌∙◌, arith}
 use Rattle.std.proofs.lemmas.Bool.{and_parts}
 use Rattle.std.proofs.lemmas.Bool.Decides.{nat_tests}
@@ -18,7 +18,7 @@ use Rattle.flow_set.specs.declared.flow.Flow.{Flow}
 use Rattle.host_net.specs.Host.{host_named}
 use Rattle.host_net.proofs.NamedLaws.{one_name}
 
--- each pair of names is that of two hosts
+-- Each pair of names is that of two hosts.
 same_number : (a b : ℕ) → (a == b) ≡ true → a ≡ b
 same_number a b h = grind (arith, nat_tests)
 

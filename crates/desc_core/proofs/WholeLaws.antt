@@ -1,4 +1,4 @@
--- Where no condition refuses a description, its network has all that is written.
+-- If no condition refuses a description, its network contains everything of it.
 use Rattle.std.proofs.Common.{◌≡◌, ℕ, suc, ◌==◌, true, false, nat_lt, List, [], ◌∷◌, map, length, Option, Some, None, option_map, option_and_then, is_some, Ok, refl, sym, ap, ◌∙◌, subst, arith}
 use Rattle.std.proofs.lemmas.Bool.{and_parts}
 use Rattle.std.proofs.lemmas.Bool.Decides.{nat_tests}
@@ -51,7 +51,7 @@ use Rattle.desc_form.specs.WrittenTemplate.{WrittenTemplate}
 use Rattle.host_net.specs.Host.{Host}
 use Rattle.table_core.specs.Listing.{each}
 
--- each entry is a prefix
+-- Each entry is a prefix.
 all_prefixes : (w : Written) → first_of (host_conditions w) ≡ None → list_all (λ t. is_prefix (prefix_of t)) (texts w.hosts) ≡ true
 all_prefixes w h = (all_say_prefixes (texts w.hosts)).1 ((has_hosts w).0 h).prefixes
 
@@ -71,7 +71,7 @@ hosts_whole (h ∷ hs) all =
       hosts_whole hs behind,
     )
 
--- each invariant is made of its assigns
+-- Each invariant is made of its assigns.
 abbrev known : Choice → List Given → Known
 known template assigns = record { template = template; assigns = assigns }
 
@@ -107,7 +107,7 @@ invariants_whole : (w : Written) → PassesUses w → AllZip (IsInvariantOf w.te
 unfolding invariants_of
 invariants_whole w sound = all_whole w.templates (network_hosts w) w.invariants (all_known w sound) sound.attributes
 
--- each flow with services is narrowed to them
+-- Each flow with services is restricted to them.
 spelled : (said_by : List (List ℕ)) → list_all (λ text. is_some (service_of text)) said_by ≡ true → AllZip IsServiceSpelling said_by (filter_map service_of said_by)
 spelled said_by all =
     zip_weaker (λ text s. service_of text ≡ Some s) IsServiceSpelling said_by (filter_map service_of said_by) service_of-spelled (zip_some service_of said_by all)
@@ -136,7 +136,7 @@ narrowed_whole hosts (w ∷ ws) between said =
     one_narrowed hosts w.from w.to w.services (services_said w) (flow_of_names hosts w) ws (filter_map (narrowed_of hosts) ws) refl here (spelled w.services now)
     (narrowed_whole hosts ws behind later)
 
--- each flow lies between two hosts, and none is listed twice
+-- Each flow is between two hosts, and none is listed twice.
 listed_by : (w : Written) (asked : List Flow) → PassesUses w → asked ≡ set_of (filter_map (flow_of_names (network_hosts w)) w.flows) → IsSetOf (network_hosts w) w.flows asked
 listed_by w asked sound is =
     let flows = filter_map (flow_of_names (network_hosts w)) w.flows in

@@ -1,5 +1,5 @@
--- Worked refusals: a small description, what is changed in it, and what is told of it. No contract names these laws: they show
--- that the definitions say what they are meant to.
+-- Test vectors: a small description, one change of it, and its refusal. No contract names these lemmas: they show that the definitions have
+-- the intended meaning.
 use Rattle.std.proofs.Common.{arith}
 use Rattle.std.proofs.lemmas.List.{length-replicate}
 use Rattle.desc_core.specs.Conditions.{byte_limit, table_conditions}
@@ -35,7 +35,7 @@ use Rattle.table_core.specs.Tables.{has_only, has_key, text_at, integer_at, bool
 use Rattle.std.specs.Fmt.{digits}
 use Rattle.text_core.specs.inner.Decimal.{number}
 
--- a description, and what it is refused for
+-- A description, and its refusal.
 pub record Row : Type 0 where
   pub document : Members
   pub refusal : Refusal
@@ -43,7 +43,7 @@ pub record Row : Type 0 where
 abbrev pub row : Members → Refusal → Row
 row document refusal = record { document = document; refusal = refusal }
 
--- the flow, the invariant, the host, the number of hosts, the version or a key is changed
+-- The flow, the invariant, the host, the number of hosts, the version or a key is changed.
 abbrev worked_rows : List Row
 worked_rows =
     row (of_flows (flow (codes "a") (codes "c") ∷ [])) (refused_name UndeclaredHost (FlowAt 1) 2 (codes "c"))
@@ -63,7 +63,7 @@ pub worked : map (λ r. described_by_table r.document) worked_rows ≡ map (λ r
 unfolding has_only_keys lacks_key all_suit of_shape has_wrong_type first_place spots listed assigns_of has_only has_key text_at integer_at boolean_at number_at elements_of list_at flow_written written host_written invariant_written assign_written bad_version too_many bad_name duplicate_host bad_prefix host_bits no_address two_rests overlap all_entries used_names all_names unknown_template undeclared_host duplicate_assign bad_attribute self_flow duplicate_flow bad_service many_services network_of network_hosts asked_of services_in invariants_of known_of every_flow described_by_table table_conditions form_conditions host_conditions use_conditions prefix_of octet address_text prefix_text number is_exact meets template_named bad_of made_by blp_attribute bad_template not_lawful digits
 worked = refl
 
--- without a change it is accepted
+-- Without a change it is accepted.
 pub accepted : described_by_table (of_flows a_to_b) ≡ Ok (record {
   hosts =
       record { name = codes "a"; prefixes = prefix_with 167772161 32 ∷ []; rest = false }
@@ -78,7 +78,7 @@ pub accepted : described_by_table (of_flows a_to_b) ≡ Ok (record {
 unfolding has_only_keys lacks_key all_suit of_shape has_wrong_type first_place spots listed assigns_of has_only has_key text_at integer_at boolean_at number_at elements_of list_at flow_written written host_written invariant_written assign_written bad_version too_many bad_name duplicate_host bad_prefix host_bits no_address two_rests overlap all_entries used_names all_names unknown_template undeclared_host duplicate_assign bad_attribute self_flow duplicate_flow bad_service many_services network_of network_hosts asked_of services_in invariants_of known_of every_flow described_by_table table_conditions form_conditions host_conditions use_conditions prefix_of octet address_text prefix_text number is_exact meets template_named bad_of made_by blp_attribute bad_template not_lawful set_of digits
 accepted = refl
 
--- whatever stands in it, a file of one byte more than the limit is too long
+-- A file of one byte more than the limit is too long, regardless of its content.
 pub too_long : (byte : ℕ) → described (replicate 1048577 byte) ≡ Err (refused TooLong Document)
 too_long byte = described-too_long (replicate 1048577 byte) (longer 1048577 byte (omega arith))
   where

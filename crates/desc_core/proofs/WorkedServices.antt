@@ -1,4 +1,5 @@
--- Worked descriptions with services: what is told of them, and what they say. No contract names these laws either.
+-- Test vectors with services: the refusals of descriptions, and the networks that they specify. No contract names these
+-- lemmas.
 use Rattle.std.specs.Prelude.{◌≡◌, refl, pos, true, false, List, [], ◌∷◌, map, replicate, codes, Ok, Err}
 use Rattle.toml.specs.Data.{integer}
 use Rattle.attr_core.specs.Blp.{blp_attribute}
@@ -31,7 +32,8 @@ use Rattle.table_core.specs.Tables.{has_only, has_key, text_at, integer_at, bool
 use Rattle.std.specs.Fmt.{digits}
 use Rattle.text_core.specs.inner.Decimal.{number}
 
--- a number with a zero in front; too many services, alone, and behind a text that says none; a repeated flow is told before both
+-- A number with a leading zero; too many services, both without and after a string that denotes none; a repeated flow takes precedence over
+-- both.
 abbrev service_rows : List Row
 service_rows =
     row (of_narrowed_flows (a_to_b_by (codes "tcp/080" ∷ []) ∷ [])) (refused_item BadService (FlowAt 1) 3)
@@ -51,7 +53,7 @@ pub services_refused : map (λ r. described_by_table r.document) service_rows �
 unfolding has_only_keys lacks_key all_suit of_shape has_wrong_type first_place spots listed assigns_of has_only has_key text_at integer_at boolean_at number_at elements_of list_at flow_written written host_written invariant_written assign_written bad_version too_many bad_name duplicate_host bad_prefix host_bits no_address two_rests overlap all_entries used_names all_names unknown_template undeclared_host duplicate_assign bad_attribute self_flow duplicate_flow bad_service many_services network_of network_hosts asked_of services_in invariants_of known_of every_flow described_by_table table_conditions form_conditions host_conditions use_conditions prefix_of octet address_text prefix_text number is_exact meets template_named bad_of made_by blp_attribute bad_template not_lawful service_of digits
 services_refused = refl
 
--- one flow is narrowed, the other is whole
+-- One flow is restricted, the other is unrestricted.
 pub services_accepted : described_by_table (of_narrowed_flows (flow (codes "b") (codes "a") ∷ a_to_b_by (codes "tcp/80" ∷ codes "udp/53-60" ∷ codes "icmp" ∷ []) ∷ [])) ≡ Ok (record {
   hosts =
       record { name = codes "a"; prefixes = prefix_with 167772161 32 ∷ []; rest = false }

@@ -19,19 +19,20 @@ pub data Choice : Type 0 where
   OneOfTen : (template : Template) → Choice
   OwnTable : (template : WrittenTemplate) → Choice
 
--- the template of a name: one of the ten, else the first that is declared under it
+-- The template of a name: one of the ten, otherwise the first one that is declared under it.
 abbrev pub chosen : List WrittenTemplate → List ℕ → Option Choice
 chosen templates name =
     option_or (option_map OneOfTen (template_named name)) (option_map OwnTable (find (λ t. bytes_eq name t.name) templates))
 
+-- The strategy of a word: `access`, otherwise information.
 abbrev pub strategy_said : List ℕ → Strategy
 strategy_said word = if bytes_eq word (codes "access") then Access else Information
 
--- the number of a kind; what is no kind of the template is refused, and does not count
+-- The number of a kind. A word that is no kind of the template is refused, so its number is irrelevant.
 abbrev pub number_of_kind : WrittenTemplate → List ℕ → ℕ
 number_of_kind t word = unwrap_or (kind_numbered t.kinds word) 0
 
--- the table of a declared template: its kinds by their numbers
+-- The table of a declared template, with its kinds as numbers.
 abbrev pub table_said : WrittenTemplate → KindTable
 table_said t = record {
   name = t.name;
@@ -41,18 +42,19 @@ table_said t = record {
   denied = map (λ p. (number_of_kind t p.sender, number_of_kind t p.receiver)) t.deny;
 }
 
+-- The declared template: the words of its kinds, and its table.
 abbrev pub declared_by : WrittenTemplate → Declared
 declared_by t = record { words = t.kinds; table = table_said t }
 
--- how a description writes the attributes of the template
+-- The attribute format of the template.
 abbrev pub choice_form : Choice → Form
 choice_form (OneOfTen t) = form t
 choice_form (OwnTable t) = table_form (declared_by t)
 
--- the first assign that says no attribute
+-- The first assign that specifies no attribute.
 unfoldable pub bad_of : List Host → Choice → List Given → Option ℕ
 bad_of hosts choice assigns = bad_assign (choice_form choice) hosts assigns
 
--- the invariant whose hosts have the attributes that are assigned
+-- The invariant whose hosts have the assigned attributes.
 unfoldable pub made_by : List Host → Choice → List Given → AnyInv
 made_by hosts choice assigns = invariant_by (choice_form choice) hosts assigns

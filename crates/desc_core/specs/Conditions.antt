@@ -1,4 +1,4 @@
--- The conditions on the table of a description in their order, and the size that it may have (the description's format,
+-- The conditions on the table of a description in order, and the size limit (the description's format,
 -- docs/FORMATS.md).
 use Rattle.std.specs.Prelude.{ℕ, List, ◌++◌, Option}
 use Rattle.toml.specs.Data.{Members}
@@ -8,10 +8,10 @@ use Rattle.desc_form.specs.Written.{written}
 use Rattle.desc_form.specs.declared.refusal.Refusal.{Refusal}
 use Rattle.desc_form.specs.HostConditions.{host_conditions}
 
--- how many bytes there may be
+-- The greatest size of a description, in bytes.
 abbrev pub byte_limit : ℕ
 byte_limit = 1048576
 
--- 3 to 24: what the conditions on a table refuse, each by itself
+-- Conditions 3 to 24 on a table, with the refusal of each.
 unfoldable pub table_conditions : Members → List (Option Refusal)
 table_conditions table = form_conditions table ++ (host_conditions (written table) ++ use_conditions (written table))

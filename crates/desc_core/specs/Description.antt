@@ -1,4 +1,5 @@
--- What a description says, or the first condition that refuses it (the description's format, docs/FORMATS.md).
+-- The network that a description specifies, or the first condition that refuses it (the description's format,
+-- docs/FORMATS.md).
 use Rattle.std.specs.Prelude.{ℕ, List, length, nat_lt, Option, Some, None, Result, Ok, Err, if◌then◌else◌}
 use Rattle.toml.specs.Data.{Members}
 use Rattle.desc_core.specs.Conditions.{byte_limit, table_conditions}
@@ -12,20 +13,20 @@ use Rattle.desc_form.specs.declared.refusal.Place.TheVariants.{Document}
 use Rattle.desc_form.specs.declared.refusal.Refusal.{Refusal}
 use Rattle.desc_form.specs.declared.refusal.Why.TheVariants.{TooLong, NotToml}
 
--- what is said, unless it is refused
+-- The value, unless it is refused.
 abbrev pub refused_or : {A : Type 0} → Option Refusal → A → Result A Refusal
 refused_or (Some refusal) x = Err refusal
 refused_or None x = Ok x
 
--- what a table describes: the network that is written in it, or the first of 3 to 24 that holds
+-- The network that a table describes, or the refusal of the first of conditions 3 to 24 that applies.
 unfoldable pub described_by_table : Members → Result Network Refusal
 described_by_table table = refused_or (first_of (table_conditions table)) (network_of (written table))
 
--- what a document describes; bytes that are none are refused
+-- The network that a document describes. Bytes that are no document are refused.
 abbrev pub described_by : Option Members → Result Network Refusal
 described_by None = Err (refused NotToml Document)
 described_by (Some table) = described_by_table table
 
--- what the bytes describe
+-- The network that the bytes describe.
 unfoldable pub described : List ℕ → Result Network Refusal
 described bytes = if nat_lt byte_limit (length bytes) then Err (refused TooLong Document) else described_by (document bytes)

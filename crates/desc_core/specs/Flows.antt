@@ -1,11 +1,11 @@
--- The flows of a description, between the hosts that their names say.
+-- The flows of a description, between the hosts of their names.
 use Rattle.std.specs.Prelude.{List, ◌==◌, if◌then◌else◌, Option, Some, None}
 use Rattle.desc_form.specs.WrittenFlow.{WrittenFlow}
 use Rattle.flow_set.specs.declared.flow.Flow.{Flow}
 use Rattle.host_net.specs.Host.{Host, host_named}
 use Rattle.text_core.specs.Steps.{◌>>=◌}
 
--- the flow between the hosts of two names, if they are two hosts
+-- The flow between the hosts of two names, if they are two different hosts.
 abbrev pub flow_of_names : List Host → WrittenFlow → Option Flow
 flow_of_names hosts names = do
   from ← host_named hosts names.from

@@ -1,4 +1,4 @@
--- The refusals 23 and 24 of a description: the templates that it declares (the description's format, docs/FORMATS.md).
+-- Refusals 23 and 24 of a description: the templates that it declares (the description's format, docs/FORMATS.md).
 use Rattle.std.specs.Prelude.{ℕ, ◌+◌, Bool, true, not, ◌&&◌, ◌||◌, nat_le, nat_lt, List, [], ◌∷◌, ◌++◌, length, find, Option, Some, None, option_map, is_none, codes, if◌then◌else◌}
 use Rattle.std.specs.List.{list_all, list_any}
 use Rattle.std.specs.Str.{bytes_eq}
@@ -12,61 +12,63 @@ use Rattle.desc_form.specs.declared.refusal.Why.TheVariants.{BadTemplate, NotLaw
 use Rattle.text_core.specs.Firsts.{Numbered, first_found, numbered}
 use Rattle.text_core.specs.Name.{is_name}
 
--- how many kinds a template may have
+-- The greatest number of kinds of a template.
 abbrev pub kind_limit : ℕ
 kind_limit = 64
 
--- the name is legal, none of the ten, and not that of an earlier template
+-- The name is legal, and differs from the ten templates and from those of earlier templates.
 abbrev pub has_own_name : List WrittenTemplate → WrittenTemplate → Bool
 has_own_name earlier t =
     is_name t.name && is_none (template_named t.name) && not (list_any (λ e. bytes_eq t.name e.name) earlier)
 
+-- The strategy is `access` or `information`.
 abbrev pub has_strategy : WrittenTemplate → Bool
 has_strategy t = bytes_eq t.strategy (codes "access") || bytes_eq t.strategy (codes "information")
 
--- no word stands twice
+-- The words are distinct.
 abbrev pub are_different : List (List ℕ) → Bool
 are_different [] = true
 are_different (word ∷ words) = not (list_any (bytes_eq word) words) && are_different words
 
--- there are 1 to 64 kinds, all different names
+-- There are 1 to 64 kinds, with distinct legal names.
 abbrev pub has_kinds : WrittenTemplate → Bool
 has_kinds t =
     nat_lt 0 (length t.kinds) && nat_le (length t.kinds) kind_limit && list_all is_name t.kinds && are_different t.kinds
 
+-- The word is a kind of the template.
 abbrev pub is_kind : WrittenTemplate → List ℕ → Bool
 is_kind t word = list_any (bytes_eq word) t.kinds
 
--- the default and every word of a denied pair is one of the kinds
+-- The default and every word of a denied pair is one of the kinds.
 abbrev pub uses_kinds : WrittenTemplate → Bool
 uses_kinds t = is_kind t t.default && list_all (λ p. is_kind t p.sender && is_kind t p.receiver) t.deny
 
--- the template is as it should be, after these earlier ones
+-- The template is valid, after these earlier ones.
 abbrev pub is_good : List WrittenTemplate → WrittenTemplate → Bool
 is_good earlier t = has_own_name earlier t && has_strategy t && has_kinds t && uses_kinds t
 
--- the first that is not as it should be, where these come after the earlier ones: its number, where they count from k
+-- The number of the first template that is invalid after the earlier ones; they are counted from k.
 abbrev pub first_bad : List WrittenTemplate → ℕ → List WrittenTemplate → Option ℕ
 first_bad earlier k [] = None
 first_bad earlier k (t ∷ ts) = if is_good earlier t then first_bad (earlier ++ t ∷ []) (k + 1) ts else Some k
 
--- 23: a template is not as it should be
+-- 23: a template is invalid.
 unfoldable pub bad_template : Written → Option Refusal
 bad_template w = option_map (λ k. refused BadTemplate (Template k)) (first_bad [] 1 w.templates)
 
--- the template denies the pair
+-- The template denies the pair.
 abbrev pub denies : WrittenTemplate → List ℕ → List ℕ → Bool
 denies t sender receiver = list_any (λ p. bytes_eq p.sender sender && bytes_eq p.receiver receiver) t.deny
 
--- the same pair with the default at the host that is blamed is denied
+-- The partner of the pair is denied: the same pair with the default at the offending host.
 abbrev pub has_partner : WrittenTemplate → WrittenPair → Bool
 has_partner t p = if bytes_eq t.strategy (codes "access") then denies t t.default p.receiver else denies t p.sender t.default
 
--- a template is refused at its first denied pair without a partner
+-- A template is refused at its first denied pair without a denied partner.
 abbrev pub unlawful_at : Numbered WrittenTemplate → Option Refusal
 unlawful_at t =
     option_map (λ p. refused_item NotLawful (Template t.number) p.number) (find (λ p. not (has_partner t.what p.what)) (numbered t.what.deny))
 
--- 24: a denied pair has no partner
+-- 24: a denied pair has no denied partner.
 unfoldable pub not_lawful : Written → Option Refusal
 not_lawful w = first_found unlawful_at (numbered w.templates)

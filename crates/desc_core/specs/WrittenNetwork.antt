@@ -1,6 +1,5 @@
--- The network that a written description says: its hosts, the flows between them, their services, and the invariant of each template
--- (the description's format, docs/FORMATS.md).
--- What is refused is passed over here: where a description is refused, what is said here does not count.
+-- The network that a raw description specifies: its hosts, the flows between them, their services, and the invariant of each template (the
+-- description's format, docs/FORMATS.md). Parts that are refused are skipped here: if a description is refused, its network is irrelevant.
 use Rattle.std.specs.Prelude.{List, [], ◌∷◌, length, filter_map, Option, Some, None, option_map, if◌then◌else◌}
 use Rattle.attr_core.specs.Assigns.{Given}
 use Rattle.desc_core.specs.Choices.{Choice, chosen, made_by}
@@ -21,52 +20,56 @@ use Rattle.inv_any.specs.declared.any_inv.AnyInv.{AnyInv}
 use Rattle.table_core.specs.Listing.{each}
 use Rattle.text_core.specs.Steps.{◌>>=◌}
 
--- the flows that are listed; where the key `flow` is absent, every flow
+-- The listed flows; every flow if the key `flow` is absent.
 unfoldable pub asked_of : Written → List Flow
 asked_of w = if w.given then set_of (filter_map (flow_of_names (network_hosts w)) w.flows) else every_flow (length w.hosts)
 
--- a flow with its services; one without any is not narrowed
+-- A flow with its services. A flow without services is unrestricted.
 abbrev pub narrowed_to : Flow → List Service → Option NarrowedFlow
 narrowed_to flow [] = None
 narrowed_to flow (s ∷ ss) = Some (record { from = flow.from; to = flow.to; services = s ∷ ss })
 
--- the services that the texts of a flow say
+-- The services that the strings of a flow denote.
 abbrev pub services_said : WrittenFlow → List Service
 services_said f = filter_map service_of f.services
 
+-- The restricted flow of a raw flow, if it has services.
 abbrev pub narrowed_of : List Host → WrittenFlow → Option NarrowedFlow
 narrowed_of hosts f = flow_of_names hosts f >>= λ flow. narrowed_to flow (services_said f)
 
--- the flows that are narrowed to services, in the order in which they are listed
+-- The flows that are restricted to services, in the order in which they are listed.
 unfoldable pub services_in : Written → List NarrowedFlow
 services_in w = filter_map (narrowed_of (network_hosts w)) w.flows
 
--- what an assign gives, if its host is declared
+-- The host and the table of an assign, if its host is declared.
 abbrev pub given_by : List Host → WrittenAssign → Option Given
 given_by hosts a = option_map (λ host. record { host = host; table = a.table }) (host_named hosts a.host)
 
--- an invariant whose names are known: its template, and what its assigns give
+-- An invariant with resolved names: its template, and the hosts and tables of its assigns.
 pub record Known : Type 0 where
   pub template : Choice
   pub assigns : List Given
 
--- none where the template or a host is unknown
+-- A raw invariant with resolved names; `None` if the template or a host is unknown.
 unfoldable pub known_of : List WrittenTemplate → List Host → WrittenInvariant → Option Known
 known_of templates hosts i = do
   template ← chosen templates i.template
   assigns ← each (given_by hosts) i.assigns
   Some (record { template = template; assigns = assigns })
 
--- the invariant whose hosts have the attributes that are assigned
+-- The invariant whose hosts have the assigned attributes.
 abbrev pub made_of : List Host → Known → AnyInv
 made_of hosts known = made_by hosts known.template known.assigns
 
+-- The invariant of a raw invariant, if its names are known.
 abbrev pub invariant_of : List WrittenTemplate → List Host → WrittenInvariant → Option AnyInv
 invariant_of templates hosts i = option_map (made_of hosts) (known_of templates hosts i)
 
+-- The invariants of a raw description.
 unfoldable pub invariants_of : Written → List AnyInv
 invariants_of w = filter_map (invariant_of w.templates (network_hosts w)) w.invariants
 
+-- The network of a raw description.
 unfoldable pub network_of : Written → Network
 network_of w = record {
   hosts = network_hosts w;

@@ -15,7 +15,8 @@ pub(crate) enum Choice<'w, 'a> {
     OwnTable(&'w WrittenTemplate<'a>),
 }
 
-/// The template of a name: one of the ten, else the first that is declared under it.
+/// Returns the template of a name: one of the ten, otherwise the first one that is declared under
+/// it.
 pub(crate) fn chosen<'w, 'a>(
     templates: &'w [WrittenTemplate<'a>],
     name: &str,
@@ -28,7 +29,7 @@ pub(crate) fn chosen<'w, 'a>(
     }
 }
 
-/// The first template that is declared under the name.
+/// Returns the first template that is declared under the name.
 fn declared<'w, 'a>(templates: &'w [WrittenTemplate<'a>], name: &str) -> Option<Choice<'w, 'a>>
     ensures { option_map choice_view result
         ≡ option_map OwnTable (find (λ t. bytes_eq name.now t.name) (map template_view templates.now)) }

@@ -1,5 +1,5 @@
-//! The description of a network: its hosts, the flows between them that are asked for, their services,
-//! and its invariants.
+//! The description of a network: its hosts, the asked flows between them, their services, and its
+//! invariants.
 ghost use Rattle.std.specs.Prelude.{◌≡◌, ◌≢◌, IfOk};
 ghost use Rattle.desc_core.specs.inner.AllConditions.{conditions};
 ghost use Rattle.desc_core.specs.Conditions.{table_conditions};
@@ -20,38 +20,39 @@ use net_core::Description;
 use std::alloc::Global;
 use toml::Table;
 
-/// Reads a description, or tells the first condition that refuses it.
+/// Parses a description, or returns the first condition that refuses it.
 pub fn describe(alloc: Global, bytes: &[u8]) -> Result<Description, DescFault>
     ensures given { Reads result (described bytes.now) }
 
-    // What is read is all that is written in the document: nothing is passed over.
+    // The result contains everything of the document: nothing is ignored.
     ensures whole { IfOk result (λ d. IsDescribed bytes.now d) }
 
-    // It is read only where none of the twenty-four conditions holds.
+    // A description is accepted only if none of the twenty-four conditions applies.
     ensures none { IfOk result (λ _. NoneHolds (conditions bytes.now)) }
 
-    // What is told has the least number whose condition holds.
+    // The reported condition has the least number of those that apply.
     ensures least { (refusal : Refusal) → result ≡ Err (Refused refusal) → IsLeast 1 (conditions bytes.now) refusal }
 {
     let table = read_table(alloc, bytes)?;
     describe_table(alloc, &table)
 }
 
-/// Reads a description from its TOML table, or tells the first condition on tables that refuses it.
-/// These are the conditions of `describe` from the third on.
+/// Reads a description from its TOML table, or returns the first condition on tables that refuses
+/// it. These are the conditions of `describe` from the third on.
 pub fn describe_table(alloc: Global, table: &Table) -> Result<Description, DescFault>
     ensures given { Reads result (described_by_table (table_view table.now)) }
 
-    // What is read is all that is written in the table: nothing is passed over.
+    // The result contains everything of the table: nothing is ignored.
     ensures whole { IfOk result (λ d. IsDescribedByTable (table_view table.now) d) }
 
-    // It is read only where none of the conditions on tables holds.
+    // A table is accepted only if none of the conditions on tables applies.
     ensures none { IfOk result (λ _. NoneHolds (table_conditions (table_view table.now))) }
 
-    // What is told has the least number whose condition holds.
+    // The reported condition has the least number of those that apply.
     ensures least { (refusal : Refusal) → result ≡ Err (Refused refusal) → IsLeast 3 (table_conditions (table_view table.now)) refusal }
 
-    // It is read only where the table is right, and a right one is never refused: want of memory alone can stop it.
+    // A table is accepted only if it is valid, and a valid table is never refused: only an
+    // allocation failure can prevent the result.
     ensures right { IfOk result (λ _. IsRight (table_view table.now)) }
     ensures accepted { IsRight (table_view table.now) → (refusal : Refusal) → result ≢ Err (Refused refusal) }
 {

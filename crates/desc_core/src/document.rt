@@ -1,4 +1,4 @@
-//! From the bytes of a description to its TOML table.
+//! Parsing the TOML table of a description.
 ghost use Rattle.std.specs.Prelude.{◌≡◌};
 ghost use Rattle.std.specs.Result.{result_map_both};
 ghost use Rattle.desc_core.specs.inner.Parts.{table_of};
@@ -13,7 +13,7 @@ use desc_form::{Place, Refusal, Why};
 use std::alloc::Global;
 use toml::Table;
 
-/// The table of a description's bytes, or the first of the two conditions on bytes.
+/// Returns the table of a description's bytes, or the first of the two conditions on bytes.
 pub fn read_table(alloc: Global, bytes: &[u8]) -> Result<Table, DescFault>
     ensures { Reads (result_map_both table_view (λ fault. fault) result) (table_of bytes.now) }
 {
@@ -30,7 +30,7 @@ pub fn read_table(alloc: Global, bytes: &[u8]) -> Result<Table, DescFault>
     }
 }
 
-/// The document as a whole is refused.
+/// Returns the refusal of the document as a whole.
 fn of_document(why: Why) -> DescFault
     ensures { result ≡ Refused (refused why Document) }
 {

@@ -1,4 +1,4 @@
-//! Why there is no description.
+//! The reasons why a description is not accepted.
 
 ghost use Rattle.std.specs.Prelude.{◌≡◌};
 ghost use Rattle.desc_core.specs.declared.fault.DescFault.TheVariants.{Memory};
@@ -6,15 +6,15 @@ ghost use Rattle.desc_core.specs.declared.fault.DescFault.TheVariants.{Memory};
 use desc_form::Refusal;
 use std::alloc::{AllocError, AllocFailed};
 
-/// The most bytes that a description may have.
+/// The greatest size of a description, in bytes.
 pub const BYTE_LIMIT: usize = 1_048_576;
 
-/// Why there is no description.
+/// The reason why a description is not accepted.
 #[derive(Clone, Copy, Debug)]
 pub enum DescFault {
-    /// The description is refused, for the first of the conditions that holds.
+    /// The description is refused, for the first of the conditions that apply.
     Refused(Refusal),
-    /// Memory ran out.
+    /// Memory allocation failed.
     Memory,
 }
 

@@ -1,5 +1,4 @@
-//! The flows of a description by their hosts: the refusals for them, and the set of those that are
-//! asked for.
+//! The flows of a description with resolved hosts: their refusals, and the set of asked flows.
 ghost use Rattle.std.specs.Prelude.{◌≡◌, ◌≤◌, Some, find, All, IsTrue, if◌then◌else◌};
 ghost use Rattle.desc_core.specs.Description.{refused_or};
 ghost use Rattle.desc_core.specs.inner.Parts.{self_found, twice_found};
@@ -18,7 +17,7 @@ use desc_form::{Place, Refusal, Why};
 use flow_set::{Flow, FlowSet};
 use std::alloc::Global;
 
-/// Both ends of a flow are one host.
+/// Returns the refusal of a flow whose two ends are equal.
 pub(crate) fn self_flow(flows: &[Flow]) -> Option<Refusal>
     ensures { result ≡ self_found flows.now }
 {
@@ -30,8 +29,8 @@ pub(crate) fn self_flow(flows: &[Flow]) -> Option<Refusal>
     None
 }
 
-/// The flows that are asked for between `count` hosts: the listed ones, or every flow where none are
-/// given; or the refusal of a flow that was listed before.
+/// Returns the asked flows between `count` hosts: the listed ones, or every flow if none are given;
+/// or the refusal of a flow that is listed twice.
 pub(crate) fn asked_flows(
     alloc: Global,
     count: u16,
@@ -50,7 +49,8 @@ pub(crate) fn asked_flows(
     Ok(FlowSet::full(alloc, count)?)
 }
 
-/// The flows as a set. Only where one is in the set already, the earlier one is looked for.
+/// Returns the flows as a set. The search for an earlier flow runs only if one is in the set
+/// already.
 #[tactic(auto, unfolding(flow_set::specs::FlowSet::set_of))]
 fn listed_flows(alloc: Global, count: u16, flows: &[Flow]) -> Result<FlowSet, DescFault>
     requires small { count ≤ 256 }
@@ -67,7 +67,7 @@ fn listed_flows(alloc: Global, count: u16, flows: &[Flow]) -> Result<FlowSet, De
     Ok(listed)
 }
 
-/// The number, from 1, of the first of the flows that is this one.
+/// Returns the number, from 1, of the first flow that is equal to `flow`.
 fn number_of(flow: Flow, flows: &[Flow]) -> u64
     requires { IsTrue (has flows.now flow) }
     ensures { find (λ f. same_flow flow f.what) (numbered flows.now) ≡ Some (record { number = result; what = flow }) }
@@ -80,7 +80,7 @@ fn number_of(flow: Flow, flows: &[Flow]) -> u64
     unreachable!()
 }
 
-/// A flow was listed before.
+/// Returns the refusal of a flow that is listed twice.
 fn listed_before(later: u64, earlier: u64) -> DescFault
     ensures { result ≡ Refused (refused_by DuplicateFlow (FlowAt later) earlier) }
 {

@@ -1,5 +1,5 @@
-//! The invariants of a description: the first assign that says no attribute of its template, and the
-//! invariants themselves, each made of its assigns.
+//! The invariants of a description: the first assign that specifies no attribute of its template,
+//! and the invariants themselves, each made of its assigns.
 ghost use Rattle.std.specs.Prelude.{◌≡◌, ◌<◌, None, length, map, All, IfOk};
 ghost use Rattle.attr_core.specs.inner.AssignView.{given_of};
 ghost use Rattle.attr_core.specs.inner.ReadIn.{bad_in, invariant_in};
@@ -22,7 +22,7 @@ use host_net::Hosts;
 use inv_any::AnyInv;
 use std::alloc::{AllocError, Global};
 
-/// The first assign that says no attribute of its template.
+/// Returns the refusal of the first assign that specifies no attribute of its template.
 pub(crate) fn attribute_refusal(
     alloc: Global,
     hosts: &Hosts,
@@ -57,7 +57,8 @@ fn bad_attribute_of(
     Ok(Some(Refusal::at(Why::BadAttribute, place)))
 }
 
-/// The number, from 0, of the first assign that says no attribute of the invariant's template.
+/// Returns the number, from 0, of the first assign that specifies no attribute of the invariant's
+/// template.
 #[tactic(auto, unfolding(crate::specs::Choices::bad_of, attr_core::specs::inner::ReadIn::bad_in))]
 fn bad_assign(
     alloc: Global,
@@ -73,7 +74,7 @@ fn bad_assign(
     }
 }
 
-/// The same of one of the ten templates: the assigns are read, and what is read is let go.
+/// The same for one of the ten templates: the assigns are parsed, and the result is dropped.
 fn bad_attribute(
     alloc: Global,
     hosts: &Hosts,
@@ -90,7 +91,7 @@ fn bad_attribute(
     }
 }
 
-/// The invariants, in their order, where no assign is bad.
+/// Returns the invariants, in order, if no assign is bad.
 pub(crate) fn read_invariants(
     alloc: Global,
     hosts: &Hosts,
@@ -125,7 +126,7 @@ fn read_one(
     }
 }
 
-/// The invariant of one of the ten templates.
+/// Returns the invariant of one of the ten templates.
 fn read_good(
     alloc: Global,
     hosts: &Hosts,
@@ -143,7 +144,7 @@ fn read_good(
     }
 }
 
-/// The invariant of a declared template.
+/// Returns the invariant of a declared template.
 fn read_declared(
     alloc: Global,
     hosts: &Hosts,

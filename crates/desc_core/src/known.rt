@@ -1,5 +1,5 @@
-//! The names of a description looked up, once each: the templates, the hosts of the assigns and those
-//! of the flows.
+//! Name resolution of a description, once for each name: the templates, the hosts of the assigns
+//! and those of the flows.
 ghost use Rattle.std.specs.Prelude.{◌≡◌, ◌<◌, length, map, option_map, All, IfOk, IfSome};
 ghost use Rattle.attr_core.specs.inner.AssignView.{given_of};
 ghost use Rattle.desc_core.specs.inner.KnownView.{known_view};
@@ -15,14 +15,15 @@ use flow_set::Flow;
 use host_net::Hosts;
 use std::alloc::{AllocError, Global};
 
-/// An invariant whose template and whose hosts are known.
+/// An invariant with resolved template and hosts.
 #[derive(Drop)]
 pub(crate) struct KnownInvariant<'w, 'a> {
     pub(crate) template: Choice<'w, 'a>,
     pub(crate) assigns: Vec<Assign<'a>>,
 }
 
-/// The invariants by their templates and hosts, or None where one of these names is unknown.
+/// Returns the invariants with their templates and hosts, or `None` if one of these names is
+/// unknown.
 pub(crate) fn known_invariants<'w, 'a>(
     alloc: Global,
     templates: &'w [WrittenTemplate<'a>],
@@ -63,7 +64,7 @@ fn known_invariant<'w, 'a>(
     Ok(Some(KnownInvariant { template, assigns }))
 }
 
-/// What each assign gives, or None where one of their hosts is unknown.
+/// Returns the host and the table of each assign, or `None` if one of their hosts is unknown.
 fn assigns_among<'a>(
     alloc: Global,
     hosts: &Hosts,
@@ -86,7 +87,8 @@ fn assigns_among<'a>(
     Ok(Some(assigns))
 }
 
-/// The flows by their hosts, or None where a name is unknown. The two hosts of a flow may be one.
+/// Returns the flows with their hosts, or `None` if a name is unknown. The two hosts of a flow may
+/// be equal.
 pub(crate) fn found_flows(
     alloc: Global,
     hosts: &Hosts,

@@ -1,4 +1,4 @@
-//! From a description to the same one in version 2.
+//! Migration of a description to version 2.
 ghost use Rattle.std.specs.Prelude.{◌≡◌, ◌≤◌, true, false, Some, Ok, Err, IfOk, IfErr, OnOk};
 ghost use Rattle.std.specs.Result.{result_map_both};
 ghost use Rattle.desc_core.specs.Description.{described_by_table};
@@ -19,7 +19,8 @@ use toml::ser::Error as PrintError;
 use toml::{Table, Value};
 
 /// Writes a description in version 2: its table with another version, as `toml` prints it. Comments
-/// and the layout of the text are not kept. What `describe` refuses is refused for the same.
+/// and the layout of the text are lost. A description that `describe` refuses is refused for the
+/// same reason.
 pub fn migrate(alloc: Global, bytes: &[u8]) -> Result<Vec<u8>, DescFault>
     ensures { Migrates bytes.now (result_map_both (λ text. text.items) (λ fault. fault) result) }
 {
@@ -29,7 +30,7 @@ pub fn migrate(alloc: Global, bytes: &[u8]) -> Result<Vec<u8>, DescFault>
     Ok(print(alloc, &table)?)
 }
 
-/// Refuses a table that describes no network. The network itself is not kept.
+/// Refuses a table that describes no network. The network itself is dropped.
 fn accept(alloc: Global, table: &Table) -> Result<(), DescFault>
     ensures accepted { IfOk result (λ _. (network : Network) × (described_by_table (table_view table.now) ≡ Ok network)) }
     ensures refused { IfErr result (λ fault. Reads {A = Network} (Err fault) (described_by_table (table_view table.now))) }
@@ -46,7 +47,7 @@ fn set_version(alloc: Global, table: &mut Table) -> Result<(), AllocError>
     Ok(())
 }
 
-/// The text of a table without dates, which `toml` reads back.
+/// Returns the text of a table without dates, which `toml` parses back.
 fn print(alloc: Global, table: &Table) -> Result<Vec<u8>, AllocError>
     requires depth { members_depth (table_view table.now) ≤ 5 }
     requires dates { members_have_valid_dates (table_view table.now) ≡ true }

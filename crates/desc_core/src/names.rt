@@ -1,5 +1,5 @@
-//! The refusals for names: of templates that are unknown, of hosts that are not declared, of hosts
-//! that an invariant has twice.
+//! The refusals for names: unknown templates, undeclared hosts, and hosts that an invariant has
+//! twice.
 ghost use Rattle.std.specs.Prelude.{◌≡◌, ◌≢◌, Some, find, is_none, map, option_map, IfOk, IsTrue, None};
 ghost use Rattle.std.specs.List.{list_all};
 ghost use Rattle.std.specs.Str.{bytes_eq};
@@ -31,7 +31,7 @@ use host_net::{Hosts, Name};
 use std::alloc::{AllocError, Global};
 use text_core::{Pair, first_pair};
 
-/// The fault of a template that is unknown, or of a host that is not declared, where there is one.
+/// Returns the refusal of an unknown template or an undeclared host, if there is one.
 pub(crate) fn unknown_name(alloc: Global, hosts: &Hosts, written: &Written<'_>) -> DescFault
     requires hosts { hosts.now ≡ network_hosts (written_view written.now) }
     requires unrefused { first_of (host_conditions (written_view written.now)) ≡ None }
@@ -62,7 +62,7 @@ fn name_refusal(
     undeclared_host(alloc, hosts, written)
 }
 
-/// No template has the name, nor is one declared under it.
+/// Returns the refusal of a name that is neither that of a template nor that of a declared one.
 fn unknown_template(
     templates: &[WrittenTemplate<'_>],
     invariants: &[WrittenInvariant<'_>],
@@ -79,7 +79,7 @@ fn unknown_template(
     None
 }
 
-/// No host has the name, in an assign or in a flow.
+/// Returns the refusal of a name, in an assign or in a flow, that is not the name of a host.
 fn undeclared_host(
     alloc: Global,
     hosts: &Hosts,
@@ -106,7 +106,7 @@ fn first_undeclared(hosts: &Hosts, names: &[Mention<'_>]) -> Option<Refusal>
     None
 }
 
-/// The refusal of a name that no host has.
+/// Returns the refusal of a name that no host has.
 fn no_host(mention: &Mention<'_>) -> Refusal
     requires { IsTrue (is_name mention.now.name.now) }
     ensures { result ≡ refused_name UndeclaredHost mention.now.place mention.now.item mention.now.name.now }
@@ -116,7 +116,7 @@ fn no_host(mention: &Mention<'_>) -> Refusal
     refusal.with_item(mention.item).with_name(name)
 }
 
-/// An assign has the host of an earlier one of the same invariant.
+/// Returns the refusal of an assign with the host of an earlier one of the same invariant.
 pub(crate) fn duplicate_assign(invariants: &[WrittenInvariant<'_>]) -> Option<Refusal>
     ensures { result ≡ first_found duplicate_assign_of (numbered (map invariant_view invariants.now)) }
 {
@@ -138,7 +138,7 @@ fn duplicate_in(invariant: u64, assigns: &[WrittenAssign<'_>]) -> Option<Refusal
     barred_assign(invariant, pair)
 }
 
-/// The refusal for an assign that an earlier one bars.
+/// Returns the refusal of an assign that duplicates an earlier one.
 fn barred_assign(invariant: u64, pair: Option<Pair<'_, WrittenAssign<'_>>>) -> Option<Refusal>
     ensures { result ≡ option_map (λ p. refused_by DuplicateAssign (Assign invariant p.later.number) p.earlier.number)
         (option_map pair_seen pair.entry) }

@@ -1,4 +1,4 @@
-//! From what is written to the network, once the form is right.
+//! Construction of the network from a well-formed raw description.
 ghost use Rattle.std.specs.Prelude.{◌≡◌, ◌<◌, None, Some, length, map, All, IfOk};
 ghost use Rattle.std.specs.Option.{option_or};
 ghost use Rattle.desc_core.specs.inner.KnownView.{known_view};
@@ -25,7 +25,7 @@ use host_net::Hosts;
 use net_core::Description;
 use std::alloc::{AllocError, Global};
 
-/// The network that is written, or the first refusal of what is written.
+/// Returns the network of the raw description, or its first refusal.
 pub(crate) fn read_network(alloc: Global, written: &Written<'_>) -> Result<Description, DescFault>
     ensures { Reads result (network_or (written_view written.now)) }
 {
@@ -36,7 +36,7 @@ pub(crate) fn read_network(alloc: Global, written: &Written<'_>) -> Result<Descr
     network_of_hosts(alloc, hosts, written)
 }
 
-/// The same, with the hosts read.
+/// The same, after the hosts are read.
 fn network_of_hosts(
     alloc: Global,
     hosts: Hosts,
@@ -56,7 +56,7 @@ fn network_of_hosts(
     network_of_known(alloc, hosts, written, &invariants, &flows)
 }
 
-/// The same, with all names known.
+/// The same, after all names are resolved.
 fn network_of_known(
     alloc: Global,
     hosts: Hosts,
@@ -94,7 +94,7 @@ fn network_of_known(
     ))
 }
 
-/// The first refusal of an assign, or of a flow that leads from a host to itself.
+/// Returns the first refusal of an assign, or of a flow from a host to itself.
 #[tactic(auto, unfolding(crate::specs::UseConditions::duplicate_assign))]
 fn use_refusal(
     alloc: Global,

@@ -1,4 +1,4 @@
-//! The rule of a declared template: its kinds by their numbers.
+//! The rule of a declared template, with its kinds as numbers.
 ghost use Rattle.std.specs.Prelude.{◌≡◌, ◌≤◌, ◌<◌, IfOk, length, replicate};
 ghost use Rattle.desc_core.specs.Choices.{number_of_kind, strategy_said, table_said};
 ghost use Rattle.desc_core.specs.inner.Makeable.{IsMakeable};
@@ -11,7 +11,7 @@ use inv_law::Strategy;
 use std::alloc::{AllocError, Global};
 use tmpl_table::{TableFault, TableRule};
 
-/// The rule of the template for `n` hosts that have its default kind.
+/// Returns the rule of the template for `n` hosts that have its default kind.
 pub(crate) fn rule_of(
     alloc: Global,
     n: u16,
@@ -45,7 +45,7 @@ fn strategy_said(word: &str) -> Strategy
     }
 }
 
-/// The number of a kind of the template, by its word.
+/// Returns the number of a kind of the template, given by its word.
 fn number_of_kind(template: &WrittenTemplate<'_>, word: &str) -> u8
     requires some { 1 ≤ length (template_view template.now).kinds }
     requires few { length (template_view template.now).kinds ≤ 64 }
@@ -58,7 +58,7 @@ fn number_of_kind(template: &WrittenTemplate<'_>, word: &str) -> u8
     }
 }
 
-/// The pair of the numbers of two kinds.
+/// Returns the pair of the numbers of two kinds.
 fn pair_of(template: &WrittenTemplate<'_>, pair: &WrittenPair<'_>) -> (u8, u8)
     requires some { 1 ≤ length (template_view template.now).kinds }
     requires few { length (template_view template.now).kinds ≤ 64 }
@@ -72,7 +72,7 @@ fn pair_of(template: &WrittenTemplate<'_>, pair: &WrittenPair<'_>) -> (u8, u8)
     )
 }
 
-/// The denied pairs of the template.
+/// Returns the denied pairs of the template.
 fn denied_pairs(alloc: Global, template: &WrittenTemplate<'_>) -> Result<Vec<(u8, u8)>, AllocError>
     requires some { 1 ≤ length (template_view template.now).kinds }
     requires few { length (template_view template.now).kinds ≤ 64 }

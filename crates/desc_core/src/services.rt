@@ -1,4 +1,4 @@
-//! The services of flows: the refusals for them, and which flows they narrow.
+//! The services of flows: their refusals, and the flows that they restrict.
 ghost use Rattle.std.specs.Prelude.{◌≡◌, ◌≤◌, ◌+◌, [], find, is_none, length, map, option_map, IfOk, IsTrue, OnOk, filter_map, not};
 ghost use Rattle.std.specs.List.{list_all};
 ghost use Rattle.desc_core.specs.inner.Parts.{many_found, narrowed_among, services_found, with_services};
@@ -19,10 +19,11 @@ use flow_set::Flow;
 use host_net::{SERVICE_LIMIT, Services, read_service};
 use std::alloc::{AllocError, Global};
 
-/// Which item of a flow its first service is: it stands behind the two names.
+/// The item number of the first service of a flow: it follows the two names.
 const FIRST_SERVICE: u64 = 3;
 
-/// The refusal for a text that says no service, or else for too many services of a flow.
+/// Returns the refusal of a string that denotes no service, otherwise that of a flow with too many
+/// services.
 pub(crate) fn service_refusal(flows: &[WrittenFlow<'_>]) -> Option<Refusal>
     ensures { result ≡ services_found (map flow_view flows.now) }
 {
@@ -33,7 +34,7 @@ pub(crate) fn service_refusal(flows: &[WrittenFlow<'_>]) -> Option<Refusal>
     many_services(flows)
 }
 
-/// A text behind the names of a flow says no service.
+/// Returns the refusal of a string after the names of a flow that denotes no service.
 fn bad_service(flows: &[WrittenFlow<'_>]) -> Option<Refusal>
     ensures { result ≡ first_found bad_service_of (numbered (map flow_view flows.now)) }
 {
@@ -60,7 +61,7 @@ fn bad_service_in(flow: u64, texts: &[&str]) -> Option<Refusal>
     None
 }
 
-/// A flow has more services than there may be.
+/// Returns the refusal of a flow with more services than the limit.
 fn many_services(flows: &[WrittenFlow<'_>]) -> Option<Refusal>
     ensures { result ≡ many_found (map flow_view flows.now) }
 {
@@ -73,7 +74,8 @@ fn many_services(flows: &[WrittenFlow<'_>]) -> Option<Refusal>
     None
 }
 
-/// The services of the flows, of which each stands beside its hosts.
+/// Returns the services of the flows. The two lists are parallel: each raw flow has its hosts at
+/// the same index.
 pub(crate) fn read_services(
     alloc: Global,
     flows: &[Flow],
@@ -91,7 +93,7 @@ pub(crate) fn read_services(
     Ok(services)
 }
 
-/// Adds the services that the texts say to a flow that has none yet.
+/// Adds the services that the strings denote to a flow that has none yet.
 fn add_services(services: &mut Services, flow: Flow, texts: &[&str]) -> Result<(), AllocError>
     requires few { length texts.now ≤ service_limit }
     requires none { services_of services.old flow.from flow.to ≡ [] }

@@ -16,10 +16,10 @@ use desc_form::{Place, Refusal, Why, Written, WrittenPair, WrittenTemplate};
 use table_core::is_one_of;
 use text_core::is_name;
 
-/// How many kinds a template may have.
+/// The greatest number of kinds of a template.
 const KIND_LIMIT: usize = 64;
 
-/// A template is not as it should be, or denies a pair without its partner.
+/// Returns the refusal of a template that is invalid, or that denies a pair without its partner.
 #[tactic(auto, unfolding(crate::specs::TemplateConditions::bad_template, crate::specs::TemplateConditions::not_lawful))]
 pub(crate) fn template_refusal(written: &Written<'_>) -> Option<Refusal>
     ensures { result ≡ templates_found (written_view written.now) }
@@ -31,7 +31,7 @@ pub(crate) fn template_refusal(written: &Written<'_>) -> Option<Refusal>
     not_lawful(&written.templates)
 }
 
-/// A template is not as it should be, after those before it.
+/// Returns the refusal of a template that is invalid after the templates before it.
 fn bad_template(templates: &[WrittenTemplate<'_>]) -> Option<Refusal>
     ensures { result ≡ option_map (λ k. refused BadTemplate (place.Template k))
         (first_bad [] 1 (map template_view templates.now)) }
@@ -45,7 +45,7 @@ fn bad_template(templates: &[WrittenTemplate<'_>]) -> Option<Refusal>
     None
 }
 
-/// Whether the template is as it should be, after these earlier ones.
+/// Whether the template is valid, after these earlier ones.
 fn is_good(earlier: &[WrittenTemplate<'_>], template: &WrittenTemplate<'_>) -> bool
     ensures { result ≡ is_good (map template_view earlier.now) (template_view template.now) }
 {
@@ -55,7 +55,8 @@ fn is_good(earlier: &[WrittenTemplate<'_>], template: &WrittenTemplate<'_>) -> b
         && uses_kinds(template)
 }
 
-/// Whether the name is legal, none of the ten, and not that of an earlier template.
+/// Whether the name is legal, and differs from the ten templates and from those of earlier
+/// templates.
 fn has_own_name(earlier: &[WrittenTemplate<'_>], template: &WrittenTemplate<'_>) -> bool
     ensures { result ≡ has_own_name (map template_view earlier.now) (template_view template.now) }
 {
@@ -82,7 +83,7 @@ fn has_strategy(template: &WrittenTemplate<'_>) -> bool
     template.strategy == "access" || template.strategy == "information"
 }
 
-/// Whether there are 1 to 64 kinds, all different names.
+/// Whether there are 1 to 64 kinds, with distinct legal names.
 fn has_kinds(template: &WrittenTemplate<'_>) -> bool
     ensures { result ≡ has_kinds (template_view template.now) }
 {
@@ -104,7 +105,7 @@ fn are_names(words: &[&str]) -> bool
     true
 }
 
-/// Whether no word stands twice.
+/// Whether the words are distinct.
 fn are_different(words: &[&str]) -> bool
     ensures { result ≡ are_different (map (λ word. word.now) words.now) }
 {
@@ -136,7 +137,8 @@ fn are_of_kinds(kinds: &[&str], pairs: &[WrittenPair<'_>]) -> bool
     true
 }
 
-/// The first denied pair without a partner, of the first template that has one.
+/// Returns the refusal of the first denied pair without a partner, of the first template that has
+/// one.
 fn not_lawful(templates: &[WrittenTemplate<'_>]) -> Option<Refusal>
     ensures { result ≡ first_found unlawful_at (numbered (map template_view templates.now)) }
 {
@@ -149,7 +151,7 @@ fn not_lawful(templates: &[WrittenTemplate<'_>]) -> Option<Refusal>
     None
 }
 
-/// The first denied pair without a partner, of the template with a number.
+/// Returns the refusal of the first denied pair without a partner, of the template with a number.
 fn unlawful_at(number: u64, template: &WrittenTemplate<'_>) -> Option<Refusal>
     ensures { result ≡ unlawful_at (record { number = number; what = template_view template.now }) }
 {
@@ -162,7 +164,7 @@ fn unlawful_at(number: u64, template: &WrittenTemplate<'_>) -> Option<Refusal>
     None
 }
 
-/// Whether the pair is denied too with the default at the host that is blamed.
+/// Whether the pair is also denied with the default at the offending host.
 fn has_partner(template: &WrittenTemplate<'_>, pair: &WrittenPair<'_>) -> bool
     ensures { result ≡ has_partner (template_view template.now) (pair_view pair.now) }
 {

@@ -9,14 +9,14 @@ use Rattle.desc_form.specs.declared.refusal.Place.TheVariants.{Document}
 use Rattle.desc_form.specs.declared.refusal.Refusal.{Refusal}
 use Rattle.desc_form.specs.declared.refusal.Why.TheVariants.{TooLong, NotToml}
 
--- 1: there are more
+-- 1: the bytes exceed the size limit.
 unfoldable pub too_long : List ℕ → Option Refusal
 too_long bytes = where_holds (nat_lt byte_limit (length bytes)) (refused TooLong Document)
 
--- 2: they are no TOML document
+-- 2: the bytes are no TOML document.
 unfoldable pub not_toml : List ℕ → Option Refusal
 not_toml bytes = where_holds (is_none (document bytes)) (refused NotToml Document)
 
--- what each of the conditions refuses of the bytes, from 1 on; without a table there are two
+-- The refusal of each condition on the bytes, from 1 on. Without a table there are only two conditions.
 unfoldable pub conditions : List ℕ → List (Option Refusal)
 conditions bytes = too_long bytes ∷ not_toml bytes ∷ option_map_or table_conditions (document bytes) []

@@ -1,4 +1,4 @@
--- What the code's choice of a template stands for.
+-- The model of the code's choice of a template.
 use Rattle.desc_core.specs.Choices as meant
 use Rattle.desc_core.specs.declared.choice.Choice.{Choice}
 use Rattle.desc_core.specs.declared.choice.Choice.TheVariants.{OneOfTen, OwnTable}

@@ -1,4 +1,4 @@
--- What the code's invariant with known names stands for.
+-- The model of the code's invariant with resolved names.
 use Rattle.std.specs.Prelude.{map}
 use Rattle.attr_core.specs.inner.AssignView.{given_of}
 use Rattle.desc_core.specs.inner.ChoiceView.{choice_view}

@@ -1,5 +1,5 @@
--- Which templates an invariant can be made of: what the private functions ask for that make one. Nothing here has to be believed:
--- where no condition refuses the description, it holds of each template that an invariant names.
+-- The templates of which an invariant can be made: the precondition of the private functions that make an invariant. Nothing here is
+-- trusted: if no condition refuses the description, it holds for each template that an invariant names.
 use Rattle.std.specs.Prelude.{◌≡◌, ◌≤◌, true, length, IsTrue}
 use Rattle.desc_core.specs.Choices.{Choice, OneOfTen, OwnTable, table_said}
 use Rattle.desc_form.specs.WrittenTemplate.{WrittenTemplate}

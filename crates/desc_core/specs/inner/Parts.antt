@@ -1,5 +1,5 @@
--- What the private functions give on the way to a network: the table of the bytes, and the refusals in groups, by the hosts that
--- were found. Their contracts cite it; the laws tie it to `described`, and nothing here has to be believed.
+-- Intermediate results of the private functions that build a network: the table of the bytes, and the refusals in groups, in terms of the
+-- hosts that were found. The contracts of these functions cite them; lemmas relate them to `described`, so nothing here is trusted.
 use Rattle.std.specs.Prelude.{ℕ, ◌==◌, List, [], ◌∷◌, ◌++◌, length, nat_lt, Option, Some, Err, Result, if◌then◌else◌}
 use Rattle.std.specs.List.{cons_option}
 use Rattle.std.specs.Option.{ok_or, option_or}
@@ -29,61 +29,61 @@ use Rattle.host_net.specs.inner.Services.{with_service}
 use Rattle.host_net.specs.declared.service.Service.{Service}
 use Rattle.text_core.specs.Firsts.{first_of}
 
--- the table of the bytes, or 1 or 2
+-- The table of the bytes, or refusal 1 or 2.
 unfoldable pub table_of : List ℕ → Result Members Refusal
 table_of bytes =
     if nat_lt byte_limit (length bytes) then Err (refused TooLong Document) else ok_or (document bytes) (refused NotToml Document)
 
--- the network, or the first of 6 to 24
+-- The network, or the first of refusals 6 to 24.
 unfoldable pub network_or : Written → Result Network Refusal
 network_or w = refused_or (first_of (host_conditions w ++ use_conditions w)) (network_of w)
 
--- the network, or the first of 15 to 24
+-- The network, or the first of refusals 15 to 24.
 abbrev pub network_by_uses : Written → Result Network Refusal
 network_by_uses w = refused_or (first_of (use_conditions w)) (network_of w)
 
--- 15 and 16
+-- Conditions 15 and 16.
 abbrev pub name_conditions : Written → List (Option Refusal)
 name_conditions w = unknown_template w ∷ undeclared_host w ∷ []
 
--- the hosts that the names of a flow stand for; they may be one
+-- The hosts of the names of a flow; they may be equal.
 abbrev pub ends_of : List Host → WrittenFlow → Option Flow
 ends_of hosts f = do
   from ← host_named hosts f.from
   to ← host_named hosts f.to
   Some (record { from = from; to = to })
 
--- 18, of invariants whose names are known
+-- Condition 18, for invariants with resolved names.
 abbrev pub bad_known : List Host → List Known → Option Refusal
 bad_known hosts ks = first_found (λ k. bad_at hosts k.number k.what) (numbered ks)
 
--- 19, of flows by their hosts
+-- Condition 19, for flows with resolved hosts.
 abbrev pub self_found : List Flow → Option Refusal
 self_found fs = first_at SelfFlow FlowAt (λ f. f.from == f.to) fs
 
--- 20, of flows by their hosts
+-- Condition 20, for flows with resolved hosts.
 abbrev pub twice_found : List Flow → Option Refusal
 twice_found fs = barred_at DuplicateFlow FlowAt same_flow fs
 
--- 22, of flows as they are written
+-- Condition 22, for raw flows.
 abbrev pub many_found : List WrittenFlow → Option Refusal
 many_found ws = first_at ManyServices FlowAt has_many_services ws
 
--- 21 and 22
+-- Conditions 21 and 22.
 abbrev pub services_found : List WrittenFlow → Option Refusal
 services_found ws = option_or (first_found bad_service_of (numbered ws)) (many_found ws)
 
--- 23 and 24
+-- Conditions 23 and 24.
 abbrev pub templates_found : Written → Option Refusal
 templates_found w = option_or (bad_template w) (not_lawful w)
 
--- the flows that are narrowed, of flows by their hosts and as they are written
+-- The restricted flows, from flows with resolved hosts and the raw flows.
 abbrev pub narrowed_among : List Flow → List WrittenFlow → List NarrowedFlow
 narrowed_among [] ws = []
 narrowed_among (e ∷ es) [] = []
 narrowed_among (e ∷ es) (w ∷ ws) = cons_option (narrowed_to e (services_said w)) (narrowed_among es ws)
 
--- the services of a flow are added one by one
+-- The services of a flow, added one by one.
 abbrev pub with_services : List NarrowedFlow → Flow → List Service → List NarrowedFlow
 with_services ns flow [] = ns
 with_services ns flow (s ∷ ss) = with_services (with_service ns flow.from flow.to s) flow ss

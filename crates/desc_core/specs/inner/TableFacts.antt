@@ -1,5 +1,5 @@
--- What is true of the tables that describe a network, and of no other, in plain words: something is written in the table, and its hosts
--- and the uses of their names are as they should be.
+-- A direct characterization of the tables that describe a network: the table has a raw description, and its hosts and the uses of their
+-- names are valid.
 use Rattle.toml.specs.Data.{Members}
 use Rattle.desc_core.specs.inner.UseFacts.{HasUses}
 use Rattle.desc_form.specs.Written.{Written}

@@ -1,5 +1,5 @@
--- What is true of the templates that a description declares where neither 23 nor 24 refuses it, in plain words: each is one, and each
--- denied pair has its partner (the description's format, docs/FORMATS.md).
+-- A direct characterization of the declared templates that neither 23 nor 24 refuses: each is valid, and each denied pair has its partner
+-- (the description's format, docs/FORMATS.md).
 use Rattle.std.specs.Prelude.{◌≡◌, ◌≢◌, ◌⊎◌, ◌≤◌, ℕ, List, length, None, codes, IsTrue}
 use Rattle.std.specs.List.{All, AllPairs, Contains}
 use Rattle.attr_core.specs.Templates.{template_named}
@@ -7,12 +7,12 @@ use Rattle.desc_core.specs.TemplateConditions.{kind_limit}
 use Rattle.desc_form.specs.WrittenTemplate.{WrittenPair, WrittenTemplate}
 use Rattle.text_core.specs.Name.{is_name}
 
--- the word is one of the kinds
+-- The word is one of the kinds.
 abbrev pub IsKind : WrittenTemplate → List ℕ → Type 0
 IsKind t word = Contains t.kinds word
 
--- the name is legal and none of the ten, the strategy is one of the two, the kinds are 1 to 64 different legal names, and the default
--- and the words of every denied pair are kinds
+-- The name is legal and none of the ten, the strategy is one of the two, there are 1 to 64 kinds with distinct legal names, and the default
+-- and the words of every denied pair are kinds.
 pub record IsTemplate (t : WrittenTemplate) : Type 0 where
   pub named : IsTrue (is_name t.name)
   pub own : template_named t.name ≡ None
@@ -24,11 +24,12 @@ pub record IsTemplate (t : WrittenTemplate) : Type 0 where
   pub default : IsKind t t.default
   pub pairs : All (λ p. IsKind t p.sender × IsKind t p.receiver) t.deny
 
--- the template denies the flows from hosts of the one kind to hosts of the other
+-- The template denies the flows from hosts of one kind to hosts of the other.
 abbrev pub Denies : WrittenTemplate → List ℕ → List ℕ → Type 0
 Denies t sender receiver = Contains t.deny (record { sender = sender; receiver = receiver })
 
--- the pair is denied too with the default at the host that is blamed: the sender with access control, else the receiver
+-- The pair is also denied with the default at the offending host: the sender for access control, otherwise the
+-- receiver.
 pub record HasPartner (t : WrittenTemplate) (p : WrittenPair) : Type 0 where
   pub at_sender : t.strategy ≡ codes "access" → Denies t t.default p.receiver
   pub at_receiver : t.strategy ≢ codes "access" → Denies t p.sender t.default

@@ -1,6 +1,5 @@
--- What is true of a written description that none of the conditions 15 to 24 refuses, in plain words: its templates, the hosts of
--- its assigns and of its flows, the attributes, the services of its flows, and the templates that it declares (the description's
--- format, docs/FORMATS.md).
+-- A direct characterization of the raw descriptions that none of conditions 15 to 24 refuses: their templates, the hosts of assigns and of
+-- flows, the attributes, the services of flows, and the declared templates (the description's format, docs/FORMATS.md).
 use Rattle.std.specs.Prelude.{◌≡◌, ◌≢◌, ◌≤◌, List, length, Some, None, is_some, IsTrue}
 use Rattle.std.specs.List.{All, AllPairs}
 use Rattle.desc_core.specs.Choices.{bad_of, chosen}
@@ -14,7 +13,7 @@ use Rattle.host_net.specs.Host.{Host}
 use Rattle.host_net.specs.Services.{service_limit}
 use Rattle.host_net.specs.ServiceText.{service_of}
 
--- each assign of the invariant says an attribute of its template
+-- Each assign of the invariant specifies an attribute of its template.
 abbrev pub SaysAttributes : List WrittenTemplate → List Host → WrittenInvariant → Type 0
 SaysAttributes templates hosts i = (k : Known) → known_of templates hosts i ≡ Some k → bad_of hosts k.template k.assigns ≡ None
 

@@ -1,5 +1,5 @@
--- That nothing of a description is passed over: its hosts, its invariants, its flows and their services stand in the network, one
--- for one.
+-- Completeness: nothing of a description is ignored. Its hosts, invariants, flows and services correspond to those of the network, one to
+-- one.
 use Rattle.std.specs.Prelude.{◌≡◌, ◌==◌, ℕ, Bool, true, false, not, List, length, Some, None, IsTrue}
 use Rattle.std.specs.List.{All, AllZip, filter}
 use Rattle.toml.specs.Data.{Members}
@@ -24,30 +24,30 @@ use Rattle.host_net.specs.Prefix.{prefix_of}
 use Rattle.host_net.specs.Services.{NarrowedFlow}
 use Rattle.host_net.specs.inner.ServiceText.{IsServiceSpelling}
 
--- the host is the written one, and each of its entries is a prefix
+-- The host corresponds to the raw host, and each of its entries is a prefix.
 pub record IsHostOf (h : WrittenHost) (host : Host) : Type 0 where
   pub name : host.name ≡ h.name
   pub prefixes : AllZip (λ text prefix. prefix_of text ≡ Some prefix) h.at host.prefixes
   pub rest : host.rest ≡ h.rest
 
--- the set has one flow for each pair of names, from the host of the first to the host of the second, and no other
+-- The set has one flow for each pair of names, from the host of the first to the host of the second, and no other flow.
 pub record IsSetOf (hosts : List Host) (pairs : List WrittenFlow) (asked : List Flow) : Type 0 where
   pub flows : List Flow
   pub each : AllZip (λ names flow. flow_of_names hosts names ≡ Some flow) pairs flows
   pub same : (f : Flow) → has asked f ≡ has flows f
   pub count : length asked ≡ length pairs
 
--- services are written behind the names of the flow
+-- The flow has services after its names.
 abbrev pub is_narrowed : WrittenFlow → Bool
 is_narrowed f = not (length f.services == 0)
 
--- the flow between the hosts of the names is narrowed to the services that its texts say, one for one
+-- The flow between the hosts of the names is restricted to the services that its strings denote, one to one.
 pub record IsNarrowedOf (hosts : List Host) (f : WrittenFlow) (narrowed : NarrowedFlow) : Type 0 where
   pub flow : flow_of_names hosts f ≡ Some (record { from = narrowed.from; to = narrowed.to })
   pub services : AllZip IsServiceSpelling f.services narrowed.services
 
--- the invariant is of the written template, one of the ten or a declared one, each of its assigns is of a declared host and says an
--- attribute, and each host has the attribute that the last assign of it says, or the default
+-- The invariant has the raw template, one of the ten or a declared one; each of its assigns has a declared host and specifies an attribute;
+-- and each host has the attribute of the last assign for it, or the default.
 pub record IsInvariantOf (templates : List WrittenTemplate) (hosts : List Host) (i : WrittenInvariant) (invariant : AnyInv) : Type 0 where
   pub template : Choice
   pub named : chosen templates i.template ≡ Some template
@@ -56,8 +56,8 @@ pub record IsInvariantOf (templates : List WrittenTemplate) (hosts : List Host) 
   pub good : bad_assign (choice_form template) hosts assigns ≡ None
   pub made : invariant ≡ (choice_form template).make (attributes_in (choice_form template) hosts assigns)
 
--- the network has what is written, in the same order; where the key `flow` is absent, every flow is asked for. The flows with
--- services are narrowed, and no others. The declared templates are lawful, so each denies the pairs that it lists
+-- The network contains everything of the raw description, in the same order. If the key `flow` is absent, every flow is asked for. Exactly
+-- the flows with services are restricted. The declared templates are lawful, so each denies the pairs that it lists.
 pub record IsWhole (w : Written) (d : Network) : Type 0 where
   pub hosts : AllZip IsHostOf w.hosts d.hosts
   pub invariants : AllZip (IsInvariantOf w.templates d.hosts) w.invariants d.invariants
@@ -69,13 +69,13 @@ pub record IsWhole (w : Written) (d : Network) : Type 0 where
   pub services : AllZip (IsNarrowedOf d.hosts) (filter is_narrowed w.flows) d.services
   pub lawful : All (λ t. IsTrue (is_lawful (table_said t))) w.templates
 
--- w is all that is written in the table, and the network has all of w
+-- w is the complete raw description of the table, and the network contains all of w.
 pub record IsDescribedByTable (table : Members) (d : Network) : Type 0 where
   pub w : Written
   pub written : IsWritten table w
   pub whole : IsWhole w d
 
--- the bytes are a document, and its table describes the network
+-- The bytes are a document, and its table describes the network.
 pub record IsDescribed (bytes : List ℕ) (d : Network) : Type 0 where
   pub table : Members
   pub document : document bytes ≡ Some table

@@ -11,7 +11,7 @@ or_found : {B : Type 0} (here later : Option B) → is_some here ≡ true → op
 or_found None later found = cc
 or_found (Some x) later found = refl
 
--- what is found in the element that is looked at is found first
+-- A refusal in the current element is found first.
 found_here : {V A B : Type 0} (f : Numbered A → Option B) (view : V → A) (xs : List V) (i : ℕ) (x : V) (found whole : Option B)
     → i < length xs → x ≡ get_or xs i x → found ≡ f (record { number = i + 1; what = view x }) → is_some found ≡ true
     → first_found f (numbered_from (i + 1) (map view (drop i xs))) ≡ whole → found ≡ whole
