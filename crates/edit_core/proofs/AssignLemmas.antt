@@ -1,4 +1,4 @@
--- The assigns of an invariant that is there, edited.
+-- Edits of the assigns of an existing invariant.
 use Rattle.std.proofs.Common.{◌≡◌, ◌-◌, ℕ, List, Option, Some, Result, Ok, Err, codes, slice_get, sym, ap, ◌∙◌}
 use Rattle.std.specs.List.{slice_set}
 use Rattle.std.specs.Option.{ok_or}
@@ -11,13 +11,13 @@ use Rattle.edit_core.specs.declared.fault.EditWhy.{EditWhy}
 use Rattle.edit_core.specs.declared.fault.EditWhy.TheVariants.{Absent}
 use Rattle.toml.specs.Data.{Data, Members}
 
--- the table with other assigns in the place of those of an invariant
+-- The table with other assigns in place of those of an invariant.
 abbrev pub with_invariant : ℕ → Members → Data → List Data → Members
 with_invariant k document invariant assigns =
     with_list (codes "invariant") (slice_set (listed (codes "invariant") document) (k - 1) (invariant_with assigns invariant)) document
 
 module _ (k : ℕ) (document : Members) (change : List Data → Result (List Data) EditWhy) (invariant : Data) (there : Some invariant ≡ slice_get (listed (codes "invariant") document) (k - 1)) where
-  -- what is done with it
+  -- The effect on it.
   edited_there : assigns_edited k document change ≡ (change (assigns_of invariant) >>= (λ assigns. Ok (with_invariant k document invariant assigns)))
   edited_there =
       ap (λ (o : Option Data). ok_or o Absent >>= (λ found. change (assigns_of found) >>= (λ assigns. Ok (with_invariant k document found assigns)))) (sym there)

@@ -1,4 +1,4 @@
--- A text from the place on where a test passes first.
+-- A string from the first index on that satisfies a test.
 use Rattle.std.proofs.Common.{◌≡◌, ℕ, ◌≤◌, Bool, List, [], Some, None, length, drop, position, nat_lt, sym, ap, arith}
 use Rattle.std.proofs.lemmas.Bool.Decides.{nat_tests}
 use Rattle.std.proofs.lemmas.List.{drop_all}

@@ -1,4 +1,4 @@
--- Laws of the lines of edits: a line is read as a change exactly where it tells it.
+-- Lemmas on the lines of edit files: a line is parsed as a change if and only if it encodes it.
 use Rattle.std.proofs.Common.{◌≡◌, ℕ, ◌≤◌, true, false, List, [], ◌∷◌, Option, Some, None, length, inl, inr, refl, ap, ◌∙◌, subst, arith}
 use Rattle.std.specs.Prelude.{codes, decimal, Ok, bytes_eq, is_some, ◌==◌, ◌++◌, IsTrue}
 use Rattle.std.specs.List.{list_all}
@@ -20,7 +20,7 @@ use Rattle.edit_core.specs.inner.ChangeSteps.{add_of, assign_of, assigned, chang
 use Rattle.edit_core.specs.Edit.{Change, Add, Remove, Set, Unset}
 use Rattle.edit_core.specs.EditsText.{AreTexts, IsAssignText, IsInvariantNumber, TellsChange}
 
--- ---- words
+-- ---- tokens
 
 texts_parts : (ws xs : List (List ℕ)) → texts_of ws ≡ Some xs → AreTexts ws × (ws ≡ xs)
 texts_parts ws xs read = elim (if_parts (list_all is_utf8 ws) (Some ws) None (Some xs) read) [ inl all ↦ (all.0, cc) | inr none ↦ cc ]
@@ -53,7 +53,7 @@ number_parts word k read =
 number_read : (k : ℕ) → IsInvariantNumber k → invariant_said (decimal k) ≡ Some k
 number_read k (some, small) = ap (λ (o : Option ℕ). o >>= from_one) (number-decimal invariant_limit k small (omega arith)) ∙ from_one_read k some
 
--- ---- the text of an assign
+-- ---- the string of an assign
 
 table_parts : (d : Data) (ms : Members) → as_table d ≡ Some ms → d ≡ table ms
 table_parts (string s) ms is = cc
@@ -93,7 +93,7 @@ assign_read text assign told =
     let with : with_host assign ≡ Some assign = rw told.host refl in
     rw (told.utf8, told.read) (ap (λ (o : Option Members). o >>= with_host) value ∙ with)
 
--- ---- what is read is told
+-- ---- a parsed change is encoded
 
 add_told : (line : List ℕ) (rest : List (List ℕ)) (c : Change) → words line ≡ codes "add" ∷ rest → add_of rest ≡ Ok c → TellsChange line c
 add_told line [] c is read = cc
@@ -172,7 +172,7 @@ pub change_told : (line : List ℕ) (c : Change) → change_of line ≡ Ok c →
 unfolding change_of
 change_told line c read = by_words line (words line) c refl read
 
--- ---- what is told is read
+-- ---- an encoded change is parsed
 
 add_read : (ws : List (List ℕ)) → 2 ≤ length ws → AreTexts ws → add_of ws ≡ Ok (Add ws)
 add_read [] some texts = absurd (omega arith)

@@ -1,4 +1,4 @@
--- Values that are copied one by one or left out, and tables whose entries are copied.
+-- Values that are copied or omitted one by one, and tables whose entries are copied.
 use Rattle.std.proofs.Common.{◌≡◌, ℕ, ◌+◌, ◌<◌, ◌≤◌, Bool, true, false, cond, not, ◌||◌, List, [], ◌∷◌, ◌++◌, length, get_or, drop, map, filter, append_assoc, append-nil, arith, String, Global, string_bytes, refl, sym, ap, ◌∙◌}
 use Rattle.std.proofs.lemmas.List.{drop_all, drop_more, length-map}
 use Rattle.std.specs.BTreeMap.{BTreeMap}
@@ -14,7 +14,7 @@ use Rattle.toml.specs.declared.value.Value.{Value}
 abbrev Entry : Type 0
 Entry = String Global × Value
 
--- entries with equal keys and values
+-- Entries with equal keys and values.
 pub entries_cloned : (es fs : List Entry) → AllZip (λ (p q : Entry). (string_bytes q.0 ≡ string_bytes p.0) × (view q.1 ≡ view p.1)) es fs
     → members_view fs ≡ members_view es
 entries_cloned [] [] same = refl
@@ -22,12 +22,12 @@ entries_cloned [] (f ∷ fs) same = absurd same
 entries_cloned (e ∷ es) [] same = absurd same
 entries_cloned (e ∷ es) (f ∷ fs) same = λ i. member (same.0.0 i) (same.0.1 i) (entries_cloned es fs same.1 i)
 
--- a test of values as one of what they are
+-- A test of values as a test of their models.
 pub any_view : (p : Data → Bool) (vs : List Value) → list_any (λ v. p (view v)) vs ≡ list_any p (map view vs)
 any_view p [] = refl
 any_view p (v ∷ vs) = ap (λ b. p (view v) || b) (any_view p vs)
 
--- what is made of values one by one
+-- Values that are built one by one.
 pub made_next : (made : List Data → List Data) (piece old new : List Data) (vs : List Value) (i : ℕ) (x : Value) (whole : List Data)
     → i < length vs → x ≡ get_or vs i x
     → made (view x ∷ map view (drop (i + 1) vs)) ≡ piece ++ made (map view (drop (i + 1) vs))
@@ -45,7 +45,7 @@ pub made_all : (made : List Data → List Data) (old : List Data) (vs : List Val
 made_all made old vs i whole past nothing so_far =
     sym (append-nil old) ∙ ap (λ (ds : List Data). old ++ ds) (sym (ap (λ (ws : List Value). made (map view ws)) (drop_all i vs past) ∙ nothing)) ∙ so_far
 
--- elements that fail a test are at most as many as all, and as many where none passes it
+-- The number of elements that fail a test is at most that of all elements, and equal to it if none satisfies the test.
 fewer_by : (b : Bool) (d : Data) (left ds : List Data) → length left ≤ length ds → length (cond (not b) (d ∷ left) left) ≤ length (d ∷ ds)
 fewer_by true d left ds fewer = omega (arith, fewer)
 fewer_by false d left ds fewer = omega (arith, fewer)
@@ -72,7 +72,7 @@ all_left : (test : Data → Bool) (ds : List Data) → list_any test ds ≡ fals
 all_left test [] none = refl
 all_left test (d ∷ ds) none = all_by (test d) (list_any test ds) d (filter (λ d. not (test d)) ds) ds (all_left test ds) none
 
--- values without those that pass a test
+-- Values without those that satisfy a test.
 pub others_absent : (test : Data → Bool) (old new : List Value) → map view new ≡ filter (λ d. not (test d)) (map view old) → length new ≡ length old
     → others test (map view old) ≡ Err Absent
 others_absent test old new is same =
@@ -84,7 +84,7 @@ others_left test old new is apart = split_bool (list_any test (map view old))
     (λ some. rw some (ap (λ (ds : List Data). Ok ds) (sym is)))
     (λ none. absurd (apart (sym (length-map new view) ∙ ap (λ (ds : List Data). length ds) (is ∙ all_left test (map view old) none) ∙ length-map old view)))
 
--- texts as values
+-- Strings as values.
 pub texts_next : (old new : List Data) (texts : List (String Global)) (i : ℕ) (t : String Global) (whole : List Data) → i < length texts
     → t ≡ get_or texts i t → old ++ map string (map string_bytes (drop i texts)) ≡ whole → new ≡ old ++ string (string_bytes t) ∷ []
     → new ++ map string (map string_bytes (drop (i + 1) texts)) ≡ whole

@@ -1,4 +1,5 @@
--- A line that is not read as an edit is bad, in the format's words, for the reason that is told; and a text has one reading or one first fault.
+-- A line that is not parsed as an edit is bad in terms of the format, for the reported reason. A file has either a parse result or a first
+-- error.
 use Rattle.std.proofs.Common.{◌≡◌, ℕ, true, List, [], ◌∷◌, Option, Some, None, ◌⊎◌, inl, inr, sym, ap, ◌∙◌, arith, subst}
 use Rattle.std.specs.Prelude.{codes, decimal, Result, Ok, Err, bytes_eq}
 use Rattle.std.specs.Option.{option_map, ok_or}
@@ -16,13 +17,13 @@ use Rattle.edit_core.specs.inner.ChangeSteps.{add_of, assigned, change_of, chang
 use Rattle.edit_core.specs.Edit.{Change, Add, Remove, Set, Unset, Edit}
 use Rattle.edit_core.specs.EditsText.{IsForm, TellsChange, add, edits_text, remove, set, unset}
 
--- 1. Why words tell no change.
+-- 1. The reasons why tokens encode no change.
 
 value_not_line : {A : Type 0} (o : Option A) → ok_or o BadValue ≡ Err BadLine → ⊥
 value_not_line None h = cc
 value_not_line (Some x) h = cc
 
--- words of a form are refused for a value alone
+-- Tokens of a valid shape are rejected only for a value.
 form_read : (ws : List (List ℕ)) (text : List ℕ) → IsForm ws → change_of_words ws text ≡ Err BadLine → ⊥
 form_read ws text (add a b rest is) h =
     value_not_line (option_map Add (texts_of (a ∷ b ∷ rest))) (ap (λ xs. change_of_words xs text) (sym is) ∙ h)
@@ -89,7 +90,7 @@ no_form : (line : List ℕ) → change_of line ≡ Err BadLine → IsForm (words
 unfolding change_of
 no_form line h form = form_read (words line) (behind_word (behind_word line)) form h
 
--- 2. A line of edits tells one edit at most, and what tells one has its form.
+-- 2. A line encodes at most one edit. If it encodes one, it has its shape.
 
 tells_one : (line : List ℕ) (x y : Change) → TellsChange line x → TellsChange line y → x ≡ y
 tells_one line x y p q = same_ok (change_of line) x y (told_change line x p) (told_change line y q)
@@ -111,11 +112,11 @@ edit_lines_tell_one n line x y p q =
 pub edit_lines_have_form : TellsFormed edits_text
 edit_lines_have_form n line x told = told_form line x.change told.1
 
--- a text has one reading or one first fault
+-- A file has either a parse result or a first error.
 pub edits_settled : IsSettled (by_lines edits_text)
 edits_settled = list_settled edits_text edit_lines_tell_one edit_lines_have_form
 
--- 3. A line that is refused is bad, whatever stands before it.
+-- 3. A rejected line is bad, regardless of the lines before it.
 
 not_told : (line : List ℕ) (why : ListWhy) → change_of line ≡ Err why → (c : Change) → TellsChange line c → ⊥
 not_told line why refused c told = let read : change_of line ≡ Ok c = told_change line c told in cc

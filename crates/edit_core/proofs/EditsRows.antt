@@ -1,4 +1,4 @@
--- Worked rows: lines of edits that are refused, and what stands behind words.
+-- Test vectors: lines of edit files that are rejected, and the remainder after tokens.
 use Rattle.std.proofs.Common.{◌≡◌, ℕ, List, [], ◌∷◌, refl}
 use Rattle.std.specs.List.{AllByRecursion}
 use Rattle.std.specs.Prelude.{codes, Err}
@@ -12,12 +12,12 @@ use Rattle.edit_core.specs.inner.ChangeSteps.{change_of}
 abbrev IsRefusedFor : ListWhy → List ℕ → Type 0
 IsRefusedFor why line = change_of line ≡ Err why
 
--- the number of words goes before every value
+-- The number of tokens takes precedence over every value.
 rows_of_words : AllByRecursion (IsRefusedFor BadLine) (codes "add a" ∷ codes "remove a b c" ∷ codes " set 99 " ∷ codes "unset 1 a b" ∷ codes "Add a b" ∷ [])
 unfolding change_of
 rows_of_words = (refl, (refl, (refl, (refl, (refl, tt)))))
 
--- invariants count from 1, to 16, and no number has a leading zero; a word ends at a blank alone
+-- Invariants are numbered from 1 to 16, and leading zeros are rejected. A token ends only at a blank.
 rows_of_numbers : AllByRecursion (IsRefusedFor BadValue)
     (codes "unset 0 a" ∷ codes "unset 17 a" ∷ codes "set 01 { host = \"a\" }" ∷ codes "set 1{ host = \"a\" } b" ∷ [])
 unfolding change_of number digits

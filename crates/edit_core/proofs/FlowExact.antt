@@ -1,4 +1,4 @@
--- A flow that can be put behind the others is right: with FlowLaws, an edit adds a flow exactly where the flow is right.
+-- A flow that can be appended is valid. With FlowLaws: an edit adds a flow if and only if the flow is valid.
 use Rattle.std.proofs.Common.{◌≡◌, ◌≢◌, ◌⊎◌, inl, inr, ℕ, ℤ, pos, zero, suc, ◌≤◌, true, false, not, List, [], ◌∷◌, ◌++◌, length, map, filter_map, codes, Option, Some, None, Ok, option_and_then, unwrap_or, is_some, is_eq, nat_cmp, refl, sym, ap, subst, ◌∙◌, arith}
 use Rattle.std.proofs.lemmas.Bool.{and_parts, both_ways, cases_Bool, or_cases}
 use Rattle.std.proofs.lemmas.Bool.Decides.{Decides-int_eq}
@@ -42,7 +42,7 @@ use Rattle.table_core.specs.Listing.{each}
 use Rattle.table_core.specs.Tables.{elements_of, has_key, integer_at, list_at, text_at}
 use Rattle.text_core.specs.Steps.{◌>>=◌}
 
--- ---- what is written in the table with other flows
+-- ---- the raw description of the table with other flows
 
 written_again : (ms : Members) (ds : List Data) → written (with_list (codes "flow") ds ms) ≡ with_flows (written ms) (filter_map flow_written ds)
 unfolding written listed list_at has_key text_at integer_at
@@ -79,7 +79,7 @@ last_zipped [] d (w ∷ ws) (is, zipped) = (w, is)
 last_zipped (e ∷ ds) d [] zipped = absurd zipped
 last_zipped (e ∷ ds) d (w ∷ ws) (is, zipped) = last_zipped ds d ws zipped
 
--- a list of texts that says a flow says it word by word
+-- A list of strings that denotes a flow is its list of tokens.
 words_are : (words : List (List ℕ)) (w : WrittenFlow) → flow_written (text_list words) ≡ Some w → words ≡ w.from ∷ w.to ∷ w.services
 unfolding flow_written
 words_are [] w is =
@@ -92,7 +92,7 @@ words_are (a ∷ b ∷ texts) w is =
     let same : v ≡ w = cc in
     ap (λ (u : WrittenFlow). u.from ∷ u.to ∷ u.services) same
 
--- no flow before it has its names
+-- No flow before it has its names.
 none_before : (w : WrittenFlow) (ws : List WrittenFlow) → AllPairs AreTwo (ws ++ w ∷ []) → list_any (is_named w.from w.to) ws ≡ true → ⊥
 none_before w [] two any = cc
 none_before w (v ∷ ws) two any =
@@ -123,7 +123,7 @@ version_by table w texts is whole = elim (cases_Bool (says_second (version_said 
   | inr other ↦ inl (whole (λ two. both_ways _ other (second_where table w is two)))
 ]
 
--- the flow of the last names
+-- The flow of the last names.
 module _ (table : Members) (flows : List Data) (w : Written) (v : WrittenFlow) (before : IsListing table flows w) (right : AreRightFlows w (w.flows ++ v ∷ [])) where
   ends_where : (a b : ℕ) → host_named (network_hosts w) v.from ≡ Some a → host_named (network_hosts w) v.to ≡ Some b → AreEnds (network_hosts w) v.from v.to (record { from = a; to = b })
   ends_where a b is_from is_to = record {

@@ -1,4 +1,4 @@
--- A table whose flows are edited describes the network that it described, with one flow more or less.
+-- A table whose flows are edited describes the same network, with one more or one fewer flow.
 use Rattle.std.proofs.Common.{◌≡◌, ◌≢◌, ◌⊎◌, inl, inr, ℕ, ℤ, pos, ◌≤◌, Bool, true, not, ◌&&◌, List, [], ◌∷◌, ◌++◌, length, codes, filter, Option, Some, Ok, Err, is_some, refl, sym, ap, subst, ◌∙◌}
 use Rattle.std.proofs.lemmas.Bool.{or_cases}
 use Rattle.std.proofs.lemmas.Bool.Decides.{Decides-int_eq}
@@ -50,7 +50,7 @@ use Rattle.text_core.specs.Name.{is_name}
 
 -- ---- the network of a table with other flows
 
--- the network, asking for these flows and narrowing these
+-- The network with these asked flows and these restricted flows.
 abbrev asking_with : Network → List Flow → List NarrowedFlow → Network
 asking_with d flows services = record d { asked = record { size = d.asked.size; flows = flows }; services = services }
 
@@ -81,9 +81,9 @@ services_listed_of w = refl
 pub has_asked : (w : Written) (f : Flow) → w.given ≡ true → has (network_of w).asked.flows f ≡ has (flows_among (network_hosts w) w.flows) f
 has_asked w f given = ap (λ (fs : List Flow). has fs f) (asked_listed_of w given) ∙ has-set_of (flows_among (network_hosts w) w.flows) f
 
--- ---- one flow more
+-- ---- one more flow
 
--- the name of a host is a name
+-- The name of a host is valid.
 name_by : (name : List ℕ) (h : WrittenHost) (rest : Bool) → IsTrue (is_name h.name) → (bytes_eq name h.name ≡ true) ⊎ (rest ≡ true)
     → (rest ≡ true → IsTrue (is_name name)) → IsTrue (is_name name)
 name_by name h rest legal (inl here) later = subst (λ (n : List ℕ). IsTrue (is_name n)) (sym ((bytes_eq-Decides name h.name).0 here)) legal
@@ -103,7 +103,7 @@ is_there o x is = ap is_some is
 declared : (w : Written) (name : List ℕ) (k : ℕ) → host_named (network_hosts w) name ≡ Some k → IsTrue (is_declared w name)
 declared w name k is = sym (is_host w name) ∙ is_there (host_named (network_hosts w) name) k is
 
--- a table that says version 2 is of version 2
+-- A table with version number 2 is of version 2.
 second_by : (n : ℤ) (o : Option ℤ) → o ≡ Some n → IsTrue (says_second o) → n ≡ pos 2
 second_by n o is second = (Decides-int_eq n (pos 2)).0 (sym (ap says_second is) ∙ second)
 
@@ -116,7 +116,7 @@ whole_by : (table : Members) (w : Written) (texts : List (List ℕ)) → IsWritt
 whole_by table w texts is (inl none) other = none
 whole_by table w texts is (inr second) other = absurd (other (second_said table w is second))
 
--- a flow that is right, in a written description
+-- A valid new flow, in a raw description.
 record IsNewFlow (table : Members) (w : Written) (from to : List ℕ) (texts : List (List ℕ)) (f : Flow) (ss : List Service) : Type 0 where
   ends : AreEnds (network_hosts w) from to f
   fresh : IsFalse (has (flows_among (network_hosts w) w.flows) f)
@@ -204,7 +204,7 @@ added_by table flows words f ss listing right =
     ap (λ (ws : List (List ℕ)). described_by_table (with_list (codes "flow") (flows ++ text_list ws ∷ []) table)) right.said
     ∙ added_to table flows (written table) right.from right.to right.texts f ss listing (is_new_flow table flows words f ss listing right)
 
--- a flow that is right, put behind the others
+-- A valid flow, appended to the others.
 pub added : (table : Members) (flows : List Data) (d : Network) (words : List (List ℕ)) (f : Flow) (ss : List Service)
     → list_at (codes "flow") table ≡ Some flows → described_by_table table ≡ Ok d → IsRightFlow table d words f ss
     → described_by_table (with_list (codes "flow") (flows ++ text_list words ∷ []) table) ≡ Ok (asking_more d f ss)
@@ -221,9 +221,9 @@ after_added table flows d words f ss there said right =
     ap (λ (o : Option (List Data)). ok_or o NoPolicy >>= (λ ds. Ok (ds ++ text_list words ∷ [])) >>= (λ ds. Ok (with_list (codes "flow") ds table)) >>= if_described) there
     ∙ ap (said_of (with_list (codes "flow") (flows ++ text_list words ∷ []) table)) (added table flows d words f ss there said right)
 
--- ---- which flow two names say
+-- ---- the flow of two names
 
--- the hosts of a flow that is asked for are two
+-- An asked flow has two different hosts.
 asked_apart : (table : Members) (d : Network) (f : Flow) → described_by_table table ≡ Ok d → IsTrue (has d.asked.flows f) → f.from ≢ f.to
 asked_apart table d f said asked = ((IsNetwork-table table d said).asked.flows f asked).2
 
@@ -237,7 +237,7 @@ asked_ends table d from to f said asked =
       apart = asked_apart table d f said asked.asked;
     }
 
--- a flow that is asked for stands in the table
+-- An asked flow is listed in the table.
 pub asked_listed : (table : Members) (flows : List Data) (d : Network) (from to : List ℕ) (f : Flow)
     → list_at (codes "flow") table ≡ Some flows → described_by_table table ≡ Ok d → IsAskedFlow d from to f → IsTrue (list_any (is_between from to) flows)
 asked_listed table flows d from to f there said asked =
@@ -247,7 +247,7 @@ asked_listed table flows d from to f there said asked =
     sym (has_asked w f is.given) ∙ ap (λ (n : Network). has n.asked.flows f) (accepted table d said).network ∙ asked.asked in
     any_said from to flows w.flows is.zipped ∙ named_where (network_hosts w) from to f w.flows (asked_ends table d from to f said asked) listed
 
--- ---- one flow less
+-- ---- one fewer flow
 
 right_less : (w : Written) (from to : List ℕ) → AreRightFlows w w.flows → AreRightFlows w (other_flows from to w.flows)
 right_less w from to own =
@@ -291,7 +291,7 @@ few_hosts table d said =
     let hosts : network_hosts (written table) ≡ d.hosts = sym (hosts_of (written table)) ∙ ap (λ (n : Network). n.hosts) (accepted table d said).network in
     subst (λ n. n ≤ 256) (fits.sized ∙ ap (λ (hs : List Host). length hs) (sym hosts)) fits.asked.small
 
--- a flow that is asked for, taken out
+-- An asked flow, removed.
 pub removed : (table : Members) (flows : List Data) (d : Network) (from to : List ℕ) (f : Flow)
     → list_at (codes "flow") table ≡ Some flows → described_by_table table ≡ Ok d → IsAskedFlow d from to f
     → described_by_table (with_list (codes "flow") (filter (λ x. not (is_between from to x)) flows) table) ≡ Ok (asking_less d f)
@@ -317,7 +317,7 @@ after_removed table flows d from to f there said asked =
 
 -- ---- a flow without services
 
--- it leaves the services as they are
+-- It leaves the services unchanged.
 pub unnarrowed : (table : Members) (d : Network) (f : Flow) → described_by_table table ≡ Ok d → services_of d.services f.from f.to ≡ []
     → without_services d.services f ≡ d.services
 unnarrowed table d f said none =

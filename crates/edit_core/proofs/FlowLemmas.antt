@@ -1,4 +1,4 @@
--- Written flows between two hosts: which elements of a table they are, and the flows and the services that are left without them.
+-- Raw flows between two hosts: their elements in a table, and the flows and services that remain without them.
 use Rattle.std.proofs.Common.{◌≡◌, ◌≢◌, ◌==◌, inl, inr, ℕ, Bool, true, false, cond, not, ◌&&◌, ◌||◌, List, [], ◌∷◌, ◌++◌, append-nil, map, filter, Option, Some, None, option_map, option_and_then, refl, sym, ap, subst, ◌∙◌, arith}
 use Rattle.std.proofs.lemmas.Bool.{and_from, and_parts, both_ways, cases_Bool, or_cases, or_parts}
 use Rattle.std.proofs.lemmas.Bool.Decides.{nat_tests}
@@ -35,11 +35,11 @@ use Rattle.text_core.specs.Steps.{◌>>=◌}
 
 -- ---- the elements of a table
 
--- the flow has the names of these hosts
+-- The flow has the names of these hosts.
 abbrev pub is_named : (from to : List ℕ) → WrittenFlow → Bool
 is_named from to w = bytes_eq from w.from && bytes_eq to w.to
 
--- whether an element begins with two names, by what it says
+-- Whether an element begins with two names, in terms of the flow that it denotes.
 names_by : (from to : List ℕ) (x y : Option (List ℕ)) (rest : Option (List (List ℕ))) (w : WrittenFlow)
     → (option_and_then (λ a. option_map (λ xs. a ∷ xs) (option_and_then (λ b. option_map (λ xs. b ∷ xs) rest) y)) x >>= flow_of_texts) ≡ Some w
     → (option_map_or (bytes_eq from) x false && option_map_or (bytes_eq to) y false) ≡ is_named from to w
@@ -75,7 +75,7 @@ any_said from to [] (w ∷ ws) zipped = absurd zipped
 any_said from to (d ∷ ds) [] zipped = absurd zipped
 any_said from to (d ∷ ds) (w ∷ ws) (is, zipped) = λ i. between_said from to d w is i || any_said from to ds ws zipped i
 
--- the elements and the flows that are left
+-- The elements and the flows that remain.
 abbrev pub other_flows : (from to : List ℕ) → List WrittenFlow → List WrittenFlow
 other_flows from to ws = filter (λ w. not (is_named from to w)) ws
 
@@ -105,7 +105,7 @@ zipped_more [] (v ∷ ws) d w zipped is = absurd zipped
 zipped_more (e ∷ ds) [] d w zipped is = absurd zipped
 zipped_more (e ∷ ds) (v ∷ ws) d w (first, zipped) is = (first, zipped_more ds ws d w zipped is)
 
--- an array of texts says a flow
+-- An array of strings denotes a flow.
 texts_said : (ws : List (List ℕ)) → each as_str (map string ws) ≡ Some ws
 texts_said [] = refl
 texts_said (w ∷ ws) = ap (option_map (λ (xs : List (List ℕ)). w ∷ xs)) (texts_said ws)
@@ -140,11 +140,11 @@ ends_by None y h is = cc
 ends_by (Some a) None h is = cc
 ends_by (Some a) (Some b) h is = unless_by (a == b) a b h is
 
--- the hosts between which a flow lies have its names
+-- The hosts of a flow have its names.
 ends_are : (hosts : List Host) (w : WrittenFlow) (h : Flow) → flow_of_names hosts w ≡ Some h → (host_named hosts w.from ≡ Some h.from) × (host_named hosts w.to ≡ Some h.to)
 ends_are hosts w h is = ends_by (host_named hosts w.from) (host_named hosts w.to) h is
 
--- two names, and the flow between their hosts
+-- Two names, and the flow between their hosts.
 pub record AreEnds (hosts : List Host) (from to : List ℕ) (f : Flow) : Type 0 where
   pub is_from : host_named hosts from ≡ Some f.from
   pub is_to : host_named hosts to ≡ Some f.to
@@ -170,7 +170,7 @@ other_flow hosts from to f h w ends is_not leads = elim (cases_Bool (same_flow f
       absurd (both_ways _ is_not (and_from (bytes_eq from w.from) (bytes_eq to w.to) ((bytes_eq-Decides from w.from).1 first) ((bytes_eq-Decides to w.to).1 second)))
 ]
 
--- ---- the flows that are listed
+-- ---- the listed flows
 
 abbrev pub flows_among : List Host → List WrittenFlow → List Flow
 flows_among hosts ws = filter_map (flow_of_names hosts) ws
@@ -178,7 +178,7 @@ flows_among hosts ws = filter_map (flow_of_names hosts) ws
 abbrev pub narrowed_among : List Host → List WrittenFlow → List NarrowedFlow
 narrowed_among hosts ws = filter_map (narrowed_of hosts) ws
 
--- one of them has these names, where their flow is listed
+-- One of them has these names if their flow is listed.
 named_by : (hosts : List Host) (from to : List ℕ) (f : Flow) (w : WrittenFlow) (o : Option Flow) (b rest : Bool) (fs : List Flow) → AreEnds hosts from to f
     → flow_of_names hosts w ≡ o → is_named from to w ≡ b → IsTrue (has (cons_option o fs) f) → (IsTrue (has fs f) → rest ≡ true) → (b || rest) ≡ true
 named_by hosts from to f w o true rest fs ends leads is there later = refl
@@ -195,7 +195,7 @@ named_where hosts from to f (w ∷ ws) ends there =
     named_by hosts from to f w (flow_of_names hosts w) (is_named from to w) (list_any (is_named from to) ws) (flows_among hosts ws) ends refl refl there
     (named_where hosts from to f ws ends)
 
--- ---- one flow more
+-- ---- one more flow
 
 pub asked_more : (hosts : List Host) (ws : List WrittenFlow) (w : WrittenFlow) (f : Flow) → flow_of_names hosts w ≡ Some f
     → set_of (flows_among hosts (ws ++ w ∷ [])) ≡ with_flow (set_of (flows_among hosts ws)) f
@@ -209,7 +209,7 @@ behind_fails : (o : Option Flow) (fs : List Flow) (f : Flow) → IsFalse (has (c
 behind_fails None fs f none = none
 behind_fails (Some h) fs f none = (or_parts (same_flow h f) (has fs f) none).1
 
--- no flow has names whose flow is not listed
+-- No listed flow has names whose flow is not listed.
 none_named : (hosts : List Host) (from to : List ℕ) (f : Flow) (ws : List WrittenFlow) → AreEnds hosts from to f → IsFalse (has (flows_among hosts ws) f)
     → AllByRecursion (λ (w : WrittenFlow). w.from ≡ from → w.to ≡ to → ⊥) ws
 none_named hosts from to f [] ends none = tt
@@ -226,7 +226,7 @@ pub all_apart : (hosts : List Host) (from to : List ℕ) (f : Flow) (ws : List W
     → All (λ (w : WrittenFlow). w.from ≡ from → w.to ≡ to → ⊥) ws
 all_apart hosts from to f ws ends none = All-from_recursion (λ (w : WrittenFlow). w.from ≡ from → w.to ≡ to → ⊥) ws (none_named hosts from to f ws ends none)
 
--- its services come behind the others
+-- Its services are appended to the others.
 new_by : (o : Option Flow) (ss : List Service) (ns : List NarrowedFlow) (fs : List Flow) (f : Flow) → IsFalse (has (cons_option o fs) f) → is_new ns f ≡ true
     → is_new (cons_option (option_and_then (λ flow. narrowed_to flow ss) o) ns) f ≡ true
 new_by None ss ns fs f none new = new
@@ -255,7 +255,7 @@ services_more hosts ws w f leads none =
     ∙ ap (λ (o : Option Flow). narrowed_among hosts ws ++ cons_option (option_and_then (λ flow. narrowed_to flow (services_said w)) o) []) leads
     ∙ sym (services_behind (narrowed_among hosts ws) f w (new_where hosts ws f none))
 
--- texts that are read say services
+-- Strings that are parsed denote services.
 said_by : (text : List ℕ) (o : Option Service) (texts : List (List ℕ)) (rest : Option (List Service)) (ss : List Service)
     → ((ts : List Service) → rest ≡ Some ts → filter_map service_of texts ≡ ts)
     → option_and_then (λ x. option_map (λ xs. x ∷ xs) rest) o ≡ Some ss → cons_option o (filter_map service_of texts) ≡ ss
@@ -269,7 +269,7 @@ pub services_read : (texts : List (List ℕ)) (ss : List Service) → each servi
 services_read [] ss is = cc
 services_read (text ∷ texts) ss is = said_by text (service_of text) texts (each service_of texts) ss (services_read texts) is
 
--- ---- one flow less
+-- ---- one fewer flow
 
 kept_by : {A : Type 0} (F : WrittenFlow → Option A) (b : Bool) (w : WrittenFlow) (ws : List WrittenFlow)
     → filter_map F (cond (not b) (w ∷ ws) ws) ≡ (if b then filter_map F ws else cons_option (F w) (filter_map F ws))
@@ -343,7 +343,7 @@ services_less hosts from to f (w ∷ ws) ends =
     (λ is_not h leads. other_flow hosts from to f h w ends is_not leads)
     (services_less hosts from to f ws ends)
 
--- a flow that is not narrowed is none of the narrowed ones
+-- An unrestricted flow is not among the restricted ones.
 kept_whole : (b : Bool) (n : NarrowedFlow) (s : Service) (ss : List Service) (rest : List NarrowedFlow) (behind : List Service) (left : List NarrowedFlow)
     → (if b then s ∷ ss else behind) ≡ [] → (behind ≡ [] → left ≡ rest) → cond (not b) (n ∷ left) left ≡ n ∷ rest
 kept_whole true n s ss rest behind left none later = cc

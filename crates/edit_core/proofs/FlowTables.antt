@@ -1,4 +1,4 @@
--- A table with other flows: what is written in it, and the network that it describes, where the flows are right.
+-- A table with other flows: its raw description, and the network that it describes if the flows are valid.
 use Rattle.std.proofs.Common.{◌≡◌, ◌≢◌, ℕ, pos, ◌≤◌, true, false, List, [], ◌∷◌, length, codes, Option, Some, None, Ok, option_and_then, unwrap_or, nat_cmp, is_eq, refl, sym, ap, subst, ◌∙◌}
 use Rattle.std.specs.Cmp.Lexicographic.{slice_cmp}
 use Rattle.std.specs.List.{All, AllPairs, AllZip, list_any}
@@ -31,9 +31,9 @@ use Rattle.net_core.specs.Network.{Network}
 use Rattle.table_core.specs.Tables.{elements, elements_of, has_only, list_at}
 use Rattle.text_core.specs.Name.{is_name}
 
--- ---- what is written
+-- ---- the raw description
 
--- the same with other flows; the key `flow` is there
+-- The same with other flows; the key `flow` is present.
 abbrev pub with_flows : Written → List WrittenFlow → Written
 with_flows w flows = record {
   version = w.version;
@@ -77,9 +77,9 @@ written_flows ms w ds fs is zipped whole =
       templates = at_other (codes "template") d ms (λ o. MatchOption o (w.templates ≡ []) (λ e. IsArray (IsTable IsTemplate) e w.templates)) refl is.templates;
     }
 
--- ---- what is right
+-- ---- valid flows
 
--- flows that may be listed in a description
+-- Flows that a description may list.
 pub record AreRightFlows (w : Written) (fs : List WrittenFlow) : Type 0 where
   pub whole : w.version ≢ pos 2 → All (λ (f : WrittenFlow). f.services ≡ []) fs
   pub named : All (λ (f : WrittenFlow). IsTrue (is_name f.from) × IsTrue (is_name f.to)) fs
@@ -89,7 +89,7 @@ pub record AreRightFlows (w : Written) (fs : List WrittenFlow) : Type 0 where
   pub services : All (λ (f : WrittenFlow). All (λ text. IsTrue (is_some (service_of text))) f.services) fs
   pub few : All (λ (f : WrittenFlow). length f.services ≤ service_limit) fs
 
--- what is written in a table that describes a network, and lists these flows
+-- The raw description of a table that describes a network and lists these flows.
 pub record IsListing (table : Members) (flows : List Data) (w : Written) : Type 0 where
   pub is_written : IsWritten table w
   pub hosts : HasHosts w
@@ -101,7 +101,7 @@ given_where : (o : Option Data) (ds : List Data) → option_and_then elements_of
 given_where None ds is = cc
 given_where (Some d) ds is = refl
 
--- the flows that stand in the table
+-- The flows of the table.
 zipped_where : (ms : Members) (w : Written) (ds : List Data) → list_at (codes "flow") ms ≡ Some ds → IsWritten ms w → AllZip IsFlow ds w.flows
 unfolding list_at
 zipped_where ms w ds there is =
@@ -125,7 +125,7 @@ listing table flows d there said =
       given = list_given table (written table) flows there is;
     }
 
--- its flows are right
+-- Its flows are valid.
 pub own_flows : (table : Members) (flows : List Data) (w : Written) → IsListing table flows w → AreRightFlows w w.flows
 own_flows table flows w listing = record {
   whole = listing.is_written.whole;
@@ -172,7 +172,7 @@ uses_with w fs uses right = record {
   lawful = uses.lawful;
 }
 
--- the table with other flows describes the network with these, where they are right
+-- The table with other flows describes the network with these flows, if they are valid.
 pub described_with : (table : Members) (flows : List Data) (w : Written) (ds : List Data) (fs : List WrittenFlow) → IsListing table flows w
     → AllZip IsFlow ds fs → AreRightFlows w fs → described_by_table (with_list (codes "flow") ds table) ≡ Ok (network_of (with_flows w fs))
 described_with table flows w ds fs listing zipped right =

@@ -1,4 +1,4 @@
--- An edit of one flow that is made where the table and the network stand.
+-- An in-place edit of one flow of the table and the network.
 use Rattle.std.proofs.Common.{◌≡◌, [], Ok, sym, ap, ◌∙◌}
 use Rattle.desc_core.specs.Description.{described_by_table}
 use Rattle.edit_core.proofs.FlowLaws.{added, after_added, after_removed, removed, unnarrowed}
@@ -15,12 +15,12 @@ use Rattle.net_core.specs.Network.{Network}
 use Rattle.net_core.specs.Policies.{IsPolicyOf, Policy}
 use Rattle.toml.specs.Data.{Members}
 
--- a flow without services leaves the services as they are
+-- A flow without services leaves the services unchanged.
 less_whole : (old : Members) (d : Network) (f : Flow) → described_by_table old ≡ Ok d → services_of d.services f.from f.to ≡ []
     → asking_less d f ≡ not_asking_for d f
 less_whole old d f said whole = λ i. record (not_asking_for d f) { services = unnarrowed old d f said whole i }
 
--- what the table describes
+-- The network that the table describes.
 pub described_after : (change : Change) (old new : Members) (d e : Network) (f : Flow) → described_by_table old ≡ Ok d → IsOfFlow old d change f
     → IsTableAfter change old new → e ≡ network_after change f d → described_by_table new ≡ Ok e
 described_after (Add words) old new d e f said right p after =
@@ -31,7 +31,7 @@ described_after (Remove from to) old new d e f said right p after =
 described_after (Set k assign) old new d e f said right p after = absurd right
 described_after (Unset k host) old new d e f said right p after = absurd right
 
--- that it is the table after the edit
+-- The table is the table after the edit.
 table_after : (change : Change) (old new : Members) (d : Network) (f : Flow) → described_by_table old ≡ Ok d → IsOfFlow old d change f
     → IsTableAfter change old new → after_edit change old ≡ Ok new
 table_after (Add words) old new d f said right p = after_added old p.0 d words f [] p.1 said right ∙ ap (λ (ms : Members). Ok ms) (sym p.2)

@@ -1,4 +1,4 @@
--- Edits one after another.
+-- Edits in sequence.
 use Rattle.std.specs.Prelude.{if◌then◌else◌, is_err, is_ok}
 use Rattle.std.specs.Result.{result_map_both}
 use Rattle.std.proofs.Common.{◌≡◌, ℕ, ◌+◌, ◌<◌, ◌≤◌, Bool, false, List, [], ◌∷◌, ◌++◌, length, get_or, drop, take, map, append_assoc, append-nil, Result, Ok, Err, sym, ap, subst, ◌∙◌}
@@ -16,11 +16,11 @@ use Rattle.edit_core.specs.inner.EditView.{edit_view}
 use Rattle.edit_core.specs.declared.edit.Edit.{Edit}
 use Rattle.toml.specs.Data.{Members}
 
--- what comes of an edit that stands on a line
+-- The result of an edit with its line.
 abbrev on_line : ℕ → Result Members EditWhy → Result Members (ℕ × EditWhy)
 on_line line r = result_map_both (λ next. next) (λ why. (line, why)) r
 
--- the edits that are left, one by one
+-- The remaining edits, one by one.
 left : (edits : List Edit) (i : ℕ) (e : Edit) → i < length edits → e ≡ get_or edits i e
     → map edit_view (drop i edits) ≡ edit_view e ∷ map edit_view (drop (i + 1) edits)
 left edits i e within is = ap (map edit_view) (drop_more edits i e within ∙ ap (λ (x : Edit). x ∷ drop (i + 1) edits) (sym is))
@@ -63,13 +63,13 @@ cause_now edits i e old whole (refusal.Refused line reason) within is cause so_f
     sym so_far ∙ ap (λ (es : List meant.Edit). after_edits es old) (left edits i e within is)
     ∙ refused_here (edit_view e).line (after_edit (edit_view e).change old) (after_edits (map edit_view (drop (i + 1) edits))) (line, reason) cause
 
--- a summary that was pushed
+-- A summary that was pushed.
 pub pushed_one : {T E : Type 0} (r : Result T E) (failed : Bool) (old new : List Summary) (s : Summary) → failed ≡ is_err r → failed ≡ false
     → new ≡ (if is_ok r then old ++ s ∷ [] else old) → new ≡ old ++ s ∷ []
 pushed_one (Ok x) failed old new s is none grown = grown
 pushed_one (Err e) failed old new s is none grown = cc
 
--- ---- where edits stop
+-- ---- the edit at which a run stops
 
 then_edits : (line : ℕ) (r : Result Members EditWhy) (xs ys : List meant.Edit) (u : Members) → ((n : Members) → after_edits xs n ≡ Ok u → after_edits (xs ++ ys) n ≡ after_edits ys u)
     → (on_line line r >>= after_edits xs) ≡ Ok u → (on_line line r >>= after_edits (xs ++ ys)) ≡ after_edits ys u
@@ -116,7 +116,7 @@ stops_here edits i e first old new why within is led kept cause = subst (λ (t :
   refused = refused_first edits i e old why within is cause;
 })
 
--- memory runs out after the edits up to some place
+-- Memory runs out after the edits up to some index.
 pub stops_for_memory : (edits : List Edit) (i : ℕ) (first new : Members) → after_edits (map edit_view (take i edits)) first ≡ Ok new
     → StopsAt (map edit_view edits) first new refusal.Memory
 stops_for_memory edits i first new led = record {

@@ -1,4 +1,4 @@
--- What a session answers, case by case.
+-- The results of a session, case by case.
 use Rattle.std.proofs.Common.{◌≡◌, ℕ, List, Some, Result, Ok, Err, refl, sym, ap, subst, ◌∙◌}
 use Rattle.std.specs.BTreeMap.{BTreeMap}
 use Rattle.std.specs.Prelude.{IfErr, IfOk, String}
@@ -58,7 +58,7 @@ started bytes table (Err desc.Memory) read is described none = tt
 
 -- ---- an edit
 
--- an edit that goes on, and what is said of a table by its description
+-- A successful edit, and the definition of the result of a table by its description.
 abbrev goes_on : Result Members EditWhy → Result Members EditWhy
 goes_on r = r >>= if_described
 
@@ -81,7 +81,7 @@ pub applied : (change : Change) (old new : Members) (d : Network) (policy : Poli
 unfolding after_edit
 applied change old new d policy summary made kept tells = (ap goes_on made ∙ ap (said_of new) kept.described, (d, policy, kept.described, kept.is_policy, tells))
 
--- ---- what is kept, of the entries
+-- ---- the invariants, in terms of the entries
 
 pub kept_now : (s : Entries) (table : Table) (d : Network) (policy : Policy) → entries_of table ≡ s → IsKept (table_view table) d policy
     → IsKept (table_of s) d policy
@@ -90,7 +90,7 @@ kept_now s table d policy is kept = record {
   is_policy = kept.is_policy;
 }
 
--- ---- an edit, of the entries
+-- ---- an edit, in terms of the entries
 
 pub seen : (s : Entries) (table : Table) → entries_of table ≡ s → table_view table ≡ table_of s
 seen s table is = sym (ap table_of (sym is) ∙ table_of-entries_of table)
@@ -116,7 +116,7 @@ applied_now change s next table made inside d policy summary is given kept_as op
     applied change (table_of s) (table_of (entries_of inside)) d policy summary
     (ap (edited change) (sym (seen s table is)) ∙ given ∙ ap (λ (ms : Members). Ok ms) new) there tells
 
--- an edit that was made where the table stands
+-- An in-place edit of the table.
 pub done_now : (change said : Change) (s : Entries) (old new : Table) (summary : Summary) → entries_of old ≡ s → said ≡ change
     → IsDone said (table_view old) (table_view new) summary → IsApplied change (table_of s) (table_of (entries_of new)) (Ok summary)
 done_now change said s old new summary is same done =

@@ -1,4 +1,4 @@
--- A description has one summary, and edits one after another have one list of them.
+-- A description has one summary, and a sequence of edits has one list of summaries.
 use Rattle.std.proofs.Common.{◌≡◌, ℕ, Bool, true, false, List, [], ◌∷◌, filter, length, refl, sym, ap, subst, ◌∙◌}
 use Rattle.std.specs.Prelude.{◌↔◌, IsFalse}
 use Rattle.std.specs.List.{AllZip}
@@ -14,7 +14,7 @@ use Rattle.net_core.proofs.PolicyLaws.{policy_is_one}
 use Rattle.net_core.specs.FailingFlows.{AreFailing}
 use Rattle.toml.specs.Data.{Members}
 
--- ---- how many invariants fail
+-- ---- the number of failing invariants
 
 mark_is_one : (P : Type 0) (a b : Bool) → (IsFalse a ↔ P) → (IsFalse b ↔ P) → a ≡ b
 mark_is_one P true true p q = refl

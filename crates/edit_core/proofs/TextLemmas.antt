@@ -1,4 +1,4 @@
--- Whether bytes are a text, and what a table holds at a key.
+-- Whether bytes are a string, and the value of a table at a key.
 use Rattle.std.proofs.Common.{◌≡◌, ℕ, true, false, List, ◌++◌, codes, Option, Some, None, String, Global, nat_cmp, inl, inr, refl, sym, ap, ◌∙◌}
 use Rattle.std.proofs.lemmas.Bool.{cases_Bool}
 use Rattle.std.proofs.lemmas.Str.{is_utf8-from_IsUtf8, IsUtf8-from_is_utf8}
@@ -34,7 +34,7 @@ pub held : (r : Option Value) (k : List ℕ) (es : List (String Global × Value)
     → option_map view r ≡ get_member k (members_view es)
 held r k es found = ap (option_map view) found ∙ view-lookup k es
 
--- the table of an assign, step by step
+-- The table of an assign, step by step.
 pub assign_said : (w text : List ℕ) (whole assign : Members) → IsUtf8 w → text ≡ w → parse_document (codes "v = " ++ text) ≡ Some whole
     → value_in whole ≡ Some assign → is_some (text_at (codes "host") assign) ≡ true → assign_of w ≡ Some assign
 unfolding assign_of

@@ -1,4 +1,4 @@
--- A table whose value at a key is changed where it stands.
+-- A table whose value at a key is changed in place.
 use Rattle.std.proofs.Common.{◌≡◌, ℕ, Bool, true, false, cond, MutBor, Vec, List, [], ◌∷◌, map, filter, Option, Some, None, option_map, String, Global, string_bytes, codes, Ordering, Less, Equal, Greater, nat_cmp, refl, sym, ap, ◌∙◌}
 use Rattle.std.proofs.lemmas.Cmp.{nat_list_cmp_total}
 use Rattle.std.proofs.lemmas.Map.Steps.{set_value_same}
@@ -24,11 +24,11 @@ use Rattle.toml.specs.declared.value.Value.{Value, Array}
 abbrev Entry : Type 0
 Entry = String Global × Value
 
--- whether a key has these bytes
+-- Whether a key has these bytes.
 abbrev pub at : List ℕ → String Global → Ordering
 at key k = slice_cmp nat_cmp key (string_bytes k)
 
--- a key before the first one is not among the others
+-- A key before the first key is not among the others.
 none_behind : (key : List ℕ) (e : Entry) (es : List Entry) → at key e.0 ≡ Less → AllByRecursion (λ k. string_cmp e.0 k ≡ Less) (keys_of es)
     → lookup (is_at (at key)) es ≡ None
 none_behind key e [] before sorted = refl
@@ -52,7 +52,7 @@ written_by Greater key e es v w order behind found later =
     let there : lookup (is_at (at key)) es ≡ Some v = rw order at found in
     rw order (ap (member (string_bytes e.0) (view e.1)) (later there))
 
--- the value at a key that is there
+-- The value at an existing key.
 written : (key : List ℕ) (es : List Entry) (v w : Value) → IsStrictlySortedBy string_cmp (keys_of es) → lookup (is_at (at key)) es ≡ Some v
     → members_view (set_value (is_at (at key)) es w) ≡ with_member key (view w) (members_view es)
 unfolding IsStrictlySortedBy
@@ -64,7 +64,7 @@ listed_there : (key : List ℕ) (es : List Entry) (v : Value) → lookup (is_at 
 unfolding list_at
 listed_there key es v found = ap (option_and_then elements_of) (sym (view-lookup key es) ∙ ap (option_map view) found)
 
--- the table after an edit
+-- The table after an edit.
 pub edited_in : (key : List ℕ) (table new : BTreeMap (String Global) Value) (v w : Value) (change : Change) → key ≡ codes "flow"
     → IsStrictlySortedBy string_cmp (keys_of table.entries) → lookup (is_at (at key)) table.entries ≡ Some v
     → new.entries ≡ set_value (is_at (at key)) table.entries w → IsListAfter change (view v) (view w) → IsTableAfter change (table_view table) (table_view new)
@@ -74,13 +74,13 @@ edited_in key table new v w change is sorted found written_as after = (
   ap members_view written_as ∙ written key table.entries v w sorted found ∙ (λ i. with_member (is i) (after.2 i) (table_view table)),
 )
 
--- what is written back as it was
+-- A value that is written back unchanged.
 pub written_same : (key : List ℕ) (table new : BTreeMap (String Global) Value) (v w : Value) → lookup (is_at (at key)) table.entries ≡ Some v
     → new.entries ≡ set_value (is_at (at key)) table.entries w → w ≡ v → new.entries ≡ table.entries
 written_same key table new v w found written_as same =
     written_as ∙ ap (set_value (is_at (at key)) table.entries) same ∙ set_value_same (is_at (at key)) table.entries v found
 
--- the value that is found
+-- The value at a key that is found.
 pub found_here : (key : List ℕ) (table : BTreeMap (String Global) Value) (r : Option (MutBor Value)) (slot : MutBor Value) → r ≡ Some slot
     → option_copied_mut r ≡ get_by (at key) table → lookup (is_at (at key)) table.entries ≡ Some slot.now
 found_here key table r slot is value = sym (rw is at value)
@@ -90,7 +90,7 @@ found_here key table r slot is value = sym (rw is at value)
 listed_in : (v : Vec Value Global) → elements_of (view (Array v)) ≡ Some (map view v.items)
 listed_in v = ap elements_of (view-Array v) ∙ listed_again (map view v.items)
 
--- a list after an edit
+-- A list after an edit.
 pub array_after : (change : Change) (list : Value) (old new : Vec Value Global) → list ≡ Array old
     → map view new.items ≡ flows_after change (map view old.items) → IsListAfter change (view list) (view (Array new))
 array_after change list old new is after = (
@@ -103,7 +103,7 @@ by_test : (b : Bool) (v : Value) (vs : List Value) (ds : List Data) → map view
 by_test true v vs ds same = ap (λ (xs : List Data). view v ∷ xs) same
 by_test false v vs ds same = same
 
--- a filter by what the values are
+-- A filter by the models of the values.
 pub filter_view : (p : Data → Bool) (vs : List Value) → map view (filter (λ v. p (view v)) vs) ≡ filter p (map view vs)
 filter_view p [] = refl
 filter_view p (v ∷ vs) = by_test (p (view v)) v (filter (λ x. p (view x)) vs) (filter p (map view vs)) (filter_view p vs)

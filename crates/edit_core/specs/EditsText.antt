@@ -1,4 +1,4 @@
--- The text of a list of edits, one line each (docs/TEXTS.md): which edits a text tells, and its first fault.
+-- The format of edit files, one edit per line (docs/TEXTS.md): the edits that a file contains, and its first error.
 use Rattle.std.specs.Prelude.{◌≡◌, ℕ, ◌≤◌, List, [], ◌∷◌, ◌++◌, Some, length, codes, decimal, is_some, IsTrue}
 use Rattle.std.specs.List.{list_all}
 use Rattle.std.specs.Str.{is_utf8}
@@ -13,16 +13,17 @@ use Rattle.toml.specs.Parse.{parse_document}
 use Rattle.edit_core.specs.Behind.{behind_word}
 use Rattle.edit_core.specs.Edit.{Change, Add, Remove, Set, Unset, Edit}
 
--- A. The grammar: which edits a text tells.
+-- A. The grammar: the edits that a file contains.
 
--- words are texts: each of them is UTF-8
+-- Each token is valid UTF-8.
 abbrev pub AreTexts : List (List ℕ) → Type 0
 AreTexts ws = IsTrue (list_all is_utf8 ws)
 
+-- The number of an invariant: from 1 to the invariant limit.
 abbrev pub IsInvariantNumber : ℕ → Type 0
 IsInvariantNumber k = (1 ≤ k) × (k ≤ invariant_limit)
 
--- `v = ` and the text are a TOML document, which has this table at `v`; and the table has a text at `host`
+-- `v = ` followed by the string is a TOML document with this table at `v`, and the table has a string at `host`.
 pub record IsAssignText (text : List ℕ) (assign : Members) : Type 0 where
   pub utf8 : IsTrue (is_utf8 text)
   pub document : Members
@@ -30,7 +31,7 @@ pub record IsAssignText (text : List ℕ) (assign : Members) : Type 0 where
   pub value : get_member (codes "v") document ≡ Some (table assign)
   pub host : IsTrue (is_some (text_at (codes "host") assign))
 
--- `set`, a number, and the text of an assign, which is all that stands behind the number
+-- `set`, a number, and the string of an assign, which is the entire rest of the line after the number.
 pub record TellsAssign (line : List ℕ) (invariant : ℕ) (assign : Members) : Type 0 where
   pub word : List ℕ
   pub rest : List (List ℕ)
@@ -38,7 +39,7 @@ pub record TellsAssign (line : List ℕ) (invariant : ℕ) (assign : Members) : 
   pub number : IsInvariantNumber invariant
   pub text : IsAssignText (behind_word (behind_word line)) assign
 
--- a line tells a change
+-- A line encodes a change.
 abbrev pub TellsChange : List ℕ → Change → Type 0
 TellsChange line (Add ws) = (words line ≡ codes "add" ∷ ws) × (2 ≤ length ws) × AreTexts ws
 TellsChange line (Remove from to) = (words line ≡ codes "remove" ∷ from ∷ to ∷ []) × AreTexts (from ∷ to ∷ [])
@@ -46,17 +47,18 @@ TellsChange line (Set invariant assign) = TellsAssign line invariant assign
 TellsChange line (Unset invariant host) =
     (words line ≡ codes "unset" ∷ decimal invariant ∷ host ∷ []) × IsInvariantNumber invariant × AreTexts (host ∷ [])
 
--- B. The form of a line that tells one.
+-- B. The shape of a line that encodes an edit.
 
--- words have the form of an edit: one of the four first words, and as many behind it as that asks for
+-- Tokens have the shape of an edit: one of the four verbs, followed by the number of tokens that it requires.
 pub data IsForm (ws : List (List ℕ)) : Type 0 where
   add : (from to : List ℕ) (services : List (List ℕ)) → ws ≡ codes "add" ∷ from ∷ to ∷ services → IsForm ws
   remove : (from to : List ℕ) → ws ≡ codes "remove" ∷ from ∷ to ∷ [] → IsForm ws
   set : (number word : List ℕ) (rest : List (List ℕ)) → ws ≡ codes "set" ∷ number ∷ word ∷ rest → IsForm ws
   unset : (number host : List ℕ) → ws ≡ codes "unset" ∷ number ∷ host ∷ [] → IsForm ws
 
--- C. The text lists edits, each with its line, 10,000 at most.
+-- C. The file contains at most 10,000 edits, each with the number of its line.
 
+-- The list format of edit files: at most 10,000 edits, and at most 1,048,576 bytes.
 abbrev pub edits_text : ListText Edit
 edits_text = record {
   byte_limit = 1048576;
@@ -65,9 +67,10 @@ edits_text = record {
   Tells = λ n line edit. (edit.line ≡ n) × TellsChange line edit.change;
 }
 
--- the reading of a text, and its first fault
+-- The parse result of a file.
 abbrev pub IsReading : List ℕ → List Edit → Type 0
 IsReading bytes edits = IsReadingOf (by_lines edits_text) bytes edits
 
+-- The first error of a file.
 abbrev pub IsRefused : List ℕ → ℕ → ListWhy → Type 0
 IsRefused bytes line why = HasFault (by_lines edits_text) bytes line why

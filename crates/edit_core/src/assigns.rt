@@ -1,4 +1,4 @@
-//! The assigns of an invariant, edited.
+//! Edits of the assigns of an invariant.
 
 ghost use Rattle.std.specs.Prelude.{◌≡◌, ◌-◌, codes, map, option_map, filter, if◌then◌else◌, not, slice_get, IfOk};
 ghost use Rattle.std.specs.List.{list_any, slice_set};
@@ -18,7 +18,7 @@ use std::alloc::{AllocError, Global};
 use table_core::text_at;
 use toml::{Table, Value};
 
-/// The table in which an invariant, by its number from 1, assigns to a host what a table says.
+/// Returns the table in which an invariant, given by its number from 1, has the assign of a host.
 #[tactic(auto, unfolding(crate::specs::Edited::edited))]
 pub(crate) fn set_in(
     alloc: Global,
@@ -35,7 +35,7 @@ pub(crate) fn set_in(
     Ok(with_assigns(alloc, document, number, invariant, assigns)?)
 }
 
-/// The table in which an invariant, by its number from 1, assigns nothing to a host.
+/// Returns the table in which an invariant, given by its number from 1, has no assign of a host.
 #[tactic(auto, unfolding(crate::specs::Edited::edited))]
 pub(crate) fn unset_in(
     alloc: Global,
@@ -52,14 +52,14 @@ pub(crate) fn unset_in(
     Ok(with_assigns(alloc, document, number, invariant, assigns)?)
 }
 
-/// The invariant with a number, from 1.
+/// Returns the invariant with a number, from 1.
 fn invariant_at(document: &Table, number: u8) -> Option<&Value>
     ensures { option_map (λ value. view value.now) result ≡ slice_get (listed (codes "invariant") (table_view document.now)) (number - 1) }
 {
     listed(document, "invariant").get(number.saturating_sub(1) as usize)
 }
 
-/// The table in which the invariant with a number, from 1, has these assigns.
+/// Returns the table in which the invariant with a number, from 1, has these assigns.
 fn with_assigns(
     alloc: Global,
     document: &Table,
@@ -76,7 +76,7 @@ fn with_assigns(
     with_list(alloc, document, "invariant", invariants)
 }
 
-/// The invariant with these assigns.
+/// Returns the invariant with these assigns.
 fn invariant_with(
     alloc: Global,
     invariant: &Value,
@@ -90,7 +90,7 @@ fn invariant_with(
     }
 }
 
-/// Puts a value in the place of the one that stands there, if one does.
+/// Replaces the value at an index, if there is one.
 fn put_at(values: &mut Vec<Value>, place: usize, value: Value)
     ensures { map view values.new.items ≡ slice_set (map view values.old.items) place (view value) }
 {
@@ -99,7 +99,8 @@ fn put_at(values: &mut Vec<Value>, place: usize, value: Value)
     }
 }
 
-/// The assigns with one for its host: in the place of the host's, or at the end where it has none.
+/// Returns the assigns with one for its host: in place of the existing assign of the host, or at
+/// the end if there is none.
 fn assigned(alloc: Global, assigns: &[Value], assign: &Table) -> Result<Vec<Value>, AllocError>
     ensures { IfOk result (λ values. map view values.items ≡ assigned (text_in (codes "host") (table_view assign.now)) (table_view assign.now) (map view assigns.now)) }
 {
@@ -124,7 +125,7 @@ fn names_any(assigns: &[Value], host: &str) -> bool
     assigns.iter().any(|assign| is_of_host(assign, host))
 }
 
-/// The assigns with this table in the place of that of the host.
+/// Returns the assigns with this table in place of that of the host.
 fn replaced(
     alloc: Global,
     assigns: &[Value],
@@ -150,7 +151,7 @@ fn replacement(value: &Value, host: &str, assign: &Table) -> Result<Value, Alloc
     }
 }
 
-/// A copy of each assign that is not the host's, if one is.
+/// Returns a copy of each assign of other hosts, if the host has an assign.
 fn other_assigns(alloc: Global, listed: &[Value], host: &str) -> Result<Vec<Value>, ChangeFault>
     ensures { Gives (others (is_of_host host.now) (map view listed.now)) (result_map_both (λ values. map view values.items) (λ fault. fault) result) }
 {
@@ -162,14 +163,14 @@ fn other_assigns(alloc: Global, listed: &[Value], host: &str) -> Result<Vec<Valu
     Ok(assigns)
 }
 
-/// Takes the assigns of a host out.
+/// Removes the assigns of a host.
 fn retain_others(assigns: &mut Vec<Value>, host: &str)
     ensures { map view assigns.new.items ≡ filter (λ d. not (is_of_host host.now d)) (map view assigns.old.items) }
 {
     assigns.retain(|assign| !is_of_host(assign, host));
 }
 
-/// Whether an assign is of the host.
+/// Whether an assign is for the host.
 fn is_of_host(assign: &Value, host: &str) -> bool
     ensures { result ≡ is_of_host host.now (view assign.now) }
 {

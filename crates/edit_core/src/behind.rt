@@ -1,4 +1,4 @@
-//! What stands behind the words of a line.
+//! The remainder of a line after its first tokens.
 
 ghost use Rattle.std.specs.Prelude.{◌≡◌, not, position};
 ghost use Rattle.text_core.specs.Lines.{is_blank};
@@ -6,14 +6,14 @@ ghost use Rattle.edit_core.specs.Behind.{behind_word, from_first};
 
 use text_core::is_blank;
 
-/// The text behind the first word of a line.
+/// Returns the text after the first token of a line.
 pub(crate) fn behind_word(line: &[u8]) -> &[u8]
     ensures { result.now ≡ behind_word line.now }
 {
     from_blank(from_word(line))
 }
 
-/// The line from its first word on.
+/// Returns the line from its first token on.
 #[tactic(auto, using(crate::proofs::BehindLaws::from_place))]
 fn from_word(line: &[u8]) -> &[u8]
     ensures { result.now ≡ from_first (λ b. not (is_blank b)) line.now }
@@ -24,7 +24,7 @@ fn from_word(line: &[u8]) -> &[u8]
     }
 }
 
-/// The text from its first blank on.
+/// Returns the text from its first blank on.
 #[tactic(auto, using(crate::proofs::BehindLaws::from_place))]
 fn from_blank(text: &[u8]) -> &[u8]
     ensures { result.now ≡ from_first is_blank text.now }

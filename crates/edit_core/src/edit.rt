@@ -5,20 +5,21 @@ ghost use Rattle.edit_core.specs.inner.EditView.{change_view, edit_view};
 
 use toml::Table;
 
-/// What an edit changes.
+/// The change that an edit makes.
 #[derive(Drop)]
 pub enum Change {
-    /// Lists a flow: the names of its two hosts, and its services behind them.
+    /// Lists a flow: the names of its two hosts, followed by its services.
     Add(Vec<String>),
-    /// Takes out the flow between two hosts, by their names.
+    /// Removes the flow between two hosts, given by their names.
     Remove(String, String),
-    /// Lets an invariant, by its number from 1, assign to a host the attribute that a table says.
+    /// Makes an invariant, given by its number from 1, assign to a host the attribute that a table
+    /// specifies.
     Set(u8, Table),
-    /// Takes out what an invariant, by its number from 1, assigns to a host.
+    /// Removes the assign of an invariant, given by its number from 1, to a host.
     Unset(u8, String),
 }
 
-/// A change, and the line of the text on which it stands. Only a text makes one.
+/// A change, and the number of its line in the file. Only the parser creates edits.
 #[derive(Drop)]
 pub struct Edit {
     line: u32,
@@ -26,21 +27,21 @@ pub struct Edit {
 }
 
 impl Edit {
-    /// The change that a line tells.
+    /// Returns the edit of a line.
     pub(crate) fn on_line(line: u32, change: Change) -> Edit
         ensures { edit_view result ≡ record { line = line; change = change_view change } }
     {
         Edit { line, change }
     }
 
-    /// The line of the text, from 1.
+    /// Returns the line of the file, from 1.
     pub fn line(&self) -> u32
         ensures { result ≡ (edit_view self.now).line }
     {
         self.line
     }
 
-    /// What is changed.
+    /// Returns the change.
     pub fn change(&self) -> &Change
         ensures { change_view result.now ≡ (edit_view self.now).change }
     {

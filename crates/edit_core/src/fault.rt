@@ -1,4 +1,4 @@
-//! Why an edit is refused.
+//! The reasons why an edit is refused.
 
 ghost use Rattle.std.specs.Prelude.{◌≡◌};
 ghost use Rattle.edit_core.specs.inner.EditFaults.{cause_of, edit_fault};
@@ -7,27 +7,27 @@ ghost use Rattle.edit_core.specs.declared.fault.ChangeFault.TheVariants.{Memory}
 use desc_core::{DescFault, Why};
 use std::alloc::{AllocError, AllocFailed};
 
-/// The reason for which an edit is refused.
+/// The reason why an edit is refused.
 #[derive(Clone, Copy, Debug, PartialEq, Eq)]
 pub enum EditWhy {
     /// The description lists no flows.
     NoPolicy,
-    /// There is no such invariant, or nothing to take out.
+    /// There is no such invariant, or nothing to remove.
     Absent,
-    /// The edited table would be no description.
+    /// The edited table is not a description.
     Refused(Why),
 }
 
-/// Why `Session::apply` does not make an edit. The table is then as it was.
+/// The reason why `Session::apply` fails. The table is unchanged.
 #[derive(Clone, Copy, Debug, PartialEq, Eq)]
 pub enum EditFault {
     /// The description lists no flows.
     NoPolicy,
-    /// There is no such invariant, or nothing to take out.
+    /// There is no such invariant, or nothing to remove.
     Absent,
-    /// The edited table would be no description.
+    /// The edited table is not a description.
     Refused(Why),
-    /// Memory ran out.
+    /// Memory allocation failed.
     Memory,
 }
 
@@ -44,12 +44,12 @@ impl EditFault {
     }
 }
 
-/// Why a change of the table is not made, with the reason as one value.
+/// The reason why a change of the table fails, with the reason of a refusal as one value.
 #[derive(Clone, Copy, Debug)]
 pub enum ChangeFault {
     /// The edit is refused.
     Refused(EditWhy),
-    /// Memory ran out.
+    /// Memory allocation failed.
     Memory,
 }
 

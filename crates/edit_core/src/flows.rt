@@ -1,4 +1,4 @@
-//! The flows that a table lists, edited.
+//! Edits of the flows that a table lists.
 
 ghost use Rattle.std.specs.Prelude.{◌≡◌, map, filter, not, string_bytes};
 ghost use Rattle.std.specs.Result.{result_map_both};
@@ -13,7 +13,7 @@ use std::alloc::Global;
 use table_core::{elements, list_at};
 use toml::{Table, Value};
 
-/// The table with one flow more, at the end.
+/// Returns the table with one more flow, at the end.
 #[tactic(auto, unfolding(crate::specs::Edited::edited))]
 pub(crate) fn add_to(alloc: Global, table: &Table, words: &[String]) -> Result<Table, ChangeFault>
     ensures { Gives (edited (Add (map string_bytes words.now)) (table_view table.now)) (result_map_both table_view (λ fault. fault) result) }
@@ -26,7 +26,7 @@ pub(crate) fn add_to(alloc: Global, table: &Table, words: &[String]) -> Result<T
     Ok(with_list(alloc, table, "flow", flows)?)
 }
 
-/// The table without the flow between two hosts.
+/// Returns the table without the flow between two hosts.
 #[tactic(auto, unfolding(crate::specs::Edited::edited))]
 pub(crate) fn remove_from(
     alloc: Global,
@@ -43,7 +43,7 @@ pub(crate) fn remove_from(
     Ok(with_list(alloc, table, "flow", flows)?)
 }
 
-/// A copy of each value that is not the flow between the two hosts, if one is.
+/// Returns a copy of each value other than the flow between the two hosts, if there is such a flow.
 fn other_flows(
     alloc: Global,
     listed: &[Value],
@@ -60,7 +60,7 @@ fn other_flows(
     Ok(flows)
 }
 
-/// Takes the flow between two hosts out.
+/// Removes the flow between two hosts.
 pub(crate) fn retain_others(values: &mut Vec<Value>, from: &str, to: &str)
     ensures { map view values.new.items ≡ filter (λ d. not (is_between from.now to.now d)) (map view values.old.items) }
 {

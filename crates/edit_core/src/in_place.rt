@@ -1,6 +1,6 @@
-//! Edits of one flow, by which table, network and policy are changed where they stand.
+//! Edits of one flow, which change table, network and policy in place.
 //!
-//! A flow without services comes or goes by itself: it breaks no other condition on descriptions.
+//! Adding or removing a flow without services affects no other condition on descriptions.
 
 ghost use Rattle.std.specs.Prelude.{◌≡◌, ◌++◌, ◌∷◌, [], List, Some, filter, map, not, string_bytes, IfNone, IfSome, IsFalse, IsTrue, Ok};
 ghost use Rattle.desc_core.specs.Description.{described_by_table};
@@ -25,8 +25,8 @@ use std::alloc::Global;
 use std::mem;
 use toml::{Table, Value};
 
-/// Makes the edit, or leaves all as it is: where it is not of one flow, where the flow has services
-/// or is not right, and where there is no room.
+/// Makes the edit; or changes nothing, if the edit is not of one flow, if the flow has services or
+/// is invalid, or if allocation fails.
 pub(crate) fn edit_in_place(
     alloc: Global,
     table: &mut Table,
@@ -46,7 +46,7 @@ pub(crate) fn edit_in_place(
     }
 }
 
-/// The flow that the edit adds or takes out, if it may and the flow has no services.
+/// Returns the flow that the edit adds or removes, if this is allowed and the flow has no services.
 fn flow_of(description: &Description, change: &Change) -> Option<Flow>
     ensures right { IfSome result (λ flow. (t : Members) → IsOfFlow t description.now (change_view change.now) flow) }
     ensures flow { IfSome result (IsFlow description.now.asked.size) }
@@ -58,7 +58,7 @@ fn flow_of(description: &Description, change: &Change) -> Option<Flow>
     }
 }
 
-/// The flow that the words say, if they say one that may be asked for and has no services.
+/// Returns the flow that the words denote, if they denote a valid new flow without services.
 fn right_flow(description: &Description, words: &[String]) -> Option<Flow>
     ensures right { IfSome result (λ flow. (t : Members) → IsRightFlow t description.now (map string_bytes words.now) flow []) }
     ensures flow { IfSome result (IsFlow description.now.asked.size) }
@@ -73,7 +73,7 @@ fn right_flow(description: &Description, words: &[String]) -> Option<Flow>
     Some(flow)
 }
 
-/// The flow between two hosts, if it is asked for and has no services.
+/// Returns the flow between two hosts, if it is asked for and has no services.
 fn asked_flow(description: &Description, from: &str, to: &str) -> Option<Flow>
     ensures asked { IfSome result (IsAskedFlow description.now from.now to.now) }
     ensures whole { IfSome result (λ flow. services_of description.now.services flow.from flow.to ≡ []) }
@@ -86,7 +86,7 @@ fn asked_flow(description: &Description, from: &str, to: &str) -> Option<Flow>
     Some(flow)
 }
 
-/// The flow between two hosts, by their names.
+/// Returns the flow between two hosts, given by their names.
 fn flow_between(description: &Description, from: &str, to: &str) -> Option<Flow>
     ensures from { IfSome result (λ flow. host_named description.now.hosts from.now ≡ Some flow.from) }
     ensures to { IfSome result (λ flow. host_named description.now.hosts to.now ≡ Some flow.to) }
@@ -125,14 +125,14 @@ fn edit_table(
     }
 }
 
-/// Moves a value out, to be changed and put back.
+/// Moves a value out, to be changed and moved back.
 fn take(slot: &mut Value) -> Value
     ensures { result ≡ slot.old }
 {
     mem::replace(slot, Value::Boolean(false))
 }
 
-/// The list after the edit, if it is one, and whether the edit is done.
+/// Returns the list after the edit, if it is a list, and whether the edit is done.
 fn edit_list(
     alloc: Global,
     list: Value,
@@ -178,7 +178,7 @@ fn edit_elements(
     }
 }
 
-/// Lists a flow behind the others, if there is room, and asks for it.
+/// Appends a flow to the list, if allocation succeeds, and adds it to the asked flows.
 fn add(
     alloc: Global,
     elements: &mut Vec<Value>,
@@ -204,7 +204,7 @@ fn add(
     elements.push(listed).is_ok()
 }
 
-/// Takes the flow between two hosts out of those that are listed, and asks for it no more.
+/// Removes the flow between two hosts from the list and from the asked flows.
 fn remove(
     alloc: Global,
     elements: &mut Vec<Value>,

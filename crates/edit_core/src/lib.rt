@@ -1,5 +1,5 @@
-//! Edits of a description, one after another: the table that each leaves, and its policy, which a
-//! session keeps.
+//! Edits of a description, in sequence: the table after each edit and its policy, which a session
+//! maintains.
 #![tactic(auto)]
 
 mod assigns;
@@ -22,5 +22,5 @@ pub use run::EditRefusal;
 pub use session::Session;
 pub use summary::Summary;
 pub use text::{EDITS_BYTE_LIMIT, EditsFault, read_edits};
-/// Why a text of edits is refused.
+/// The reason why an edit file is rejected.
 pub use text_core::ListWhy as EditsWhy;

@@ -1,4 +1,4 @@
-//! One line of a text of edits: the change that it tells.
+//! Parsing one line of an edit file.
 
 ghost use Rattle.std.specs.Prelude.{◌≡◌, ◌∷◌, [], ◌++◌, IfOk, IfErr, codes, map, option_map, string_bytes};
 ghost use Rattle.std.specs.Result.{result_map_both};
@@ -17,7 +17,7 @@ use table_core::text_at;
 use text_core::{LineFault, ListWhy, Words, read_number};
 use toml::{Table, Value};
 
-/// The change that a line tells, or why it tells none.
+/// Parses the change of a line, or returns the reason why it encodes none.
 #[tactic(auto, unfolding(crate::specs::inner::ChangeSteps::change_of))]
 pub(crate) fn read_change(alloc: Global, line: &[u8]) -> Result<Change, LineFault<ListWhy>>
     ensures { Says (change_of line.now) result }
@@ -39,7 +39,7 @@ pub(crate) fn read_change(alloc: Global, line: &[u8]) -> Result<Change, LineFaul
     Err(LineFault::Bad(ListWhy::BadLine))
 }
 
-/// The next word, where the form of a line asks for one.
+/// Returns the next token, if the shape of a line requires one.
 fn next_of<'a>(words: &mut Words<'a>) -> Result<&'a [u8], LineFault<ListWhy>>
     ensures next { IfOk result (λ word. words.old ≡ word.now ∷ words.new) }
     ensures end { IfErr result (λ fault. (words.old ≡ []) × (fault ≡ LineFault.Bad ListWhy.BadLine)) }
@@ -47,7 +47,7 @@ fn next_of<'a>(words: &mut Words<'a>) -> Result<&'a [u8], LineFault<ListWhy>>
     words.next_word().ok_or(LineFault::Bad(ListWhy::BadLine))
 }
 
-/// A flow that is listed, by the words behind `add`.
+/// Parses a listed flow, from the tokens after `add`.
 fn read_add(alloc: Global, mut words: Words<'_>) -> Result<Change, LineFault<ListWhy>>
     ensures { Says (add_of words.entry) result }
 {
@@ -60,7 +60,7 @@ fn read_add(alloc: Global, mut words: Words<'_>) -> Result<Change, LineFault<Lis
     Ok(Change::Add(texts))
 }
 
-/// Puts the words behind the texts.
+/// Appends the tokens to the strings.
 fn read_texts(
     alloc: Global,
     texts: &mut Vec<String>,
@@ -74,7 +74,7 @@ fn read_texts(
     Ok(())
 }
 
-/// A flow that is taken out, by the words behind `remove`.
+/// Parses a removed flow, from the tokens after `remove`.
 fn read_remove(alloc: Global, mut words: Words<'_>) -> Result<Change, LineFault<ListWhy>>
     ensures { Says (remove_of words.entry) result }
 {
@@ -88,7 +88,7 @@ fn read_remove(alloc: Global, mut words: Words<'_>) -> Result<Change, LineFault<
     Ok(Change::Remove(from, to))
 }
 
-/// An assign, by the words behind `set` and the text behind the first of them.
+/// Parses an assign, from the tokens after `set` and the text after the first of them.
 fn read_set(alloc: Global, mut words: Words<'_>, text: &[u8]) -> Result<Change, LineFault<ListWhy>>
     ensures { Says (set_of text.now words.entry) result }
 {
@@ -100,7 +100,7 @@ fn read_set(alloc: Global, mut words: Words<'_>, text: &[u8]) -> Result<Change, 
     Ok(Change::Set(number, read_assign(alloc, text)?))
 }
 
-/// What an invariant assigns to a host is taken out, by the words behind `unset`.
+/// Parses the removal of an assign, from the tokens after `unset`.
 fn read_unset(alloc: Global, mut words: Words<'_>) -> Result<Change, LineFault<ListWhy>>
     ensures { Says (unset_of words.entry) result }
 {
@@ -115,7 +115,7 @@ fn read_unset(alloc: Global, mut words: Words<'_>) -> Result<Change, LineFault<L
     Ok(Change::Unset(number, read_text(alloc, host)?))
 }
 
-/// The number of an invariant, from 1.
+/// Parses the number of an invariant, from 1.
 fn invariant_said(word: &[u8]) -> Option<u8>
     ensures { result ≡ invariant_said word.now }
 {
@@ -126,7 +126,7 @@ fn invariant_said(word: &[u8]) -> Option<u8>
     Some(number as u8)
 }
 
-/// A word as a text.
+/// Returns a token as a string.
 fn read_text(alloc: Global, word: &[u8]) -> Result<String, LineFault<ListWhy>>
     ensures { SaysValue (text_of word.now) (result_map_both string_bytes (λ fault. fault) result) }
 {
@@ -136,7 +136,7 @@ fn read_text(alloc: Global, word: &[u8]) -> Result<String, LineFault<ListWhy>>
     }
 }
 
-/// The table of an assign, which a text says as a TOML value.
+/// Parses the table of an assign from a TOML value.
 #[tactic(auto, unfolding(crate::specs::inner::ChangeSteps::assign_of))]
 fn read_assign(alloc: Global, text: &[u8]) -> Result<Table, LineFault<ListWhy>>
     ensures { SaysValue (assign_of text.now) (result_map_both table_view (λ fault. fault) result) }
@@ -154,7 +154,7 @@ fn read_assign(alloc: Global, text: &[u8]) -> Result<Table, LineFault<ListWhy>>
     Ok(assign)
 }
 
-/// The document `v = ` and a text.
+/// Parses the document `v = ` followed by the text.
 fn read_document(alloc: Global, text: &str) -> Result<Table, LineFault<ListWhy>>
     ensures { SaysValue (parse_document (codes "v = " ++ text.now)) (result_map_both table_view (λ fault. fault) result) }
 {
@@ -170,7 +170,7 @@ fn read_document(alloc: Global, text: &str) -> Result<Table, LineFault<ListWhy>>
     }
 }
 
-/// The table at `v`.
+/// Returns the table at `v`.
 fn value_in(mut document: Table) -> Option<Table>
     ensures { option_map table_view result ≡ value_in (table_view document) }
 {
@@ -178,7 +178,7 @@ fn value_in(mut document: Table) -> Option<Table>
     table_in(value)
 }
 
-/// The table, if the value is one.
+/// Returns the table, if the value is one.
 fn table_in(value: Value) -> Option<Table>
     ensures { option_map table_view result ≡ as_table (view value) }
 {

@@ -1,4 +1,4 @@
-//! Edits one after another.
+//! Edits in sequence.
 
 ghost use Rattle.std.specs.Prelude.{◌≡◌, IfErr, IfOk, OnErr, OnOk, Ok, map};
 ghost use Rattle.std.specs.Result.{result_map_both};
@@ -15,16 +15,16 @@ use crate::session::Session;
 use crate::summary::Summary;
 use std::alloc::Global;
 
-/// The first edit that is refused, by its line, and why.
+/// The first edit that is refused: its line, and the reason.
 #[derive(Clone, Copy, Debug, PartialEq, Eq)]
 pub enum EditRefusal {
     Refused { line: u32, why: EditWhy },
-    /// Memory ran out.
+    /// Memory allocation failed.
     Memory,
 }
 
 impl Session {
-    /// Changes the table by edits one after another, up to the first that is refused, and summarizes the
+    /// Changes the table by the edits in order, up to the first that is refused, and summarizes the
     /// description after each. After a refusal the table is the one after the edits before it.
     pub fn apply_all(&mut self, alloc: Global, edits: &[Edit]) -> Result<Vec<Summary>, EditRefusal>
         ensures table { OnOk result (after_edits (map edit_view edits.now) (table_of self.old) ≡ Ok (table_of self.new)) }
@@ -42,7 +42,7 @@ impl Session {
         Ok(told)
     }
 
-    /// One edit more.
+    /// Applies one more edit.
     fn step(&mut self, edit: &Edit) -> Result<Summary, EditRefusal>
         ensures table { OnOk result (after_edit (edit_view edit.now).change (table_of self.old) ≡ Ok (table_of self.new)) }
         ensures summary { IfOk result (IsSummary (table_of self.new)) }

@@ -1,4 +1,4 @@
-//! A description that is edited. The session keeps its table, its network and their policy.
+//! A description that is edited. The session maintains its table, its network and the policy.
 
 ghost use Rattle.std.specs.Prelude.{◌≡◌, IfErr, IfOk, Ok, OnErr};
 ghost use Rattle.std.specs.Result.{result_map_both};
@@ -21,7 +21,7 @@ use std::alloc::Global;
 use std::marker::Model;
 use toml::Table;
 
-/// A description that is edited, with its policy. It is seen as the entries of its table.
+/// A description that is edited, with its policy. Its model is the list of entries of its table.
 #[derive(Drop)]
 pub struct Session {
     alloc: Global,
@@ -50,7 +50,7 @@ impl Model for Session {
 }
 
 impl Session {
-    /// A session of a description, or the first condition that refuses it.
+    /// Starts a session of a description, or returns the first condition that refuses it.
     pub fn start(alloc: Global, bytes: &[u8]) -> Result<Session, DescFault>
         ensures { IsStarted bytes.now (result_map_both table_of (λ fault. fault) result) }
     {
@@ -58,7 +58,8 @@ impl Session {
         Session::of_table(alloc, table)
     }
 
-    /// A session of a table that is a description, or the first condition on tables that refuses it.
+    /// Starts a session of a table that is a description, or returns the first condition on tables
+    /// that refuses it.
     fn of_table(alloc: Global, table: Table) -> Result<Session, DescFault>
         ensures table { IfOk result (λ session. session ≡ entries_of table) }
         ensures described { IfOk result (λ session. IsDescription (table_of session)) }
@@ -73,8 +74,8 @@ impl Session {
         })
     }
 
-    /// Changes the table by an edit, and summarizes the description that the table then is. After a
-    /// refusal, and if memory runs out, the table is as it was.
+    /// Changes the table by an edit, and summarizes the resulting description. After a refusal, and
+    /// if memory runs out, the table is unchanged.
     pub fn apply(&mut self, edit: &Edit) -> Result<Summary, EditFault>
         ensures applied { IsEdited (edit_view edit.now).change (table_of self.old) (table_of self.new) result }
         ensures unchanged { OnErr result (self.new ≡ self.old) }
@@ -85,7 +86,7 @@ impl Session {
         }
     }
 
-    /// Does the same, and answers the reason of a refusal as one value.
+    /// Does the same, and returns the reason of a refusal as one value.
     pub(crate) fn apply_change(&mut self, edit: &Edit) -> Result<Summary, ChangeFault>
         ensures applied { IsApplied (edit_view edit.now).change (table_of self.old) (table_of self.new) result }
         ensures unchanged { OnErr result (self.new ≡ self.old) }
@@ -97,7 +98,7 @@ impl Session {
         }
     }
 
-    /// Changes the table by an edit, and describes it anew.
+    /// Changes the table by an edit, and evaluates it from scratch.
     fn apply_anew(&mut self, change: &Change) -> Result<Summary, ChangeFault>
         ensures applied { IsApplied (change_view change.now) (table_of self.old) (table_of self.new) result }
         ensures unchanged { OnErr result (self.new ≡ self.old) }
@@ -109,21 +110,21 @@ impl Session {
         Ok(summary)
     }
 
-    /// The description now.
+    /// Returns the current description.
     pub fn description(&self) -> &Description
         ensures { described_by_table (table_of self.now) ≡ Ok result.now }
     {
         self.network.description()
     }
 
-    /// The permitted flows of the description now.
+    /// Returns the permitted flows of the current description.
     pub fn permitted(&self) -> &FlowSet
         ensures { HasPolicy (table_of self.now) (λ policy. result.now ≡ policy.permitted) }
     {
         self.network.permitted()
     }
 
-    /// Those among them whose answers may pass.
+    /// Returns the permitted flows whose answers may pass.
     pub fn stateful(&self) -> &FlowSet
         ensures { HasPolicy (table_of self.now) (λ policy. result.now ≡ policy.stateful) }
     {

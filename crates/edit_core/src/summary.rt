@@ -1,11 +1,11 @@
-//! What is told of a description after an edit.
+//! The summary of a description after an edit.
 
 ghost use Rattle.edit_core.specs.Summaries.{TellsOf};
 ghost use Rattle.net_core.specs.Policies.{IsPolicyOf};
 
 use net_core::PolicedNetwork;
 
-/// How many flows are asked for, permitted and stateful, and how many invariants fail on the asked
+/// The numbers of asked, permitted and stateful flows, and of invariants that fail on the asked
 /// flows.
 #[derive(Clone, Copy, Debug, PartialEq, Eq)]
 pub struct Summary {
@@ -15,7 +15,7 @@ pub struct Summary {
     pub failing: u16,
 }
 
-/// What is told of a network and its policy.
+/// Returns the summary of a network and its policy.
 pub(crate) fn summary_of(network: &PolicedNetwork) -> Summary
     ensures tells { TellsOf network.now.network network.now.policy result }
     ensures policy { IsPolicyOf network.now.network network.now.policy }

@@ -1,4 +1,4 @@
-//! The table that an edit makes of a table.
+//! The effect of an edit on a table.
 
 ghost use Rattle.std.specs.Prelude.{◌≡◌};
 ghost use Rattle.std.specs.Result.{result_map_both};
@@ -14,7 +14,7 @@ use crate::flows::{add_to, remove_from};
 use std::alloc::Global;
 use toml::Table;
 
-/// The edited table, which may be no description.
+/// Returns the edited table, which need not be a description.
 #[tactic(auto, unfolding(crate::specs::Edited::edited))]
 pub(crate) fn edited(alloc: Global, table: &Table, change: &Change) -> Result<Table, ChangeFault>
     ensures { Gives (edited (change_view change.now) (table_view table.now)) (result_map_both table_view (λ fault. fault) result) }

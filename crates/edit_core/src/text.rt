@@ -1,5 +1,5 @@
-//! Reading the text of a list of edits: one line each, as `add web db`, `remove web db`,
-//! `set 1 { host = "web", level = 2 }` or `unset 1 web`.
+//! Parsing an edit file: one edit per line, `add web db`, `remove web db`, `set 1 { host = "web",
+//! level = 2 }` or `unset 1 web`.
 
 ghost use Rattle.std.specs.Prelude.{◌≡◌, ℕ, List, map, IfOk, IfErr, MatchResult};
 ghost use Rattle.text_core.specs.ListText.{by_lines};
@@ -14,34 +14,34 @@ use crate::line::read_change;
 use std::alloc::Global;
 use text_core::{EntryReader, LineFault, ListWhy, TextFault, read_list};
 
-/// The most bytes that a text of edits may have.
+/// The greatest size of an edit file, in bytes.
 pub const EDITS_BYTE_LIMIT: usize = 1_048_576;
 
 const EDIT_LIMIT: usize = 10_000;
 
-/// The first line that tells no edit, from 1, and why; line 0 stands for the whole text.
+/// The first line that encodes no edit, from 1, and the reason. Line 0 means the whole file.
 ///
 /// - `TooLong`: more than 1,048,576 bytes.
-/// - `BadLine`: the first word is none of the four, or the number of words is another one.
-/// - `BadValue`: the number of an invariant or a table that is none, or a word that is not UTF-8.
+/// - `BadLine`: the first word is none of the four, or the number of words is wrong.
+/// - `BadValue`: an invalid invariant number or table, or a word that is not UTF-8.
 /// - `TooMany`: the 10,001st edit.
 pub type EditsFault = TextFault<ListWhy>;
 
-/// The edits that a text tells.
+/// Parses the edits of a file.
 pub fn read_edits(alloc: Global, bytes: &[u8]) -> Result<Vec<Edit>, EditsFault>
     ensures found { IfOk result (λ edits. IsReading bytes.now (map edit_view edits.items)) }
-    // A text that tells edits is refused for want of memory alone.
+    // A file of edits is rejected only if allocation fails.
     ensures only { (told : List Meant) → IsReading bytes.now told →
         MatchResult result (λ edits. map edit_view edits.items ≡ told) (λ fault. fault ≡ TextFault.Memory) }
     ensures refused { IfErr result (HasCause (by_lines edits_text) bytes.now) }
-    // A text has one first fault at most, and none where it tells edits.
+    // A file has at most one first error, and none if it parses to edits.
     ensures faulty { (line : ℕ) (why : ListWhy) → IsRefused bytes.now line why →
         MatchResult result (λ edits. ⊥) (IsFault line why) }
 {
     read_list(alloc, &EditLines { alloc }, bytes)
 }
 
-/// The lines of a text of edits.
+/// The line format of edit files.
 #[derive(Drop)]
 struct EditLines {
     alloc: Global,

@@ -8,7 +8,7 @@ ghost use Rattle.toml.specs.View.{table_view, view};
 use std::alloc::{AllocError, Global};
 use toml::{Table, Value};
 
-/// A copy of each value.
+/// Returns a copy of each value.
 pub(crate) fn copy_values(alloc: Global, values: &[Value]) -> Result<Vec<Value>, AllocError>
     ensures { IfOk result (λ copies. map view copies.items ≡ map view values.now) }
 {
@@ -31,7 +31,7 @@ pub(crate) fn copy_table(table: &Table) -> Result<Table, AllocError>
     table.clone()
 }
 
-/// A copy of the table with these values as the list at a key.
+/// Returns a copy of the table with these values as the list at a key.
 pub(crate) fn with_list(
     alloc: Global,
     table: &Table,
@@ -45,7 +45,7 @@ pub(crate) fn with_list(
     Ok(copy)
 }
 
-/// A list of texts.
+/// Returns a list of strings.
 pub(crate) fn text_list(alloc: Global, texts: &[String]) -> Result<Value, AllocError>
     ensures { IfOk result (λ value. view value ≡ text_list (map string_bytes texts.now)) }
 {

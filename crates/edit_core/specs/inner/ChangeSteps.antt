@@ -1,4 +1,4 @@
--- A line of edits as the reader goes through it, step by step. Callers see none of it; they have the grammar and the reasons.
+-- Parsing a line of an edit file, step by step. Callers do not see this; they use the grammar and the reasons.
 use Rattle.std.specs.Prelude.{ℕ, ◌==◌, ◌++◌, if◌then◌else◌, List, [], ◌∷◌, Option, Some, None, Result, Err, codes, is_some, bytes_eq}
 use Rattle.std.specs.List.{list_all}
 use Rattle.std.specs.Option.{option_map, ok_or}
@@ -15,21 +15,21 @@ use Rattle.toml.specs.Parse.{parse_document}
 use Rattle.edit_core.specs.Behind.{behind_word}
 use Rattle.edit_core.specs.Edit.{Change, Add, Remove, Set, Unset}
 
--- words that are UTF-8
+-- Tokens that are valid UTF-8.
 abbrev pub texts_of : List (List ℕ) → Option (List (List ℕ))
 texts_of ws = if list_all is_utf8 ws then Some ws else None
 
 abbrev pub text_of : List ℕ → Option (List ℕ)
 text_of w = if is_utf8 w then Some w else None
 
--- the number of an invariant: a decimal number from 1 to as many as there may be
+-- The number of an invariant: a decimal number from 1 to the invariant limit.
 abbrev pub from_one : ℕ → Option ℕ
 from_one n = if n == 0 then None else Some n
 
 abbrev pub invariant_said : List ℕ → Option ℕ
 invariant_said word = number invariant_limit word >>= from_one
 
--- the table that is written in a line, with a text at `host`
+-- The table of an assign, if it has a string at `host`.
 abbrev pub with_host : Members → Option Members
 with_host assign = if is_some (text_at (codes "host") assign) then Some assign else None
 
@@ -39,7 +39,7 @@ value_in document = get_member (codes "v") document >>= as_table
 unfoldable pub assign_of : List ℕ → Option Members
 assign_of text = if is_utf8 text then (parse_document (codes "v = " ++ text) >>= value_in) >>= with_host else None
 
--- by the words behind the first, and the text behind the number
+-- The change of each verb, from the tokens after the verb and the string after the number.
 abbrev pub add_of : List (List ℕ) → Result Change ListWhy
 add_of (from ∷ to ∷ services) = ok_or (option_map Add (texts_of (from ∷ to ∷ services))) BadValue
 add_of _ = Err BadLine
@@ -65,7 +65,7 @@ abbrev pub unset_of : List (List ℕ) → Result Change ListWhy
 unset_of (number ∷ host ∷ []) = ok_or (unassigned number host) BadValue
 unset_of _ = Err BadLine
 
--- by the first word
+-- The change, selected by the verb.
 abbrev pub change_by : List ℕ → List (List ℕ) → List ℕ → Result Change ListWhy
 change_by verb rest text =
     if bytes_eq verb (codes "add") then add_of rest

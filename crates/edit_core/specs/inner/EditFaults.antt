@@ -1,4 +1,4 @@
--- What is answered to an edit, against what the definitions say; memory may run out instead at any time.
+-- The result for an edit, compared with the definitions. Memory may run out instead at any time.
 use Rattle.std.specs.Prelude.{◌≡◌, Result, Ok, Err}
 use Rattle.desc_core.specs.declared.fault.DescFault.{DescFault}
 use Rattle.desc_core.specs.declared.fault.DescFault.TheVariants as desc
@@ -9,18 +9,18 @@ use Rattle.edit_core.specs.declared.fault.EditFault.TheVariants as edit
 use Rattle.edit_core.specs.declared.fault.EditWhy.{EditWhy}
 use Rattle.edit_core.specs.declared.fault.EditWhy.TheVariants as why
 
--- the fault of a table that is no description
+-- The error of a table that is no description.
 abbrev pub edit_fault : DescFault → ChangeFault
 edit_fault (desc.Refused refusal) = Refused (why.Refused refusal.why)
 edit_fault desc.Memory = Memory
 
--- what is given is what is said
+-- The result agrees with the definition.
 abbrev pub Gives : {A : Type 0} → Result A EditWhy → Result A ChangeFault → Type 0
 Gives said (Ok x) = said ≡ Ok x
 Gives said (Err (Refused refused)) = said ≡ Err refused
 Gives said (Err Memory) = Unit {0}
 
--- The cause of a fault of `apply`, with the reason as one value.
+-- The cause of an error of `apply`, with the reason as one value.
 abbrev pub cause_of : EditFault → ChangeFault
 cause_of edit.NoPolicy = Refused why.NoPolicy
 cause_of edit.Absent = Refused why.Absent

@@ -1,4 +1,4 @@
--- What the code's edits stand for.
+-- The model of the code's edits.
 use Rattle.std.specs.Prelude.{map, string_bytes}
 use Rattle.toml.specs.View.{table_view}
 use Rattle.edit_core.specs.Edit as meant

@@ -1,4 +1,4 @@
--- What the reader of edits answers to a line and to its parts. Callers see none of it.
+-- The results of the parser of edits for a line and for its parts. Callers do not see this.
 use Rattle.std.specs.Prelude.{◌≡◌, ◌++◌, ℕ, true, false, List, Option, Some, None, Result, Ok, Err}
 use Rattle.std.specs.List.{list_all}
 use Rattle.std.specs.Str.{is_utf8}
@@ -10,19 +10,19 @@ use Rattle.edit_core.specs.Edit as meant
 use Rattle.edit_core.specs.inner.EditView.{change_view}
 use Rattle.edit_core.specs.declared.edit.Change.{Change}
 
--- what is read of a line is what it says; memory may run out instead at any time
+-- The parse result of a line agrees with the definition. Memory may run out instead at any time.
 abbrev pub Says : Result meant.Change ListWhy → Result Change (LineFault ListWhy) → Type 0
 Says said (Ok change) = said ≡ Ok (change_view change)
 Says said (Err (Bad why)) = said ≡ Err why
 Says said (Err Memory) = Unit {0}
 
--- the same of a value that a text says, if it says one
+-- The same for a value that a string denotes, if it denotes one.
 abbrev pub SaysValue : {A : Type 0} → Option A → Result A (LineFault ListWhy) → Type 0
 SaysValue said (Ok x) = said ≡ Some x
 SaysValue said (Err (Bad why)) = (said ≡ None) × (why ≡ BadValue)
 SaysValue said (Err Memory) = Unit {0}
 
--- words that are put behind texts are texts themselves
+-- Tokens that are appended to a list of strings are valid UTF-8.
 abbrev pub PutsTexts : List (List ℕ) → (old new : List (List ℕ)) → {A : Type 0} → Result A (LineFault ListWhy) → Type 0
 PutsTexts ws old new (Ok x) = (list_all is_utf8 ws ≡ true) × (new ≡ old ++ ws)
 PutsTexts ws old new (Err (Bad why)) = (list_all is_utf8 ws ≡ false) × (why ≡ BadValue)

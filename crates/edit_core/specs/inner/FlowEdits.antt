@@ -1,4 +1,4 @@
--- A network in which one flow is asked for more or less, and which flow an edit may add or take out (docs/TEXTS.md).
+-- A network with one more or one fewer asked flow, and the flow that an edit may add or remove (docs/TEXTS.md).
 use Rattle.std.specs.Prelude.{◌≡◌, ◌≢◌, ◌⊎◌, ◌≤◌, ℕ, not, List, [], ◌∷◌, filter, length, Some, IsFalse, IsTrue}
 use Rattle.desc_core.specs.inner.Parts.{with_services}
 use Rattle.desc_form.specs.Keys.{says_second, version_said}
@@ -13,26 +13,26 @@ use Rattle.net_core.specs.Network.{Network}
 use Rattle.table_core.specs.Listing.{each}
 use Rattle.toml.specs.Data.{Members}
 
--- the network with one flow more, narrowed to its services where it has some
+-- The network with one more asked flow, restricted to its services if it has any.
 abbrev pub asking_more : Network → Flow → List Service → Network
 asking_more d f ss = record d {
   asked = record { size = d.asked.size; flows = with_flow d.asked.flows f };
   services = with_services d.services f ss;
 }
 
--- the narrowed flows without one
+-- The restricted flows without one.
 abbrev pub without_services : List NarrowedFlow → Flow → List NarrowedFlow
 without_services ns f = filter (λ n. not (is_between f.from f.to n)) ns
 
--- the network with one flow less, and without its services
+-- The network with one fewer asked flow, and without its services.
 abbrev pub asking_less : Network → Flow → Network
 asking_less d f = record d {
   asked = record { size = d.asked.size; flows = without_flow d.asked.flows f };
   services = without_services d.services f;
 }
 
--- the words are the names of two hosts and the services of a flow between them that is not asked for already. A table that says
--- another version than 2 has no services
+-- The tokens are the names of two hosts and the services of a flow between them that is not asked for yet. A table of a version other than
+-- 2 has no services.
 pub record IsRightFlow (table : Members) (d : Network) (words : List (List ℕ)) (f : Flow) (ss : List Service) : Type 0 where
   pub from : List ℕ
   pub to : List ℕ
@@ -46,7 +46,7 @@ pub record IsRightFlow (table : Members) (d : Network) (words : List (List ℕ))
   pub few : length texts ≤ service_limit
   pub version : (texts ≡ []) ⊎ IsTrue (says_second (version_said table))
 
--- a flow that is asked for, by the names of its hosts
+-- An asked flow, given by the names of its hosts.
 pub record IsAskedFlow (d : Network) (from to : List ℕ) (f : Flow) : Type 0 where
   pub is_from : host_named d.hosts from ≡ Some f.from
   pub is_to : host_named d.hosts to ≡ Some f.to

@@ -3,7 +3,7 @@ use Rattle.std.specs.List.{list_all}
 use Rattle.std.specs.Str.{is_utf8}
 use Rattle.edit_core.proofs.line.read_texts.Given as goal
 
--- the words so far are texts, and were put
+-- The tokens so far are valid UTF-8, and were appended.
 abbrev pub invariant-loop-word : goal.invariant-loop-word
 invariant-loop-word l = record {
   texts : list_all is_utf8 l.fn.words ≡ list_all is_utf8 l.words;

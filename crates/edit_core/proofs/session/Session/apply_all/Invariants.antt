@@ -5,7 +5,7 @@ use Rattle.edit_core.specs.declared.summary.Summary.{Summary}
 use Rattle.edit_core.specs.inner.EditView.{edit_view}
 use Rattle.edit_core.proofs.session.Session.apply_all.Given as goal
 
--- what is left leads from here to where all lead from the start, and what is told of it goes behind what was told
+-- The remaining edits lead from here to where all edits lead from the start, and their summaries follow those so far.
 abbrev pub invariant-loop-edit : goal.invariant-loop-edit
 invariant-loop-edit l = record {
   led : after_edits (map edit_view (take l.edit-index l.edits)) (table_of l.fn.self) ≡ Ok (table_of l.self);

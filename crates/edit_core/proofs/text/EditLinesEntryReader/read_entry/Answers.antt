@@ -13,11 +13,11 @@ use Rattle.edit_core.specs.inner.EditView.{change_view}
 use Rattle.edit_core.specs.inner.EditsAnswers.{Says}
 use Rattle.edit_core.proofs.text.EditLinesEntryReader.read_entry.Goals as goal
 
--- a line that is read tells its edit
+-- A line that is parsed encodes its edit.
 told : (n : ℕ) (line : List ℕ) (e : Edit) (c : Change) → e ≡ record { line = n; change = c } → change_of line ≡ Ok c → edits_text.Tells n line e
 told n line e c made read = subst (λ (x : Edit). edits_text.Tells n line x) (sym made) (refl, change_told line c read)
 
--- one that tells none is refused for that reason
+-- A line that encodes no edit is rejected for that reason.
 unread : (n : ℕ) (before : List Edit) (line : List ℕ) (fault : LineFault ListWhy) → Says (change_of line) (Err fault)
     → HasReason (IsBad edits_text n before line) fault
 unread n before line (Bad why) said = refused_is_bad n before line why said
