@@ -1,4 +1,4 @@
--- Flows that were asked for and are not permitted, and what their blame rests on.
+-- Flows that are asked for and not permitted, and the preconditions of their blame.
 use Rattle.std.proofs.Common.{◌≡◌, ℕ, List, sym, subst}
 use Rattle.std.specs.Prelude.{IsTrue, IsFalse}
 use Rattle.net_core.specs.Network.{Network}
@@ -14,7 +14,7 @@ use Rattle.report_core.specs.inner.Trying.{AreTriedOn}
 use Rattle.permit_core.specs.inner.Trials.{AreTried}
 use Rattle.net_core.specs.Policies.{Policy, IsPolicyOf, MeetsAll, holds_on}
 
--- a flow between the hosts is one in a set that was read
+-- A flow between the hosts is a flow of a set that was read.
 pub IsFlow-in : (n : ℕ) (f : Flow) (read kept : SetOfFlows) → read ≡ kept → kept.size ≡ n → IsFlow n f → IsFlow read.size f
 IsFlow-in n f read kept same sized is_flow =
     subst (λ (s : SetOfFlows). IsFlow s.size f) (sym same) (subst (λ m. IsFlow m f) (sym sized) is_flow)
@@ -30,7 +30,7 @@ denied d policy f invs read is_policy same_invs same wanted left_out =
     subst (λ (xs : List AnyInv). IsDenied (AllHold holds_on xs) read.flows f) (sym same_invs)
     (subst (λ (s : SetOfFlows). IsDenied (MeetsAll d) s.flows f) (sym same) found)
 
--- what is read of the network and its policy is what they have
+-- The network and the policy that were read have the same content.
 pub held : (d : Network) (policy : Policy) (invs : List AnyInv) (read : SetOfFlows) → IsPolicyOf d policy → invs ≡ d.invariants → read ≡ policy.permitted → AllHold holds_on invs read.flows
 held d policy invs read is_policy same_invs same =
     subst (λ (xs : List AnyInv). AllHold holds_on xs read.flows) (sym same_invs)

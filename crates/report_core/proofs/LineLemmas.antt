@@ -1,4 +1,4 @@
--- How long the pieces of a refusal's line are.
+-- The length of the parts of a refusal's line.
 use Rattle.std.proofs.Common.{◌≡◌, ◌≢◌, ℕ, true, false, ◌==◌, zero, suc, ◌+◌, ◌<◌, ◌≤◌, ◌^◌, refl, List, [], ◌∷◌, ◌++◌, length, arith, length-append}
 use Rattle.std.specs.Prelude.{codes, decimal}
 use Rattle.std.proofs.lemmas.Bool.{eqb-true}
@@ -12,7 +12,7 @@ use Rattle.report_core.specs.RefusalLine.{cause_text, if_named, if_told, place_t
 pub decimal_short : (n : ℕ) → n < 2 ^ 64 → length (decimal n) ≤ 20
 decimal_short n fits = length-decimal-le 20 n (omega arith) (omega (arith, fits)) fits
 
--- a number that is told, and a name
+-- A number that is printed, and a name.
 pub told : (word : List ℕ) (n : ℕ) → n ≢ 0 → if_told word n ≡ word ++ decimal n
 told word zero some = absurd (some refl)
 told word (suc k) some = refl
@@ -66,7 +66,7 @@ cause_short why fits = simp length-append (omega (arith, decimal_short (number w
 pub numbered_short : (word : List ℕ) (n : ℕ) → n < 2 ^ 64 → length (word ++ decimal n) ≤ length word + 20
 numbered_short word n fits = simp length-append (omega (arith, decimal_short n fits))
 
--- the pieces of a refusal's line are short, so the line is
+-- The parts of a refusal's line are short, so the line is.
 pub record IsShort (r : Refusal) : Type 0 where
   pub cause : length (cause_text r.why) ≤ 36
   pub place : length (place_text r.place) ≤ 58

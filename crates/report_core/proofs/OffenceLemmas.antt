@@ -1,4 +1,4 @@
--- The report of the invariants, told so far.
+-- The report on the invariants so far.
 use Rattle.std.proofs.Common.{◌≡◌, ℕ, suc, ◌+◌, ◌<◌, ◌≤◌, Bool, not, ◌&&◌, List, [], ◌∷◌, ◌++◌, Option, length, take, drop, get_or, refl, sym, ◌∙◌, ap, subst, append_assoc, append-nil, add-one, drop-cons}
 use Rattle.std.specs.List.{flat_map, zip}
 use Rattle.std.specs.Prelude.{◌↔◌, IsTrue, IsNone, is_some}
@@ -15,12 +15,12 @@ use Rattle.permit_core.specs.Policy.{AllHold}
 use Rattle.net_core.specs.Policies.{holds_on}
 use Rattle.report_core.specs.CheckReport.{IsOffence, AreOffences, offence_text, IsCheckReport}
 
--- what is told of invariants, the first of which has this number
+-- The report on invariants, the first of which has this number.
 abbrev pub text_from : List Host → ℕ → List AnyInv → List (Option (List Flow)) → List ℕ
 text_from hosts number invs offences =
     flat_map (λ (told : Numbered AnyInv × Option (List Flow)). offence_text hosts told.0.number told.0.what told.1) (zip (numbered_from number invs) offences)
 
--- with what is told of the invariants that are left, from a number on, the text is the report
+-- The text followed by the report on the remaining invariants, from a number on, is the report.
 abbrev pub GoesOn : Network → List ℕ → ℕ → List AnyInv → Type 0
 GoesOn d text number left = (rest : List (Option (List Flow))) → AreOffences left d.asked.flows rest → IsCheckReport d (text ++ text_from d.hosts number left rest)
 
@@ -44,7 +44,7 @@ goes_end d text number left done so_far =
 
 -- ---- whether every invariant holds
 
--- an invariant more holds where it is not offended
+-- One more invariant holds if it has no finding.
 pub held_next : (invs : List AnyInv) (i : ℕ) (inv : AnyInv) (asked read : SetOfFlows) (held none : Bool) (found : Option SetOfFlows) → i < length invs → inv ≡ get_or invs i inv → read ≡ asked → is_some found ≡ not none → (IsNone found ↔ holds_on inv read.flows) → (IsTrue held → AllHold holds_on (take i invs) asked.flows) → IsTrue (held && none) → AllHold holds_on (take (i + 1) invs) asked.flows
 held_next invs i inv asked read held none found within is same told holds so_far both =
     let parts = and_parts held none both in
@@ -52,7 +52,7 @@ held_next invs i inv asked read held none found within is same told holds so_far
     All-more (λ x. holds_on x asked.flows) invs i inv within (so_far parts.0)
     (subst (λ (x : AnyInv). holds_on x asked.flows) is (subst (λ (s : SetOfFlows). holds_on inv s.flows) same here))
 
--- where all hold, none is offended
+-- If all hold, none has a finding.
 pub all_next : (invs : List AnyInv) (i : ℕ) (inv : AnyInv) (asked read : SetOfFlows) (held none : Bool) (found : Option SetOfFlows) → i < length invs → inv ≡ get_or invs i inv → read ≡ asked → is_some found ≡ not none → (IsNone found ↔ holds_on inv read.flows) → IsTrue held → AllHold holds_on invs asked.flows → IsTrue (held && none)
 all_next invs i inv asked read held none found within is same told holds so_far all =
     let here : holds_on inv asked.flows = subst (λ (x : AnyInv). holds_on x asked.flows) (sym is) (all i inv within) in

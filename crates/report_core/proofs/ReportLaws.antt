@@ -1,5 +1,5 @@
--- Laws of reports: a network has one of each kind, so that the text is decided by the description; and what is told of an invariant mends
--- it.
+-- Lemmas on reports: a network has one report of each kind, so the description determines the text; and removing the flows in a finding
+-- restores the invariant.
 use Rattle.std.proofs.Common.{◌≡◌, ℕ, zero, suc, ◌<◌, List, [], ◌∷◌, Option, None, Some, inl, inr, take, length, refl, sym, ◌∙◌, ap, subst, arith}
 use Rattle.std.specs.List.{AllZip}
 use Rattle.std.specs.Prelude.{◌↔◌, IfSome, IsNone, option_map, slice_get}
@@ -29,7 +29,8 @@ offence_is_one Holds asked (Some xs) None a b = absurd (a.0 b)
 offence_is_one Holds asked (Some xs) (Some ys) (fails, (first, is_first, rest)) (fails', (first', is_first', rest')) =
     ap Some (rest ∙ ap (without asked) (first_unique Holds asked first first' is_first is_first') ∙ sym rest')
 
--- what is told of an invariant that fails is a minimal offending set: the invariant holds without these flows, and none of them can stay
+-- The finding for an invariant that fails is a minimal offending set: the invariant holds without these flows, and none of them can be
+-- retained.
 pub offence_is_minimal : (Holds : List Flow → Type 0) (asked offending : List Flow) → IsOrdered asked
     → IsOffence Holds asked (Some offending) → IsMinimalOffending Holds asked offending
 offence_is_minimal Holds asked offending ordered (fails, (first, is_first, rest)) =
@@ -39,7 +40,7 @@ found_by_cases : (Holds : List Flow → Type 0) (asked : List Flow) (found : Opt
 found_by_cases Holds asked None holds rest = holds.0 refl
 found_by_cases Holds asked (Some f) holds rest = (λ met. absurd (false≢true (sym (holds.1 met))), rest)
 
--- what was found of an invariant on the flows that were read is what is told of it on the asked flows
+-- The finding for an invariant on the flows that were read is the finding on the asked flows.
 pub offence_found : (Holds : List Flow → Type 0) (asked read : SetOfFlows) (found : Option SetOfFlows) → read ≡ asked → (IsNone found ↔ Holds read.flows) → IfSome found (λ f. (first : List Flow) × IsFirst Holds read.flows first × (f.flows ≡ without read.flows first)) → IsOffence Holds asked.flows (option_map (λ set. set.flows) found)
 offence_found Holds asked read found same holds rest =
     subst (λ (s : SetOfFlows). IsOffence Holds s.flows (option_map (λ set. set.flows) found)) same (found_by_cases Holds read.flows found holds rest)
@@ -56,7 +57,7 @@ check_report_is_one d a b p q =
 
 -- ---- the report of the policy
 
--- what stands earlier than a place stands in the front up to it
+-- An element before an index is in the prefix up to it.
 in_front : {X : Type 0} → (xs : List X) (n m : ℕ) (x : X) → n < m → slice_get xs n ≡ Some x → slice_get (take m xs) n ≡ Some x
 in_front [] n m x early there = cc
 in_front (y ∷ ys) zero zero x early there = absurd (omega arith)
@@ -64,14 +65,14 @@ in_front (y ∷ ys) zero (suc m) x early there = there
 in_front (y ∷ ys) (suc n) zero x early there = absurd (omega arith)
 in_front (y ∷ ys) (suc n) (suc m) x early there = in_front ys n m x (omega arith) there
 
--- no invariant fails before the first that does
+-- No invariant fails before the first that does.
 none_earlier : {X : Type 0} (HoldsOn : X → List Flow → Type 0) (invs : List X) (e : List Flow) (n m : ℕ)
     → IsFirstFailing HoldsOn invs e n → IsFirstFailing HoldsOn invs e m → n < m → ⊥
 none_earlier HoldsOn invs e n m a b early =
     let there : slice_get (take m invs) n ≡ Some a.inv = in_front invs n m a.inv early a.place in
     a.fails (subst (λ inv. HoldsOn inv e) (get_or_from_slice_get (take m invs) n a.inv a.inv there) (b.earlier n a.inv (slice_get_within (take m invs) n a.inv there)))
 
--- the first invariant that fails has one number
+-- The first invariant that fails has a unique number.
 first_failing_is_one : {X : Type 0} (HoldsOn : X → List Flow → Type 0) (invs : List X) (e : List Flow) (n m : ℕ)
     → IsFirstFailing HoldsOn invs e n → IsFirstFailing HoldsOn invs e m → n ≡ m
 first_failing_is_one HoldsOn invs e n m a b = elim (cases_lt n m) [

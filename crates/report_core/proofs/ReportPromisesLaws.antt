@@ -1,4 +1,4 @@
--- Each report of a network keeps what is promised of it.
+-- Each report of a network has its guarantees.
 use Rattle.std.proofs.Common.{ℕ, List, [], ◌∷◌, Option, None, Some, length, refl}
 use Rattle.std.specs.List.{list_any}
 use Rattle.std.specs.Prelude.{IsTrue, is_some}

@@ -1,4 +1,4 @@
--- Texts that tell what becomes of flows, put together.
+-- Concatenation of texts that report the status of flows.
 use Rattle.std.proofs.Common.{◌≡◌, ℕ, zero, suc, ◌+◌, length, List, [], ◌∷◌, ◌++◌, inl, inr, refl, sym, ◌∙◌, ap, subst, arith, append_assoc, append-nil, add-one}
 use Rattle.std.specs.List.{AllZip, flat_map, range_with_len}
 use Rattle.std.specs.Prelude.{IsTrue}
@@ -17,14 +17,14 @@ use Rattle.report_core.specs.PolicyReport.{IsPolicyReport, IsRuling, ruling_line
 use Rattle.report_core.specs.inner.RulingView.{IsWithin}
 use Rattle.report_core.specs.inner.Rulings.{IsFound, TellsRulings}
 
--- a ruling by an invariant names one that is there
+-- The number of a denying invariant is valid.
 pub is_within : (d : Network) (policy : Policy) (f : Flow) (r : Ruling) → IsFound d policy f r → IsWithin (length d.invariants) r
 is_within d policy f Answered is = tt
 is_within d policy f Allowed is = tt
 is_within d policy f NotAsked is = tt
 is_within d policy f (Denied k) is = slice_get_within d.invariants k is.2.inv is.2.place
 
--- a flow whose answers may pass is permitted, and a permitted one was asked for
+-- A flow whose answers may pass is permitted, and a permitted flow is asked for.
 record Nests (d : Network) (policy : Policy) : Type 0 where
   permitted : (f : Flow) → IsTrue (has policy.stateful.flows f) → IsTrue (has policy.permitted.flows f)
   asked : (f : Flow) → IsTrue (has policy.permitted.flows f) → IsTrue (has d.asked.flows f)
@@ -63,7 +63,7 @@ ruling_by d policy f (Denied k) n is = record {
       subst (IsFirstFailing holds_on d.invariants (with_flow policy.permitted.flows f)) same is.2;
 }
 
--- what is found of a flow is its ruling
+-- The facts about a flow determine its status.
 pub ruling_found : (d : Network) (policy : Policy) (f : Flow) (r : Ruling) → IsPolicyOf d policy → IsFound d policy f r → IsRuling d policy f r
 ruling_found d policy f r is_policy = ruling_by d policy f r (nests d policy is_policy)
 
@@ -98,7 +98,7 @@ grows_by_one d policy f r old new is_ruling written = record {
 pub one_flow : (from to : ℕ) → (from ≡ to → ⊥) → flow_or_none from to ≡ record { from = from; to = to } ∷ []
 one_flow from to differ = grind (arith, nat_tests)
 
--- some flows, and then some more
+-- Some flows, and then some more.
 pub grows_on : (d : Network) (policy : Policy) (fs gs : List Flow) (old mid new : List ℕ) → Grows (TellsRulings d policy fs) old mid → Grows (TellsRulings d policy gs) mid new → Grows (TellsRulings d policy (fs ++ gs)) old new
 grows_on d policy fs gs old mid new p q = record {
   piece = p.piece ++ q.piece;
@@ -114,7 +114,7 @@ flat_map_last f a (suc n) =
     ∙ sym (append_assoc (f a) rest (f (a + 1 + n)))
     ∙ ap (λ k. (f a ++ rest) ++ f k) (omega arith)
 
--- the flows of one number more
+-- The flows of one more number.
 pub flat_map_next : (f : ℕ → List Flow) (n : ℕ) → flat_map f (range_with_len 0 (n + 1)) ≡ flat_map f (range_with_len 0 n) ++ f n
 flat_map_next f n = rw (add-one n) (flat_map_last f 0 n ∙ ap (λ k. flat_map f (range_with_len 0 n) ++ f k) (omega arith))
 
@@ -122,7 +122,7 @@ pub grows_next : (d : Network) (policy : Policy) (f : ℕ → List Flow) (n : �
 grows_next d policy f n old mid new p q =
     subst (λ (flows : List Flow). Grows (TellsRulings d policy flows) old new) (sym (flat_map_next f n)) (grows_on d policy (flat_map f (range_with_len 0 n)) (f n) old mid new p q)
 
--- a text that tells of every flow is the report
+-- A text that reports every flow is the report.
 pub is_report : (d : Network) (policy : Policy) (old text : List ℕ) → IsPolicyOf d policy → old ≡ [] → Grows (TellsRulings d policy (every_flow (length d.hosts))) old text → IsPolicyReport d text
 is_report d policy old text is_policy empty grown = record {
   policy = policy;

@@ -1,4 +1,4 @@
--- One event more of a text that tells a run.
+-- One more event of a text that reports a run.
 use Rattle.std.proofs.Common.{◌≡◌, ℕ, ◌+◌, Bool, List, [], ◌∷◌, ◌++◌, Option, Some, None, sym, ap, subst, ◌∙◌, append_assoc}
 use Rattle.std.proofs.lemmas.List.{append-nil}
 use Rattle.std.specs.List.{flat_map}
@@ -15,11 +15,12 @@ use Rattle.pkt_core.specs.Firewall.{Filter}
 use Rattle.pkt_core.specs.Tracking.{Kept, Runs, after_forget, after_seen, nothing_kept, state_of}
 use Rattle.report_core.specs.Trace.{IsTrace, answer_line}
 
--- the lines of answers, the first of which is that of event k
+-- The lines of results, the first of which is that of event k.
 abbrev lines_from : ℕ → List (Option Bool) → List ℕ
 lines_from k answers = flat_map (λ (told : Numbered (Option Bool)). answer_line told.number told.what) (numbered_from k answers)
 
--- whatever run is left over these events, the text and its lines, from that of event k on, are those of the whole run
+-- For every run over the remaining events, the text followed by its lines, from that of event k on, has the lines of
+-- the whole run.
 abbrev pub Leaves : Filter → List Event → Kept → List Event → ℕ → List ℕ → Type 0
 Leaves filter all kept events k text = (rest : List (Option Bool)) → Runs filter kept events rest → IsTrace filter all (text ++ lines_from k rest)
 
@@ -39,13 +40,13 @@ pub leaves_none : (filter : Filter) (all : List Event) (kept : Kept) (events : L
 leaves_none filter all kept events k text none left =
     subst (IsTrace filter all) (append-nil text) (left [] (subst (λ (es : List Event). Runs filter kept es []) (sym none) tt))
 
--- ---- filters that keep no connections
+-- ---- stateless filters
 
--- the answers do not depend on the state
+-- The results do not depend on the state.
 abbrev IsStateless : Filter → Type 0
 IsStateless filter = (s t : CtState) (p : Packet) (passes : Bool) → filter s p passes → filter t p passes
 
--- so a run goes from whatever connections are kept
+-- So a run exists from every connection table.
 runs_anyhow : (filter : Filter) → IsStateless filter → (kept now : Kept) (events : List Event) (answers : List (Option Bool))
     → Runs filter kept events answers → Runs filter now events answers
 runs_anyhow filter same kept now [] [] run = tt

@@ -1,5 +1,5 @@
--- Where a filter gives each packet one answer at most, a run has one answer at each place, and so one text. Of which packets
--- that is known is left open: chains answer once for all packets, flow tables for those whose numbers fit a header.
+-- If a filter has at most one result for each packet, a run has one result at each index, and so one text. The set of packets is a
+-- parameter: chains have one result for all packets, flow tables for those whose numbers fit a header.
 use Rattle.std.proofs.Common.{◌≡◌, ℕ, zero, suc, Bool, true, false, List, [], ◌∷◌, Option, Some, None, refl, ap, sym, subst, ◌∙◌}
 use Rattle.host_net.specs.declared.packet.Packet.{Packet}
 use Rattle.host_net.specs.declared.packet.CtState.{CtState}
@@ -19,7 +19,7 @@ use Rattle.pkt_core.specs.Firewall.{Filter}
 use Rattle.pkt_core.specs.Tracking.{Kept, Runs, after_seen, after_forget, nothing_kept}
 use Rattle.report_core.specs.Trace.{IsTrace, TellsRun, answer_lines}
 
--- a known packet in a state has one answer at most
+-- A known packet in a state has at most one result.
 abbrev pub AnswersOnce : (Packet → Type 0) → Filter → Type 0
 AnswersOnce Known filter = (state : CtState) (p : Packet) (a b : Bool) → Known p → filter state p a → filter state p b → a ≡ b
 
@@ -69,13 +69,13 @@ module _ (Known : Packet → Type 0) (filter : Filter) (once : AnswersOnce Known
   runs_once kept (Forget p ∷ events) known (None ∷ answers) [] run other = absurd other
   runs_once kept (Forget p ∷ events) known (None ∷ answers) (Some b ∷ others) run other = absurd other
 
-  -- the text is one
+  -- The text is unique.
   pub trace_is_one : (events : List Event) → AllKnown Known events → (a b : List ℕ) → IsTrace filter events a
       → IsTrace filter events b → a ≡ b
   trace_is_one events known a b p q =
       p.written ∙ ap answer_lines (runs_once nothing_kept events known p.answers q.answers p.run q.run) ∙ sym q.written
 
-  -- and so it says the one run
+  -- So it reports the only run.
   pub tells_run : (events : List Event) → AllKnown Known events → (text : List ℕ) → IsTrace filter events text → TellsRun filter events text
   tells_run events known text is = record {
     is = is;

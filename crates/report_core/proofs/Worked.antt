@@ -1,4 +1,4 @@
--- Worked texts: what is printed of given refusals, offences and rulings.
+-- Test vectors: the texts of given refusals, findings and statuses.
 use Rattle.std.specs.Fmt.{digits}
 use Rattle.std.specs.Prelude.{◌≡◌, ℕ, true, false, List, [], ◌∷◌, ◌++◌, length, None, Some, map, codes, refl}
 use Rattle.net_core.specs.Network.{Network}
@@ -19,7 +19,7 @@ use Rattle.report_core.specs.RefusalLine.{refusal_text, cause_text, place_text}
 
 -- ---- lines of refusals
 
--- a refusal, and its line after the program's name
+-- A refusal, and its line after the program's name.
 record Row : Type 0 where
   refusal : Refusal
   line : List ℕ
@@ -63,17 +63,17 @@ named names = map host names
 abbrev flow : ℕ → ℕ → Flow
 flow from to = record { from = from; to = to }
 
--- two invariants, each of which one flow offends
+-- Two invariants, each of which one flow violates.
 offences_are_told : check_text (named (codes "a" ∷ codes "b" ∷ codes "c" ∷ [])) (Dependability [] ∷ NoReach [] ∷ []) (Some (flow 1 2 ∷ []) ∷ Some (flow 0 1 ∷ []) ∷ []) ≡ codes "invariant 1 dependability fails\n  b -> c\ninvariant 2 noreach fails\n  a -> b\n"
 unfolding digits invariant_text flow_text offending_line
 offences_are_told = refl
 
--- an invariant that two flows offend, after one that holds
+-- An invariant that two flows violate, after one that holds.
 some_offences_are_told : check_text (named (codes "a" ∷ codes "b" ∷ codes "c" ∷ codes "u" ∷ [])) (Sink [] ∷ NonInterference [] ∷ []) (None ∷ Some (flow 1 3 ∷ flow 3 2 ∷ []) ∷ []) ≡ codes "invariant 1 sink ok\ninvariant 2 noninterference fails\n  b -> u\n  u -> c\n"
 unfolding digits invariant_text flow_text offending_line
 some_offences_are_told = refl
 
--- hosts under invariants
+-- Hosts with invariants.
 abbrev network : List (List ℕ) → List AnyInv → Network
 network names invariants = record {
   hosts = named names;
@@ -84,12 +84,12 @@ network names invariants = record {
   invariants = invariants;
 }
 
--- every ruling but one
+-- Every status except one.
 rulings_are_told : policy_text (network (codes "db" ∷ codes "web" ∷ codes "log" ∷ []) (Blp [] ∷ [])) (every_flow 3) (Answered ∷ Denied 0 ∷ Answered ∷ Denied 0 ∷ Allowed ∷ Allowed ∷ []) ≡ codes "db -> web allowed with answers\ndb -> log denied by 1 blp\nweb -> db allowed with answers\nweb -> log denied by 1 blp\nlog -> db allowed\nlog -> web allowed\n"
 unfolding digits every_flow ruling_line flow_text invariant_text
 rulings_are_told = refl
 
--- the rulings of two hosts under two invariants, the second of which denies
+-- The statuses for two hosts with two invariants, the second of which denies.
 other_rulings_are_told : policy_text (network (codes "web" ∷ codes "db" ∷ []) (Blp [] ∷ Sink [] ∷ [])) (every_flow 2) (Denied 1 ∷ NotAsked ∷ []) ≡ codes "web -> db denied by 2 sink\ndb -> web not asked for\n"
 unfolding digits every_flow ruling_line flow_text invariant_text
 other_rulings_are_told = refl

@@ -1,8 +1,8 @@
--- Laws of lists of which each element goes with its own.
+-- Lemmas on lists whose elements correspond pairwise.
 use Rattle.std.proofs.Common.{◌≡◌, List, [], ◌∷◌, refl}
 use Rattle.std.specs.List.{AllZip}
 
--- where an element has one partner at most, so has a list
+-- If an element has at most one partner, so does a list.
 pub zip_once : {A B : Type 0} (R : A → B → Type 0) → ((x : A) (y z : B) → R x y → R x z → y ≡ z) → (xs : List A) (ys zs : List B)
     → AllZip R xs ys → AllZip R xs zs → ys ≡ zs
 zip_once R once [] [] [] a b = refl

@@ -1,4 +1,4 @@
--- The report of `check` (docs/TEXTS.md): for each invariant whether it holds on the asked flows, and if not, which flows offend it.
+-- The report of `check` (docs/TEXTS.md): for each invariant whether it holds on the asked flows, and if not, its offending flows.
 use Rattle.std.specs.Prelude.{◌≡◌, ℕ, List, ◌++◌, flat_map, Option, None, Some, codes}
 use Rattle.std.specs.List.{AllZip, zip}
 use Rattle.text_core.specs.Firsts.{Numbered, numbered}
@@ -11,32 +11,32 @@ use Rattle.inv_any.specs.declared.any_inv.AnyInv.{AnyInv}
 use Rattle.net_core.specs.Policies.{holds_on}
 use Rattle.report_core.specs.Names.{flow_text, invariant_text}
 
--- what is told of an invariant: nothing where it holds on the flows, else the flows outside the first subset of them on which it holds
+-- The finding for an invariant: nothing if it holds on the flows, otherwise the flows outside the first subset of them on which it holds.
 abbrev pub IsOffence : (List Flow → Type 0) → List Flow → Option (List Flow) → Type 0
 IsOffence Holds asked None = Holds asked
 IsOffence Holds asked (Some offending) =
     (Holds asked → ⊥) × ((first : List Flow) × IsFirst Holds asked first × (offending ≡ without asked first))
 
--- for each invariant in turn
+-- The finding for each invariant, in order.
 abbrev pub AreOffences : List AnyInv → List Flow → List (Option (List Flow)) → Type 0
 AreOffences invs asked = AllZip (λ inv. IsOffence (holds_on inv) asked) invs
 
--- a flow on a line of its own
+-- The line of an offending flow.
 unfoldable pub offending_line : List Host → Flow → List ℕ
 offending_line hosts f = codes "  " ++ (flow_text hosts f ++ codes "\n")
 
--- one line where the invariant holds; else one that says so, and one for each offending flow
+-- One line if the invariant holds; otherwise one line that states the failure, and one for each offending flow.
 abbrev pub offence_text : List Host → ℕ → AnyInv → Option (List Flow) → List ℕ
 offence_text hosts number inv None = codes "invariant " ++ (invariant_text number inv ++ codes " ok\n")
 offence_text hosts number inv (Some offending) =
     codes "invariant " ++ (invariant_text number inv ++ (codes " fails\n" ++ flat_map (offending_line hosts) offending))
 
--- of all invariants, by their numbers
+-- The report on all invariants, by their numbers.
 abbrev pub check_text : List Host → List AnyInv → List (Option (List Flow)) → List ℕ
 check_text hosts invs offences =
     flat_map (λ (told : Numbered AnyInv × Option (List Flow)). offence_text hosts told.0.number told.0.what told.1) (zip (numbered invs) offences)
 
--- the text is the report of the network
+-- The text is the report of the network.
 pub record IsCheckReport (d : Network) (text : List ℕ) : Type 0 where
   pub offences : List (Option (List Flow))
   pub found : AreOffences d.invariants d.asked.flows offences

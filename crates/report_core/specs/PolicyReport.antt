@@ -1,4 +1,4 @@
--- The report of `policy` (docs/TEXTS.md): for each flow between two hosts what becomes of it, and why.
+-- The report of `policy` (docs/TEXTS.md): the status of each flow between two hosts, and the reason.
 use Rattle.std.specs.Prelude.{◌≡◌, ◌⊎◌, ◌↔◌, ℕ, ◌+◌, List, [], ◌++◌, flat_map, length, slice_get, codes, IsTrue, IsFalse}
 use Rattle.std.specs.List.{AllZip, zip}
 use Rattle.std.specs.Option.{option_map_or}
@@ -11,38 +11,38 @@ use Rattle.permit_core.specs.Policy.{IsFirstFailing}
 use Rattle.net_core.specs.Policies.{Policy, IsPolicyOf, holds_on}
 use Rattle.report_core.specs.Names.{flow_text, invariant_text}
 
--- what becomes of a flow: it is permitted and so are its answers, it is permitted but its answers are not, nobody asked for it,
--- or the invariant of this number, from 0, denies it
+-- The status of a flow: it is permitted and so are its answers; it is permitted but its answers are not; it is not asked for; or the
+-- invariant with this number, from 0, denies it.
 pub data Ruling : Type 0 where
   Answered : Ruling
   Allowed : Ruling
   NotAsked : Ruling
   Denied : (number : ℕ) → Ruling
 
--- A flow is told as allowed exactly where the policy permits it, with answers exactly where they may pass, and as not asked for exactly
--- where nobody asked for it.
--- The invariant that denies a flow is the first that fails on the permitted flows with this one.
+-- A flow is reported as allowed if and only if the policy permits it, with answers if and only if they may pass, and as not asked for if
+-- and only if it is not an asked flow. The invariant that denies a flow is the first that fails on the permitted flows with this one.
 pub record IsRuling (d : Network) (policy : Policy) (f : Flow) (ruling : Ruling) : Type 0 where
   pub allowed : ((ruling ≡ Answered) ⊎ (ruling ≡ Allowed)) ↔ IsTrue (has policy.permitted.flows f)
   pub answered : (ruling ≡ Answered) ↔ IsTrue (has policy.stateful.flows f)
   pub not_asked : (ruling ≡ NotAsked) ↔ IsFalse (has d.asked.flows f)
   pub denied : (number : ℕ) → ruling ≡ Denied number → IsFirstFailing holds_on d.invariants (with_flow policy.permitted.flows f) number
 
--- the ruling in words; invariants are counted from 1
+-- The status in words. Invariants are numbered from 1.
 abbrev pub ruling_text : List AnyInv → Ruling → List ℕ
 ruling_text invs Answered = codes "allowed with answers"
 ruling_text invs Allowed = codes "allowed"
 ruling_text invs NotAsked = codes "not asked for"
 ruling_text invs (Denied number) = codes "denied by " ++ option_map_or (invariant_text (number + 1)) (slice_get invs number) []
 
+-- The line of a flow, with its status.
 unfoldable pub ruling_line : Network → Flow → Ruling → List ℕ
 ruling_line d f r = flow_text d.hosts f ++ (codes " " ++ (ruling_text d.invariants r ++ codes "\n"))
 
--- a line for each flow
+-- A line for each flow.
 abbrev pub policy_text : Network → List Flow → List Ruling → List ℕ
 policy_text d flows rulings = flat_map (λ (told : Flow × Ruling). ruling_line d told.0 told.1) (zip flows rulings)
 
--- the text is the report of the network: it tells of every flow between two hosts
+-- The text is the report of the network: it covers every flow between two hosts.
 pub record IsPolicyReport (d : Network) (text : List ℕ) : Type 0 where
   pub policy : Policy
   pub is_policy : IsPolicyOf d policy

@@ -1,4 +1,4 @@
--- The line that tells a refusal of a description (docs/FORMATS.md).
+-- The line that reports a refusal of a description (docs/FORMATS.md).
 use Rattle.std.specs.Prelude.{ℕ, zero, suc, List, [], ◌∷◌, ◌++◌, codes, decimal}
 use Rattle.desc_form.specs.declared.refusal.Place.{Place}
 use Rattle.desc_form.specs.declared.refusal.Place.TheVariants.{Document, Host, Invariant, Assign, FlowAt, Template}
@@ -6,6 +6,7 @@ use Rattle.desc_form.specs.declared.refusal.Refusal.{Refusal}
 use Rattle.desc_form.specs.declared.refusal.Why.{Why}
 use Rattle.desc_form.specs.Refusals.{number, name}
 
+-- A place in words.
 unfoldable pub place_text : Place → List ℕ
 place_text Document = codes "document"
 place_text (Host k) = codes "host " ++ decimal k
@@ -14,21 +15,21 @@ place_text (Assign k m) = codes "invariant " ++ (decimal k ++ (codes " assign " 
 place_text (FlowAt k) = codes "flow " ++ decimal k
 place_text (Template k) = codes "template " ++ decimal k
 
--- a number after a word, where there is one
+-- A number after a word, if there is one.
 abbrev pub if_told : List ℕ → ℕ → List ℕ
 if_told word zero = []
 if_told word (suc k) = word ++ decimal (suc k)
 
--- a name after a colon, where there is one
+-- A name after a colon, if there is one.
 abbrev pub if_named : List ℕ → List ℕ
 if_named [] = []
 if_named (b ∷ bs) = codes ": " ++ b ∷ bs
 
--- a cause by its number and its name: 11 HostBits
+-- A cause, by its number and its name: 11 HostBits.
 unfoldable pub cause_text : Why → List ℕ
 cause_text why = decimal (number why) ++ (codes " " ++ name why)
 
--- cause and place, then item, other and name where they are told
+-- The cause and the place, then item, other and name if they are present.
 unfoldable pub refusal_text : Refusal → List ℕ
 refusal_text r =
     codes "topos: description: "

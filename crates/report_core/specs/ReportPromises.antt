@@ -1,4 +1,4 @@
--- What an operator may rely on in a report. It follows from what the report is.
+-- The guarantees of a report to an operator. They follow from the definition of the report.
 use Rattle.std.specs.Prelude.{◌↔◌, ℕ, List, Option, IsTrue, IsSome, IfSome, is_some, length}
 use Rattle.std.specs.List.{AllZip, list_any}
 use Rattle.net_core.specs.Network.{Network}
@@ -13,13 +13,13 @@ use Rattle.report_core.specs.PolicyReport.{IsPolicyReport}
 
 -- ---- the report of `check`
 
--- An invariant is told to fail exactly where the asked flows break it, and the flows that are listed for it are a minimal offending set:
--- without them it holds, and with any one of them it does not.
+-- An invariant is reported to fail if and only if the asked flows violate it, and the flows that are listed for it are a minimal offending
+-- set: without them it holds, and with any one of them it does not.
 pub record TellsOffence (d : Network) (inv : AnyInv) (offence : Option (List Flow)) : Type 0 where
   pub broken : IsSome offence ↔ (holds_on inv d.asked.flows → ⊥)
   pub minimal : IfSome offence (IsMinimalOffending (holds_on inv) d.asked.flows)
 
--- The report tells of each invariant, in the order of the description, and where not all of them hold it names one that fails.
+-- The report covers each invariant, in the order of the description, and if not all of them hold it names one that fails.
 pub record TellsOffences (d : Network) (report : List ℕ) : Type 0 where
   pub is : IsCheckReport d report
   pub told : AllZip (TellsOffence d) d.invariants is.offences
@@ -27,9 +27,8 @@ pub record TellsOffences (d : Network) (report : List ℕ) : Type 0 where
 
 -- ---- the report of `policy`
 
--- The report tells of each flow between two hosts by one policy, the network's.
--- Its permitted flows meet every invariant, and are the greatest where all of them judge flows alone; with the answers to its stateful
--- flows it complies with every invariant.
+-- The report covers each flow between two hosts, for a single policy, that of the network. Its permitted flows satisfy every invariant, and
+-- are the greatest such set if all of them are edge-wise; with the answers to its stateful flows it complies with every invariant.
 pub record TellsPolicy (d : Network) (report : List ℕ) : Type 0 where
   pub is : IsPolicyReport d report
   pub every : IsFull (length d.hosts) (every_flow (length d.hosts))

@@ -14,7 +14,7 @@ use net_core::Description;
 use permit_core::offending_by_steps;
 use std::alloc::{AllocError, Global};
 
-/// The report, and whether every invariant holds on the asked flows.
+/// Returns the report, and whether all invariants hold.
 pub fn check_report(alloc: Global, description: &Description) -> Result<(Report, bool), AllocError>
     ensures report { IfOk result (λ made. IsCheckReport description.now made.0) }
     ensures holds { IfOk result (λ made. IsTrue made.1 ↔ MeetsAll description.now description.now.asked.flows) }
@@ -24,7 +24,7 @@ pub fn check_report(alloc: Global, description: &Description) -> Result<(Report,
     Ok((Report::of(text), holds))
 }
 
-// Puts what is told of each invariant into an empty text, and answers whether all of them hold.
+// Appends the finding for each invariant to an empty text, and returns whether all of them hold.
 fn push_offences(
     alloc: Global,
     text: &mut Vec<u8>,
@@ -45,7 +45,7 @@ fn push_offences(
     Ok(holds)
 }
 
-// Puts whether the invariant holds, and the flows that offend it if not.
+// Appends whether the invariant holds, and its offending flows if not.
 fn push_offence(
     text: &mut Vec<u8>,
     hosts: &Hosts,

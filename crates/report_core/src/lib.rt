@@ -1,5 +1,5 @@
-//! What is printed of a description: the report of its invariants, the report of its policy, and the
-//! line of a refusal; and what is printed of a run of rules over a list of events.
+//! The printed reports: on the invariants of a description, on its policy, and on a run of rules
+//! over a list of events; and the line of a refusal.
 #![tactic(auto)]
 
 mod check;

@@ -5,7 +5,7 @@ ghost use Rattle.report_core.specs.Trace.{answer_line};
 
 use std::alloc::AllocError;
 
-/// Puts the line of an event after a text: its number, and its answer in the run.
+/// Appends the line of an event: its number, and its result in the run.
 pub(crate) fn push_answer(
     text: &mut Vec<u8>,
     number: usize,
@@ -20,7 +20,7 @@ pub(crate) fn push_answer(
     }
 }
 
-/// Puts a number and the words behind it.
+/// Appends a number followed by words.
 pub fn push_numbered(text: &mut Vec<u8>, number: usize, words: &[u8]) -> Result<(), AllocError>
     ensures { OnOk result (text.new.items ≡ text.old.items ++ (decimal number ++ words.now)) }
 {

@@ -1,4 +1,4 @@
-//! The names of hosts, flows and invariants, put after a text.
+//! The names of hosts, flows and invariants, appended to a text.
 ghost use Rattle.std.specs.Prelude.{◌≡◌, ◌<◌, ◌++◌, length, OnOk};
 ghost use Rattle.report_core.specs.Names.{flow_text, host_name, invariant_text};
 
@@ -7,7 +7,7 @@ use host_net::Hosts;
 use inv_any::AnyInv;
 use std::alloc::AllocError;
 
-/// Puts a flow after a text, by the names of its hosts.
+/// Appends a flow to a text, by the names of its hosts.
 pub fn push_flow(text: &mut Vec<u8>, hosts: &Hosts, flow: Flow) -> Result<(), AllocError>
     requires from { flow.from < length hosts.now }
     requires to { flow.to < length hosts.now }

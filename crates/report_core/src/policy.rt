@@ -20,7 +20,7 @@ use net_core::{Description, Policy, policy_of};
 use permit_core::{blame_by_steps, trials_of};
 use std::alloc::{AllocError, Global};
 
-/// For each flow between two hosts what becomes of it, and why.
+/// Returns, for each flow between two hosts, its status and the reason.
 #[tactic(auto, using(crate::proofs::RulingLemmas::is_report))]
 pub fn policy_report(alloc: Global, description: &Description) -> Result<Report, AllocError>
     ensures report { IfOk result (λ made. IsPolicyReport description.now made) }
@@ -32,7 +32,7 @@ pub fn policy_report(alloc: Global, description: &Description) -> Result<Report,
     Ok(Report::of(text))
 }
 
-// Puts the lines of all flows. The trials have the permitted flows, before and afterwards.
+// Appends the lines of all flows. The trials have the permitted flows before and after the call.
 #[tactic(auto, unfolding(flow_set::specs::EveryFlow::every_flow))]
 fn push_rulings(
     text: &mut Vec<u8>,
@@ -51,7 +51,7 @@ fn push_rulings(
     Ok(())
 }
 
-// Puts the lines of the flows that one host sends.
+// Appends the lines of the flows that one host sends.
 fn push_rulings_from(
     text: &mut Vec<u8>,
     description: &Description,
@@ -72,7 +72,7 @@ fn push_rulings_from(
     Ok(())
 }
 
-// Puts the line of the flow, and nothing where both ends are the same host.
+// Appends the line of the flow; nothing if both ends are the same host.
 fn push_ruling_between(
     text: &mut Vec<u8>,
     description: &Description,
@@ -120,7 +120,7 @@ fn ruling_of(
     let invariants = description.invariants();
     match blame_by_steps(invariants, trials, policy.permitted(), flow) {
         Some(number) => Ruling::Denied(number),
-        // What is asked for and not permitted is denied by some invariant.
+        // Some invariant denies a flow that is asked for and not permitted.
         None => unreachable!(),
     }
 }
@@ -154,7 +154,7 @@ fn push_ruling(text: &mut Vec<u8>, invariants: &[AnyInv], ruling: Ruling) -> Res
     }
 }
 
-// Puts the invariant of a number, from 0, that denies a flow.
+// Appends the invariant with a number, from 0, that denies a flow.
 fn push_denial(text: &mut Vec<u8>, invariants: &[AnyInv], number: u16) -> Result<(), AllocError>
     requires { number < length invariants.now }
     ensures { OnOk result (text.new.items ≡ text.old.items ++ ruling_text invariants.now (meant.Denied number)) }

@@ -1,4 +1,4 @@
-//! The line of a refusal, written into a buffer and without memory.
+//! The line of a refusal, written into a buffer without allocation.
 ghost use Rattle.std.specs.Prelude.{◌≡◌, ◌≤◌, ◌++◌, ◌+◌, length, take, decimal};
 ghost use Rattle.report_core.specs.RefusalLine.{cause_text, if_named, if_told, place_text, refusal_text};
 ghost use Rattle.text_core.specs.inner.Line.{cut};
@@ -7,7 +7,7 @@ use desc_form::{Place, Refusal, Why};
 use host_net::Name;
 use text_core::{put, put_number};
 
-/// Writes the line of a refusal, with its newline, to the front of the buffer, and answers its
+/// Writes the line of a refusal, with its newline, to the front of the buffer, and returns its
 /// length.
 pub fn refusal_line(refusal: &Refusal, buffer: &mut [u8; 256]) -> usize
     ensures line { take result buffer.new ≡ refusal_text refusal.now }
@@ -54,7 +54,7 @@ fn put_place(buffer: &mut [u8; 256], at: usize, place: Place) -> usize
     }
 }
 
-// Puts a number after its word, if it is told.
+// Appends a number after its word, if it is not 0.
 fn put_told(buffer: &mut [u8; 256], at: usize, word: &[u8], number: u64) -> usize
     requires { at ≤ 256 }
     ensures text { take result buffer.new ≡ cut 256 (take at buffer.old ++ if_told word.now number) }
@@ -68,7 +68,7 @@ fn put_told(buffer: &mut [u8; 256], at: usize, word: &[u8], number: u64) -> usiz
     }
 }
 
-// Puts a name after a colon, if it is told.
+// Appends a name after a colon, if it is not empty.
 fn put_name(buffer: &mut [u8; 256], at: usize, name: &Name) -> usize
     requires { at ≤ 256 }
     ensures text { take result buffer.new ≡ cut 256 (take at buffer.old ++ if_named name.now) }

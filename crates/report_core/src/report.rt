@@ -3,7 +3,7 @@ ghost use Rattle.std.specs.Prelude.{◌≡◌};
 
 use std::marker::Model;
 
-/// A text of whole lines.
+/// A text of complete lines.
 #[derive(Drop)]
 pub struct Report {
     text: Vec<u8>,
@@ -24,7 +24,7 @@ impl Report {
         Report { text }
     }
 
-    /// The text of the report.
+    /// Returns the text of the report.
     pub fn bytes(&self) -> &[u8]
         ensures { result.now ≡ self.now }
     {

@@ -1,14 +1,14 @@
-//! What a policy says of a flow.
+//! The status of a flow under a policy.
 
-/// What becomes of a flow.
+/// The status of a flow.
 #[derive(Clone, Copy)]
 pub(crate) enum Ruling {
-    /// It is permitted, and so are its answers.
+    /// The flow is permitted, and so are its answers.
     Answered,
-    /// It is permitted, but not its answers.
+    /// The flow is permitted, but its answers are not.
     Allowed,
-    /// Nobody asked for it.
+    /// The flow is not asked for.
     NotAsked,
-    /// It was asked for, and breaks the invariant of this number, from 0.
+    /// The flow is asked for, but violates the invariant with this number, from 0.
     Denied(u16),
 }

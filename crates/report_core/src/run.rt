@@ -1,4 +1,5 @@
-//! The runs of a rule set and of a flow table over a list of events, beginning with no connections.
+//! The runs of a rule set and of a flow table over a list of events, from an empty connection
+//! table.
 
 ghost use Rattle.std.specs.Prelude.{◌∷◌, List, Option, Bool, IfOk};
 ghost use Rattle.ipt_rules.specs.Meaning.{Passes};
@@ -14,8 +15,8 @@ use ofp_rules::{Frame, Table};
 use pkt_core::{Event, Track};
 use std::alloc::{AllocError, Global};
 
-/// What the rules do with each event, one line each. A packet meets them in the state that the
-/// events before it gave its connection.
+/// Returns the result of the rules for each event, one line per event. The state of a packet's
+/// connection depends on the events before it.
 pub fn trace_rules(alloc: Global, rules: &Ruleset, events: &[Event]) -> Result<Vec<u8>, AllocError>
     ensures { IfOk result (λ text. IsTrace (Passes rules.now) events.now text.items) }
 {
@@ -35,8 +36,8 @@ fn trace_filter(alloc: Global, filter: &Filter<'_>, events: &[Event]) -> Result<
     Ok(text)
 }
 
-/// What the entries do with each event, one line each. A packet meets them as an IPv4 frame, and
-/// whatever came before makes no difference to it.
+/// Returns the result of the entries for each event, one line per event. A packet is an IPv4 frame,
+/// and its result is independent of the events before it.
 pub fn trace_table(alloc: Global, table: &Table, events: &[Event]) -> Result<Vec<u8>, AllocError>
     ensures { IfOk result (λ text. IsTrace (TablePasses table.now) events.now text.items) }
 {
@@ -47,8 +48,8 @@ pub fn trace_table(alloc: Global, table: &Table, events: &[Event]) -> Result<Vec
     Ok(text)
 }
 
-/// The answer to one event, which is tracked: a run over what follows is one over this event and what
-/// follows.
+/// Returns the result of one event, and tracks it: a run over the remaining events continues this
+/// run.
 fn answer(filter: &Filter<'_>, track: &mut Track, event: Event) -> Result<Option<bool>, AllocError>
     ensures { IfOk result (λ answer. (events : List EventOf) (answers : List (Option Bool))
         → Runs (Passes filter.now) (kept_in track.new) events answers
@@ -69,7 +70,8 @@ fn answer(filter: &Filter<'_>, track: &mut Track, event: Event) -> Result<Option
     }
 }
 
-/// The answer to one event. Since it keeps no connections, a table runs from none at each event.
+/// Returns the result of one event. A table is stateless, so each event is a run from the empty
+/// connection table.
 fn table_answer(table: &Table, event: Event) -> Option<bool>
     ensures { (events : List EventOf) (answers : List (Option Bool))
         → Runs (TablePasses table.now) nothing_kept events answers

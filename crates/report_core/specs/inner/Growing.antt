@@ -1,7 +1,7 @@
--- Texts that grow piece by piece, for the private steps of a report.
+-- Texts that grow by appending, for the private steps of a report.
 use Rattle.std.specs.Prelude.{◌≡◌, ℕ, List, ◌++◌}
 
--- the new text is the old one with such a piece after it
+-- The new text is the old one followed by text with this property.
 pub record Grows (IsPiece : List ℕ → Type 0) (old new : List ℕ) : Type 0 where
   pub piece : List ℕ
   pub is_piece : IsPiece piece

@@ -1,4 +1,4 @@
--- What the code's private type of rulings stands for, and which rulings can be told under so many invariants.
+-- The model of the code's private type of statuses, and the statuses that are valid for a number of invariants.
 use Rattle.std.specs.Prelude.{◌<◌, ℕ}
 use Rattle.report_core.specs.PolicyReport as meant
 use Rattle.report_core.specs.declared.ruling.Ruling.{Ruling}
@@ -10,7 +10,7 @@ ruling_view Allowed = meant.Allowed
 ruling_view NotAsked = meant.NotAsked
 ruling_view (Denied number) = meant.Denied number
 
--- an invariant that denies a flow is one of them
+-- The number of a denying invariant is below the count.
 abbrev pub IsWithin : ℕ → meant.Ruling → Type 0
 IsWithin count (meant.Denied number) = number < count
 IsWithin count _ = Unit {0}

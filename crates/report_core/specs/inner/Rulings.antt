@@ -1,4 +1,4 @@
--- Rulings as they are found, one test after the other, and the texts that tell them of some flows.
+-- Statuses in terms of the tests that find them, and the texts that report them for some flows.
 use Rattle.std.specs.Prelude.{◌≡◌, ℕ, List, IsTrue, IsFalse}
 use Rattle.std.specs.List.{AllZip}
 use Rattle.net_core.specs.Network.{Network}
@@ -8,7 +8,7 @@ use Rattle.flow_set.specs.declared.flow.Flow.{Flow}
 use Rattle.permit_core.specs.Policy.{IsFirstFailing}
 use Rattle.report_core.specs.PolicyReport.{IsRuling, Ruling, Answered, Allowed, NotAsked, Denied, policy_text}
 
--- what is found of the policy and the asked flows where such a ruling is given
+-- The facts about the policy and the asked flows that determine the status.
 abbrev pub IsFound : Network → Policy → Flow → Ruling → Type 0
 IsFound d policy f Answered = IsTrue (has policy.stateful.flows f)
 IsFound d policy f Allowed = IsTrue (has policy.permitted.flows f) × IsFalse (has policy.stateful.flows f)
@@ -18,7 +18,7 @@ IsFound d policy f (Denied number) =
     × IsFalse (has policy.permitted.flows f)
     × IsFirstFailing holds_on d.invariants (with_flow policy.permitted.flows f) number
 
--- the text tells what becomes of these flows
+-- The text reports the status of each of these flows.
 pub record TellsRulings (d : Network) (policy : Policy) (flows : List Flow) (text : List ℕ) : Type 0 where
   pub rulings : List Ruling
   pub found : AllZip (IsRuling d policy) flows rulings

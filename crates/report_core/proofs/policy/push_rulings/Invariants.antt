@@ -6,7 +6,7 @@ use Rattle.report_core.specs.inner.Rulings.{TellsRulings}
 use Rattle.report_core.specs.inner.Trying.{AreTriedOn}
 use Rattle.report_core.proofs.policy.push_rulings.Given as goal
 
--- the flows of the hosts so far are told
+-- The flows of the hosts so far are reported.
 abbrev pub invariant-loop-from : goal.invariant-loop-from
 invariant-loop-from l = record {
   told :

@@ -5,7 +5,7 @@ use Rattle.report_core.specs.inner.Rulings.{TellsRulings}
 use Rattle.report_core.specs.inner.Trying.{AreTriedOn}
 use Rattle.report_core.proofs.policy.push_rulings_from.Given as goal
 
--- the flows to the hosts so far are told
+-- The flows to the hosts so far are reported.
 abbrev pub invariant-loop-to : goal.invariant-loop-to
 invariant-loop-to l = record {
   told : Grows (TellsRulings l.fn.description l.fn.policy (flat_map (flow_or_none l.fn.from) (range_with_len 0 l.to))) l.fn.text.items l.text.items;

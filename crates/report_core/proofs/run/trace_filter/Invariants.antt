@@ -1,4 +1,4 @@
--- Whatever run is left over the events from here on, the text and its lines are those of the whole run.
+-- For every run over the events from here on, the text followed by its lines has the lines of the whole run.
 use Rattle.std.proofs.Common.{◌+◌, drop}
 use Rattle.ipt_rules.specs.Meaning.{Passes}
 use Rattle.pkt_core.specs.inner.Kept.{kept_in}
