@@ -1,5 +1,11 @@
 pub mod ArrayLaws
+pub mod ChangesLaws
+pub mod CompareLaws
 pub mod ExplanationLaws
-pub mod GapLaws
+pub mod FlowsLaws
+mod GapLaws
 pub mod OffenceLaws
 pub mod OneAnswerLaws
+mod PushLaws
+pub mod WeakeningLaws
+pub mod WeakeningOnceLaws

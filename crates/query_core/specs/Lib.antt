@@ -1,8 +1,13 @@
+pub mod ChangesJson
+pub mod CompareJson
 pub mod Explanations
+pub mod FlowsJson
 pub mod Gaps
 pub mod Json
 pub mod NetworkText
 pub mod Offences
 pub mod OneAnswer
+pub mod RangeJson
 pub mod Standings
+pub mod Weakening
 pub mod inner

@@ -1,1 +1,3 @@
 pub mod Fitting
+pub mod FittingChanges
+pub mod Wanting

@@ -17,8 +17,8 @@ use inv_law::{Invariant, Strategy};
 use net_core::Description;
 use std::alloc::AllocError;
 
-// Appends a host by its name.
-fn push_host(text: &mut Vec<u8>, hosts: &Hosts, host: u16) -> Result<(), AllocError>
+/// Appends a host by its name.
+pub(crate) fn push_host(text: &mut Vec<u8>, hosts: &Hosts, host: u16) -> Result<(), AllocError>
     requires { host < length hosts.now }
     ensures { OnOk result (text.new.items ≡ text.old.items ++ host_json hosts.now host) }
 {

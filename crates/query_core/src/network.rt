@@ -79,8 +79,8 @@ fn push_network(
     push(text, b"}\n")
 }
 
-// Returns every flow between two hosts, each with all invariants that deny it.
-fn denials_of(
+/// Returns every flow between two hosts, each with all invariants that deny it.
+pub(crate) fn denials_of(
     alloc: Global,
     description: &Description,
     policy: &Policy,
@@ -152,8 +152,8 @@ fn push_pair(
     push(text, b"}")
 }
 
-// Whether the flow is not asked for, and no invariant denies it.
-fn is_gap(standing: Standing, denied_by: &[u16]) -> bool
+/// Whether the flow is not asked for, and no invariant denies it.
+pub(crate) fn is_gap(standing: Standing, denied_by: &[u16]) -> bool
     ensures { result ≡ is_gap standing denied_by.now }
 {
     !standing.asked && denied_by.is_empty()
@@ -193,7 +193,8 @@ fn push_answer_denial(
     push(text, b"}")
 }
 
-fn push_numbers(text: &mut Vec<u8>, numbers: &[u16]) -> Result<(), AllocError>
+/// Appends numbers of invariants as an array.
+pub(crate) fn push_numbers(text: &mut Vec<u8>, numbers: &[u16]) -> Result<(), AllocError>
     ensures { OnOk result (text.new.items ≡ text.old.items ++ array_json number_json numbers.now) }
 {
     push_array(text, &NumberWriter, numbers)

@@ -1,6 +1,8 @@
 //! Appends single JSON values to a text.
 
-ghost use Rattle.std.specs.Prelude.{◌≡◌, ◌++◌, OnOk};
+ghost use Rattle.std.specs.Prelude.{◌≡◌, ◌++◌, OnOk, decimal};
+ghost use Rattle.std.specs.List.{flat_map};
+ghost use Rattle.query_core.specs.FlowsJson.{escaped_byte, escaped_json, is_escaped};
 ghost use Rattle.query_core.specs.Json.{bool_json, comma, number_json, string_json};
 
 use std::alloc::AllocError;
@@ -36,9 +38,7 @@ pub(crate) fn push_string(text: &mut Vec<u8>, bytes: &[u8]) -> Result<(), AllocE
 pub(crate) fn push_number(text: &mut Vec<u8>, number: u16) -> Result<(), AllocError>
     ensures { OnOk result (text.new.items ≡ text.old.items ++ number_json number) }
 {
-    let mut digits = itoa::Buffer::new();
-    let place = number as usize;
-    push(text, digits.format(place + 1).as_bytes())
+    push_rule_number(text, number as u32)
 }
 
 /// Appends the separator before an item of an array.
@@ -46,4 +46,55 @@ pub(crate) fn push_comma(text: &mut Vec<u8>, first: bool) -> Result<(), AllocErr
     ensures { OnOk result (text.new.items ≡ text.old.items ++ comma first) }
 {
     if first { Ok(()) } else { push(text, b",") }
+}
+
+/// Appends a number.
+pub(crate) fn push_decimal(text: &mut Vec<u8>, number: u32) -> Result<(), AllocError>
+    ensures { OnOk result (text.new.items ≡ text.old.items ++ decimal number) }
+{
+    let mut digits = itoa::Buffer::new();
+    push(text, digits.format(number).as_bytes())
+}
+
+/// Appends the number of a rule or of an entry, counted from 1.
+pub(crate) fn push_rule_number(text: &mut Vec<u8>, number: u32) -> Result<(), AllocError>
+    ensures { OnOk result (text.new.items ≡ text.old.items ++ number_json number) }
+{
+    let mut digits = itoa::Buffer::new();
+    let place = number as usize;
+    push(text, digits.format(place + 1).as_bytes())
+}
+
+/// Appends a string of printing bytes.
+pub(crate) fn push_escaped(text: &mut Vec<u8>, bytes: &[u8]) -> Result<(), AllocError>
+    ensures { OnOk result (text.new.items ≡ text.old.items ++ escaped_json bytes.now) }
+{
+    push(text, b"\"")?;
+    push_escaped_bytes(text, bytes)?;
+    push(text, b"\"")
+}
+
+fn push_escaped_bytes(text: &mut Vec<u8>, bytes: &[u8]) -> Result<(), AllocError>
+    ensures { OnOk result (text.new.items ≡ text.old.items ++ flat_map escaped_byte bytes.now) }
+{
+    for byte in bytes {
+        push_escaped_byte(text, *byte)?;
+    }
+    Ok(())
+}
+
+fn push_escaped_byte(text: &mut Vec<u8>, byte: u8) -> Result<(), AllocError>
+    ensures { OnOk result (text.new.items ≡ text.old.items ++ escaped_byte byte) }
+{
+    if is_escaped(byte) {
+        push(text, &[b'\\', byte])
+    } else {
+        push(text, &[byte])
+    }
+}
+
+fn is_escaped(byte: u8) -> bool
+    ensures { result ≡ is_escaped byte }
+{
+    byte == b'"' || byte == b'\\'
 }

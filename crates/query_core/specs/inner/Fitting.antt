@@ -1,10 +1,13 @@
 -- Parts of answers that name hosts and invariants of a network.
-use Rattle.std.specs.Prelude.{◌<◌, All, length}
+use Rattle.std.specs.Prelude.{◌<◌, List, All, length}
 use Rattle.std.specs.Option.{ForSome}
+use Rattle.audit_core.specs.declared.difference.Difference.{Difference}
 use Rattle.flow_set.specs.Flow.{IsFlow}
 use Rattle.flow_set.specs.inner.FlowSetView.{IsFlowSet}
+use Rattle.host_net.specs.Host.{Host}
 use Rattle.net_core.specs.Network.{Network}
 use Rattle.net_core.specs.Policies.{IsPolicyOf, Policy}
+use Rattle.decide_core.specs.declared.flows.PairFlows.{PairFlows}
 use Rattle.explain_core.specs.declared.finding.Finding.{Finding}
 use Rattle.explain_core.specs.declared.reason.Reason.{Reason}
 use Rattle.query_core.specs.declared.explanation.Explanation.{Explanation}
@@ -35,3 +38,13 @@ pub record FitsPair (d : Network) (policy : Policy) (x : Finding) : Type 0 where
 pub record FitsOffence (d : Network) (x : Offence) : Type 0 where
   pub number : x.number < length d.invariants
   pub flows : ForSome x.flows (λ set. IsFlowSet (length d.hosts) set.flows)
+
+-- The owners of a difference are hosts of the list, or nobody.
+pub record FitsDifference (hosts : List Host) (d : Difference) : Type 0 where
+  pub source : ForSome d.from (λ host. host < length hosts)
+  pub destination : ForSome d.to (λ host. host < length hosts)
+
+-- The owners of flows are hosts of the list, or nobody.
+pub record FitsFlows (hosts : List Host) (f : PairFlows) : Type 0 where
+  pub source : ForSome f.from (λ host. host < length hosts)
+  pub destination : ForSome f.to (λ host. host < length hosts)

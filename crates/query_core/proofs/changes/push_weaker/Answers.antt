@@ -1,0 +1,11 @@
+use Rattle.std.proofs.Common.{◌∙◌, append_assoc}
+use Rattle.std.proofs.lemmas.Result.{on_ok_weaker}
+use Rattle.query_core.specs.ChangesJson.{weaker_json}
+use Rattle.query_core.proofs.changes.push_weaker.Goals as goal
+
+pub returns : goal.returns
+unfolding weaker_json
+returns c =
+    on_ok_weaker c.push-4.result
+    (λ last. last ∙ rw (c.in_ok-push_numbers.ensures, c.denied_by.ensures, c.in_ok-push-3.ensures, c.in_ok-push_flow-2.ensures, c.in_ok-push-2.ensures, c.in_ok-push_flow.ensures, c.in_ok-push.ensures) (simp append_assoc))
+    c.push-4.ensures

@@ -1,0 +1,213 @@
+//! The answer of `changes` as JSON.
+
+ghost use Rattle.std.specs.Prelude.{◌≡◌, ◌<◌, ◌++◌, All, IfOk, OnOk, length};
+ghost use Rattle.query_core.specs.ChangesJson.{change_json, changed_range_json, changes_json, kind_text, named_json, old_host_json, weaker_json};
+ghost use Rattle.query_core.specs.Weakening.{denied_by};
+ghost use Rattle.query_core.specs.inner.FittingChanges.{FitsChange, FitsOwner, FitsWeaker, FitsWeakening};
+
+use crate::array::{ItemWriter, push_array};
+use crate::names::{push_flow, push_flows, push_host};
+use crate::network::push_numbers;
+use crate::push::{push, push_string};
+use crate::ranges::{push_header, push_header_or_null, push_range};
+use crate::weakening::Weakening;
+use change_core::{Change, ChangeKind, NamedOwner, Weaker};
+use explain_core::Finding;
+use flow_set::Flow;
+use host_net::Hosts;
+use pass_core::PassingRange;
+use std::alloc::{AllocError, Global};
+
+/// Returns the changes as one object on one line.
+pub fn changes_json(
+    alloc: Global,
+    new: &Hosts,
+    old: &Hosts,
+    changes: &[Change],
+    weakening: &Weakening,
+) -> Result<Vec<u8>, AllocError>
+    requires changes { All (FitsChange new.now old.now) changes.now }
+    requires weakening { FitsWeakening new.now old.now weakening.now }
+    ensures { IfOk result (λ text. text.items ≡ changes_json new.now old.now changes.now weakening.now) }
+{
+    let mut text = Vec::new(alloc);
+    push_changes(&mut text, new, old, changes, weakening)?;
+    Ok(text)
+}
+
+fn push_changes(
+    text: &mut Vec<u8>,
+    new: &Hosts,
+    old: &Hosts,
+    changes: &[Change],
+    weakening: &Weakening,
+) -> Result<(), AllocError>
+    requires changes { All (FitsChange new.now old.now) changes.now }
+    requires weakening { FitsWeakening new.now old.now weakening.now }
+    ensures { OnOk result (text.new.items ≡ text.old.items ++ changes_json new.now old.now changes.now weakening.now) }
+{
+    push(text, b"{\"version\":1,\"changes\":")?;
+    push_array(text, &ChangeWriter { new, old }, changes)?;
+    push(text, b",\"weaker\":")?;
+    let denials = &weakening.denials;
+    push_array(text, &WeakerWriter { new, old, denials }, &weakening.weaker)?;
+    push(text, b",\"gaps\":")?;
+    push_flows(text, new, &weakening.gaps)?;
+    push(text, b"}\n")
+}
+
+// The writer of changes.
+#[derive(Drop)]
+struct ChangeWriter<'a> {
+    new: &'a Hosts,
+    old: &'a Hosts,
+}
+
+impl<'a> ItemWriter<Change> for ChangeWriter<'a> {
+    ghost use Rattle.query_core.specs.ChangesJson.{change_json};
+    ghost use Rattle.query_core.specs.inner.FittingChanges.{FitsChange};
+
+    ghost fits = { λ w change. FitsChange w.new.now w.old.now change };
+
+    ghost item_json = { λ w change. change_json w.new.now w.old.now change };
+
+    fn push(&self, text: &mut Vec<u8>, item: &Change) -> Result<(), AllocError> {
+        push_change(text, self.new, self.old, item)
+    }
+}
+
+fn push_change(
+    text: &mut Vec<u8>,
+    new: &Hosts,
+    old: &Hosts,
+    change: &Change,
+) -> Result<(), AllocError>
+    requires { FitsChange new.now old.now change.now }
+    ensures { OnOk result (text.new.items ≡ text.old.items ++ change_json new.now old.now change.now) }
+{
+    push(text, b"{\"from\":")?;
+    push_named(text, new, old, change.from)?;
+    push(text, b",\"to\":")?;
+    push_named(text, new, old, change.to)?;
+    push(text, b",\"change\":")?;
+    push_string(text, kind_text(change.kind))?;
+    push(text, b",\"services\":")?;
+    push_array(text, &RangeWriter, &change.ranges)?;
+    push(text, b"}")
+}
+
+// Appends an owner by its name, or null for the addresses that no host owns.
+fn push_named(
+    text: &mut Vec<u8>,
+    new: &Hosts,
+    old: &Hosts,
+    owner: NamedOwner,
+) -> Result<(), AllocError>
+    requires { FitsOwner new.now old.now owner }
+    ensures { OnOk result (text.new.items ≡ text.old.items ++ named_json new.now old.now owner) }
+{
+    match owner {
+        NamedOwner::New(host) => push_host(text, new, host),
+        NamedOwner::Old(host) => push_old_host(text, old, host),
+        NamedOwner::Nobody => push(text, b"null"),
+    }
+}
+
+fn push_old_host(text: &mut Vec<u8>, old: &Hosts, host: u16) -> Result<(), AllocError>
+    requires { host < length old.now }
+    ensures { OnOk result (text.new.items ≡ text.old.items ++ old_host_json old.now host) }
+{
+    push(text, b"{\"old\":")?;
+    push_host(text, old, host)?;
+    push(text, b"}")
+}
+
+fn kind_text(kind: ChangeKind) -> &'static [u8]
+    ensures { result.now ≡ kind_text kind }
+{
+    match kind {
+        ChangeKind::FlowComes => b"flow comes",
+        ChangeKind::FlowGoes => b"flow goes",
+        ChangeKind::AnswersCome => b"answers come",
+        ChangeKind::AnswersGo => b"answers go",
+    }
+}
+
+// The writer of ranges of services.
+#[derive(Drop)]
+struct RangeWriter;
+
+impl ItemWriter<PassingRange> for RangeWriter {
+    ghost use Rattle.query_core.specs.ChangesJson.{changed_range_json};
+
+    ghost fits = { λ _ _. Unit {0} };
+
+    ghost item_json = { λ _ range. changed_range_json range };
+
+    fn push(&self, text: &mut Vec<u8>, item: &PassingRange) -> Result<(), AllocError> {
+        push_changed_range(text, *item)
+    }
+}
+
+fn push_changed_range(text: &mut Vec<u8>, range: PassingRange) -> Result<(), AllocError>
+    ensures { OnOk result (text.new.items ≡ text.old.items ++ changed_range_json range) }
+{
+    push_range(text, range)?;
+    push(text, b",\"packet\":")?;
+    push_header(text, range.passes)?;
+    push(text, b",\"other\":")?;
+    push_header_or_null(text, range.stays)?;
+    push(text, b"}")
+}
+
+// The writer of weaker flows.
+#[derive(Drop)]
+struct WeakerWriter<'a> {
+    new: &'a Hosts,
+    old: &'a Hosts,
+    denials: &'a [Finding],
+}
+
+impl<'a> ItemWriter<Weaker> for WeakerWriter<'a> {
+    ghost use Rattle.query_core.specs.ChangesJson.{weaker_json};
+    ghost use Rattle.query_core.specs.inner.FittingChanges.{FitsWeaker};
+
+    ghost fits = { λ w weaker. FitsWeaker w.new.now w.old.now weaker };
+
+    ghost item_json = { λ w weaker. weaker_json w.new.now w.old.now w.denials.now weaker };
+
+    fn push(&self, text: &mut Vec<u8>, item: &Weaker) -> Result<(), AllocError> {
+        push_weaker(text, self.new, self.old, self.denials, *item)
+    }
+}
+
+fn push_weaker(
+    text: &mut Vec<u8>,
+    new: &Hosts,
+    old: &Hosts,
+    denials: &[Finding],
+    weaker: Weaker,
+) -> Result<(), AllocError>
+    requires { FitsWeaker new.now old.now weaker }
+    ensures { OnOk result (text.new.items ≡ text.old.items ++ weaker_json new.now old.now denials.now weaker) }
+{
+    push(text, b"{\"flow\":")?;
+    push_flow(text, new, weaker.flow)?;
+    push(text, b",\"old\":")?;
+    push_flow(text, old, weaker.old)?;
+    push(text, b",\"denied_by\":")?;
+    push_numbers(text, denied_by(denials, weaker.old))?;
+    push(text, b"}")
+}
+
+// Returns the numbers of the invariants that deny a flow.
+fn denied_by(denials: &[Finding], flow: Flow) -> &[u16]
+    ensures { result.now ≡ denied_by denials.now flow }
+{
+    for finding in denials {
+        if finding.flow == flow {
+            return &finding.by;
+        }
+    }
+    &[]
+}
