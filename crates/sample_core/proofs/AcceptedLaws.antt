@@ -29,25 +29,25 @@ hosts_kept : (hs : List WrittenHost) → length (map network_host hs) ≡ length
 hosts_kept [] = refl
 hosts_kept (h ∷ hs) = ap suc (hosts_kept hs)
 
--- the table describes a network
+-- The table describes a network.
 sample_described : (n : ℕ) → n ≤ host_limit → described_by_table (sample_table n) ≡ Ok (network_of (sample_written n))
 sample_described n few = described-IsRight (sample_table n) (sample_is_right n few) ∙ ap (λ (w : Written). Ok (network_of w)) (written_is n)
 
--- which has n hosts
+-- It has n hosts.
 pub hosts_counted : (n : ℕ) (d : Network) → n ≤ host_limit → described_by_table (sample_table n) ≡ Ok d → length d.hosts ≡ n
 unfolding network_of network_hosts
 hosts_counted n d few described =
     let same : network_of (sample_written n) ≡ d = cc (sample_described n few, described) in
     ap (λ (e : Network). length e.hosts) (sym same) ∙ hosts_kept (map sample_host (sample_hosts n)) ∙ length_made sample_host 0 n
 
--- between which no flow is narrowed
+-- All its flows are unrestricted.
 pub sample_is_whole : (n : ℕ) (d : Network) → n ≤ host_limit → described_by_table (sample_table n) ≡ Ok d → d.services ≡ []
 unfolding network_of services_in
 sample_is_whole n d few described =
     let same : network_of (sample_written n) ≡ d = cc (sample_described n few, described) in
     ap (λ (e : Network). e.services) (sym same)
 
--- and it has no more than there may be, since it is described
+-- The number of its hosts is within the limit, since the network is described.
 pub sample_is_small : (n : ℕ) (d : Network) → described_by_table (sample_table n) ≡ Ok d → n ≤ host_limit
 sample_is_small n d described =
     let right = IsRight-described (sample_table n) d described in

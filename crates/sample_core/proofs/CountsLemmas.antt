@@ -1,4 +1,4 @@
--- The text of the numbers, line by line, and that it is the report of what they are of.
+-- The text of the numbers, line by line; it is the report of the results with these numbers.
 use Rattle.std.proofs.Common.{◌≡◌, ◌++◌, ℕ, List, ap, ◌∙◌, append_assoc}
 use Rattle.sample_core.specs.Sample.{sample_text}
 use Rattle.sample_core.specs.declared.printed.Counts.{Counts}
@@ -9,6 +9,6 @@ counts_told n counts are = λ i.
     rows n (are.hosts i) (are.asked i) (are.offending i) (are.permitted i) (are.stateful i) (are.rules i) (are.table i) (are.events i)
     (are.forwarded i)
 
--- a text with one line more, where the rest is still to come
+-- A text with one more line, before the remaining ones.
 pub line_on : (old new line rest whole : List ℕ) → new ≡ old ++ line → old ++ (line ++ rest) ≡ whole → new ++ rest ≡ whole
 line_on old new line rest whole pushed so_far = ap (λ text. text ++ rest) pushed ∙ append_assoc old line rest ∙ so_far

@@ -1,4 +1,4 @@
--- The numbers of the hosts of the sample, in order, and what is true of all that is made of them.
+-- The numbers of the hosts of the sample, in order, and properties of everything that is built from them.
 use Rattle.std.proofs.Common.{◌≡◌, ℕ, zero, suc, ◌+◌, ◌≤◌, ◌<◌, List, [], ◌∷◌, length, map, All, AllPairs, refl, ap, arith}
 use Rattle.std.proofs.lemmas.List.Elements.{All-nil, All-cons, All-filter, All-head, All-tail}
 use Rattle.std.proofs.lemmas.List.Kept.{AllPairs-cons}
@@ -36,7 +36,7 @@ hosts_below n = range_below 0 n n (omega arith)
 pub care_below : (n : ℕ) → All (IsBelow n) (hosts_in_care n)
 care_below n = All-filter is_in_care (IsBelow n) (sample_hosts n) (hosts_below n)
 
--- from the numbers to what is made of them
+-- From a property of the numbers to a property of the values that are built from them.
 pub each_made : {A : Type 0} (P : A → Type 0) (made : ℕ → A) (n : ℕ) → ((k : ℕ) → k < n → P (made k)) → (hosts : List ℕ)
     → All (IsBelow n) hosts → All P (map made hosts)
 each_made P made n each [] below = All-nil P

@@ -1,4 +1,4 @@
--- The offences of invariants, counted so far.
+-- The findings for the invariants so far, counted.
 use Rattle.std.proofs.Common.{◌≡◌, ℕ, List, [], ◌∷◌, ◌++◌, Option, map, sym, ap, subst, ◌∙◌, append_assoc, append-nil}
 use Rattle.flow_set.specs.declared.flow.Flow.{Flow}
 use Rattle.inv_any.specs.declared.any_inv.AnyInv.{AnyInv}
@@ -8,7 +8,7 @@ use Rattle.report_core.specs.CheckReport.{AreOffences, IsOffence}
 use Rattle.sample_core.specs.Sample.{offence_size}
 use Rattle.sample_core.specs.inner.SampleCounts.{AreOffending}
 
--- with what is found of the invariants that are left, the counts are those of all
+-- The counts followed by those of the findings for the remaining invariants are those of all.
 abbrev pub GoesOn : Network → List ℕ → List AnyInv → Type 0
 GoesOn d counts left =
     (rest : List (Option (List Flow))) → AreOffences left d.asked.flows rest → AreOffending d (counts ++ map offence_size rest)

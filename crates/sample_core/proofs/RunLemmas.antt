@@ -1,4 +1,4 @@
--- A run over packets, packet by packet, and how many it forwards.
+-- A run over packets, packet by packet, and the number of forwarded packets.
 use Rattle.std.proofs.Common.{◌≡◌, ◌≤◌, ℕ, ◌+◌, Bool, true, false, List, [], ◌∷◌, Option, Some, length, map, filter, sym, subst, arith}
 use Rattle.host_net.specs.declared.packet.Packet.{Packet}
 use Rattle.pkt_core.specs.Firewall.{Filter}
@@ -9,7 +9,8 @@ use Rattle.sample_core.specs.Sample.{was_forwarded}
 use Rattle.sample_core.specs.inner.SampleCounts.{AreForwarded}
 use Rattle.std.specs.Prelude.{if◌then◌else◌}
 
--- whatever run is left over these packets, what it forwards beside the count is what the whole run forwards
+-- For every run over the remaining packets, the count plus the number that it forwards is the number that the whole run
+-- forwards.
 abbrev pub Leaves : Filter → List Packet → Kept → List Packet → ℕ → Type 0
 Leaves filter_of all kept packets count =
     (rest : List (Option Bool)) → Runs filter_of kept (map Seen packets) rest → AreForwarded filter_of (map Seen all)

@@ -1,4 +1,4 @@
--- What is printed of the sample is one text.
+-- The report of the sample is unique.
 use Rattle.std.proofs.Common.{◌≡◌, ℕ, List, Result, Ok, Err, length, map, filter, sym, ap, subst, ◌∙◌, refl, arith}
 use Rattle.desc_core.specs.Description.{described_by_table}
 use Rattle.flow_set.specs.declared.flow.Flow.{Flow}
@@ -38,7 +38,7 @@ table_is_one site p s (Lines m) NeedsState a b = absurd (b a.0)
 table_is_one site p s (Lines m) TooMany (_, few, counted) (_, many) = absurd (omega (arith, many, few))
 table_is_one site p s (Lines m) (Lines k) (_, few, counted) (_, other, told) = ap Lines (counted ∙ sym told)
 
--- the same is found of it
+-- Its results are equal.
 record AreSame (n : ℕ) (f g : Found n) : Type 0 where
   network : f.network ≡ g.network
   policy : f.policy ≡ g.policy

@@ -1,4 +1,4 @@
--- The report of the sample tells what is promised of it.
+-- The report of the sample has its guarantees.
 use Rattle.std.proofs.Common.{◌≡◌, ℕ, zero, suc, ◌≤◌, IsTrue, List, [], ◌∷◌, map, subst, arith}
 use Rattle.desc_core.proofs.NetworkLaws.{IsNetwork-table}
 use Rattle.emit_core.proofs.ForwardingLaws.{layout_expected}

@@ -1,4 +1,4 @@
--- The assigns of the sample are of its hosts, and each says an attribute.
+-- The assigns of the sample are for its hosts, and each specifies an attribute.
 use Rattle.std.proofs.Common.{◌≡◌, ◌≢◌, IsTrue, ℕ, zero, suc, ◌+◌, ◌%◌, ◌≤◌, ◌<◌, ◌==◌, nat_le, Bool, true, false, ◌||◌, List, [], ◌∷◌, ◌++◌, length, map, codes, bytes_eq, Option, Some, None, option_and_then, option_map, is_some, All, AllPairs, refl, sym, ap, subst, ◌∙◌, arith}
 use Rattle.std.proofs.lemmas.List.Elements.{All-nil, All-from_recursion, All-head, All-tail}
 use Rattle.std.proofs.lemmas.List.Kept.{AllPairs-filter}
@@ -63,7 +63,7 @@ name_there start (suc count) k lower upper =
 declared : (n k : ℕ) → k < n → IsTrue (is_declared (sample_written n) (sample_name k))
 declared n k small = name_there 0 n k (omega arith) (omega (arith, small))
 
--- what is known of an invariant whose assigns all say an attribute
+-- The resolved form of an invariant whose assigns all specify an attribute.
 given_parts : (t : Members) (o : Option ℕ) (rest : Option (List Given)) (gs : List Given)
     → option_and_then (λ x. option_map (λ xs. x ∷ xs) rest) (option_map (λ host. record { host = host; table = t }) o) ≡ Some gs
     → (host : ℕ) × (more : List Given) × (rest ≡ Some more) × (gs ≡ record { host = host; table = t } ∷ more)
@@ -94,7 +94,7 @@ known_parts hosts i t k named said =
     let same : u ≡ OneOfTen t = some_same u (OneOfTen t) (sym is_u ∙ ten) in
     (gs, is_gs, sym (some_same _ k made) ∙ ap (λ (x : Choice). record { template = x; assigns = gs }) same)
 
--- levels
+-- Levels.
 abbrev IsLevel : Members → Type 0
 IsLevel t = (k : ℕ) × (t ≡ level_table k)
 
@@ -124,7 +124,7 @@ levels_good hosts ks k said =
     subst (λ (x : Known). bad_of hosts x.template x.assigns ≡ None) (sym same)
     (none_bad (says blp_form hosts) IsLevel (level_said hosts) hosts (map (sample_assign level_table) ks) levels gs [] is)
 
--- care
+-- Care.
 abbrev IsCare : Members → Type 0
 IsCare t = (k : ℕ) × (t ≡ care_table k)
 
@@ -155,7 +155,7 @@ care_good hosts ks k said =
     subst (λ (x : Known). bad_of hosts x.template x.assigns ≡ None) (sym same)
     (none_bad (says partners_form hosts) IsCare (care_said hosts) hosts (map (sample_assign care_table) ks) cares gs [] is)
 
--- of both invariants
+-- For both invariants.
 of_both : (P : WrittenInvariant → Type 0) (n : ℕ) → P (sample_invariant (codes "blp") level_table (sample_hosts n))
     → P (sample_invariant (codes "partners") care_table (hosts_in_care n)) → All P (sample_written n).invariants
 of_both P n first second = All-from_recursion P (sample_written n).invariants (first, (second, tt))
@@ -166,7 +166,7 @@ assigned_once made n few ks below ascends =
     pairs_made (λ a b. a.host ≢ b.host) (sample_assign made) n
     (λ i j small other lower. names_differ i j (omega (arith, small, few)) (omega (arith, other, few)) lower) ks below ascends
 
--- a name of the ten is chosen, and no template is declared
+-- The name of one of the ten is chosen, and no template is declared.
 ten_chosen : (name : List ℕ) (t : Template) → template_named name ≡ Some t → is_some (chosen [] name) ≡ true
 ten_chosen name t named = rw named refl
 

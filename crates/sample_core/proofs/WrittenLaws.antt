@@ -1,4 +1,4 @@
--- The table of the sample has the form of a description, and this is written in it.
+-- The table of the sample has the form of a description, with this raw description.
 use Rattle.std.proofs.Common.{◌≡◌, ℕ, pos, true, false, List, [], ◌∷◌, map, filter_map, codes, refl}
 use Rattle.std.specs.List.{AllZip}
 use Rattle.std.proofs.lemmas.List.Elements.{All-nil}
@@ -58,7 +58,7 @@ sample_formed n = record {
   templates = refl;
 }
 
--- ---- what is written
+-- ---- the raw description
 
 read_back : {A : Type 0} (made : ℕ → Members) (reads : Members → A) (said : ℕ → A) → ((k : ℕ) → reads (made k) ≡ said k) → (hosts : List ℕ)
     → map reads (filter_map as_table (elements (items_of (map (λ k. table (made k)) hosts)))) ≡ map said hosts

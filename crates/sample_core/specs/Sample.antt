@@ -1,4 +1,4 @@
--- What is printed of the sample (docs/TEXTS.md): what each job makes of its description, in numbers.
+-- The report of the sample (docs/TEXTS.md): the results of every command for its description, in numbers.
 use Rattle.std.specs.Prelude.{◌≡◌, ◌≤◌, ◌<◌, ℕ, ◌+◌, ◌*◌, ◌^◌, Bool, false, List, [], ◌++◌, length, map, filter, flat_map, Option, Ok, codes, decimal}
 use Rattle.std.specs.Option.{unwrap_or}
 use Rattle.text_core.specs.Firsts.{Numbered, numbered}
@@ -25,30 +25,31 @@ use Rattle.sample_core.specs.SampleTable.{sample_table}
 use Rattle.sample_core.specs.declared.counts.TableLines.{TableLines}
 use Rattle.sample_core.specs.declared.counts.TableLines.TheVariants.{Lines, NeedsState, TooMany}
 
--- the packet that each flow is tried with: from the one address of a host to that of another, of protocol 17, from port 1000 to port 1000
+-- The only address of host k.
 abbrev pub sample_address : ℕ → ℕ
 sample_address k = 10 * 2 ^ 24 + k
 
+-- The packet of a flow: between the addresses of its two hosts, of protocol 17, from port 1000 to port 1000.
 abbrev pub packet_between : Flow → Packet
 packet_between f = record { src = sample_address f.from; dst = sample_address f.to; proto = 17; sport = 1000; dport = 1000 }
 
--- one is seen for each two hosts, in the order of flows
+-- One packet is seen for each pair of hosts, in the order of flows.
 abbrev pub sample_events : ℕ → List Event
 sample_events n = map Seen (map packet_between (every_flow n))
 
--- the lines of the flow table of permitted flows p and stateful ones s: a table keeps no connections, and has room for so many entries
+-- The lines of the flow table of permitted flows p and stateful flows s: a table is stateless, and has an entry limit.
 abbrev pub IsTableLines : Site → (p s : List Flow) → TableLines → Type 0
 IsTableLines site p s NeedsState = AnswersAreCovered site.services p s → ⊥
 IsTableLines site p s TooMany = AnswersAreCovered site.services p s × (most_entries < length (flow_entries site p))
 IsTableLines site p s (Lines count) =
     AnswersAreCovered site.services p s × (length (flow_entries site p) ≤ most_entries) × (count ≡ length (table_text_lines (flow_entries site p)))
 
--- the chains of a policy of the network
+-- The chains of a policy of the network.
 abbrev pub chains_of : Network → Policy → List Chain
 chains_of d policy = layout (site_of d) policy.permitted.flows policy.stateful.flows
 
--- what the jobs find of the sample of n hosts: the network that its table describes, its policy, what is told of each invariant, the lines
--- of its flow table, and which of the packets its chains let pass, from no connections on
+-- The results for the sample of n hosts: the network that its table describes, its policy, the finding for each invariant, the lines of its
+-- flow table, and the packets that its chains forward from an empty connection table.
 pub record Found (n : ℕ) : Type 0 where
   pub network : Network
   pub described : described_by_table (sample_table n) ≡ Ok network
@@ -61,28 +62,31 @@ pub record Found (n : ℕ) : Type 0 where
   pub answers : List (Option Bool)
   pub run : RunsFromNothing (Passes (chains_of network policy)) (sample_events n) answers
 
--- ---- as it is printed
+-- ---- the printed form
 
--- of how many flows the set is that is told of an invariant
+-- The size of the finding for an invariant.
 abbrev pub offence_size : Option (List Flow) → ℕ
 offence_size offence = length (unwrap_or offence [])
 
+-- The result of an event is that a packet passes.
 abbrev pub was_forwarded : Option Bool → Bool
 was_forwarded answer = unwrap_or answer false
 
--- a word, and a number
+-- A word and a number.
 abbrev pub count_line : List ℕ → ℕ → List ℕ
 count_line word count = word ++ (codes " " ++ (decimal count ++ codes "\n"))
 
--- of each invariant, by its number
+-- The lines for each invariant, by its number.
 abbrev pub offending_lines : List ℕ → List ℕ
 offending_lines counts = flat_map (λ (told : Numbered ℕ). count_line (codes "offending " ++ decimal told.number) told.what) (numbered counts)
 
+-- The line for the flow table.
 abbrev pub table_line : TableLines → List ℕ
 table_line (Lines count) = count_line (codes "openflow") count
 table_line NeedsState = codes "openflow needs state\n"
 table_line TooMany = codes "openflow too many\n"
 
+-- The report of the results, line by line.
 abbrev pub sample_text : (n : ℕ) → Found n → List ℕ
 sample_text n found =
     count_line (codes "sample") n
@@ -96,7 +100,7 @@ sample_text n found =
     ++ (count_line (codes "events") (length (sample_events n))
     ++ count_line (codes "forwarded") (length (filter was_forwarded found.answers))))))))))
 
--- the text is the report of the sample of n hosts
+-- The text is the report of the sample of n hosts.
 pub record IsSample (n : ℕ) (text : List ℕ) : Type 0 where
   pub found : Found n
   pub written : text ≡ sample_text n found

@@ -1,4 +1,4 @@
--- What an operator may rely on in the report of the sample. It follows from what the report is.
+-- The guarantees of the report of the sample to an operator. They follow from the definition of the report.
 use Rattle.std.specs.Prelude.{◌≡◌, ℕ, List, length}
 use Rattle.net_core.specs.Network.{site_of}
 use Rattle.net_core.specs.Policies.{CompliesWithAll, MeetsAll}
@@ -6,9 +6,9 @@ use Rattle.pkt_core.specs.Expected.{AreExpected}
 use Rattle.pkt_core.specs.FlowPolicy.{is_of}
 use Rattle.sample_core.specs.Sample.{Found, sample_events, sample_text}
 
--- The numbers are those of a network of n hosts, the one that the table of the sample describes, and of its policy, which meets every
--- invariant and with its answers complies with every one.
--- As many packets are forwarded as the policy and its answers expect, packet by packet from no connections on.
+-- The numbers are those of a network of n hosts, the one that the table of the sample describes, and of its policy, which satisfies every
+-- invariant and complies with every invariant with its answers. The number of forwarded packets is the number that the policy and its
+-- answers expect, packet by packet from an empty connection table.
 pub record TellsSample (n : ℕ) (report : List ℕ) : Type 0 where
   pub found : Found n
   pub written : report ≡ sample_text n found

@@ -1,4 +1,4 @@
-//! What the jobs make of a description, in numbers.
+//! The results of the commands for a description, in numbers.
 
 ghost use Rattle.std.specs.Prelude.{◌≡◌, IfOk, [], option_map};
 ghost use Rattle.sample_core.specs.Sample.{IsTableLines, offence_size};
@@ -14,15 +14,15 @@ use std::alloc::{AllocError, Global};
 /// The text of the flow table of a policy.
 #[derive(Clone, Copy, Debug, PartialEq, Eq)]
 pub enum TableLines {
-    /// It has so many lines.
+    /// The flow table has this number of lines.
     Lines(u32),
-    /// There is none, since an answer needs a connection that is kept.
+    /// There is no flow table, because an answer requires connection tracking.
     NeedsState,
-    /// There is none, since a table has room for fewer entries.
+    /// There is no flow table, because it would exceed the entry limit.
     TooMany,
 }
 
-/// How many lines the flow table of a policy has, where no flow is narrowed.
+/// Returns the number of lines of the flow table of a policy with unrestricted flows only.
 pub(crate) fn table_lines(alloc: Global, policy: &FlowPolicy<'_>) -> Result<TableLines, AllocError>
     requires whole { policy.now.site.services ≡ [] }
     ensures { IfOk result (IsTableLines policy.now.site policy.now.permitted policy.now.stateful) }
@@ -38,7 +38,7 @@ pub(crate) fn table_lines(alloc: Global, policy: &FlowPolicy<'_>) -> Result<Tabl
     }
 }
 
-/// For each invariant, of how many flows the set is that `check` reports.
+/// Returns, for each invariant, the size of the set of flows that `check` reports.
 pub(crate) fn offending(alloc: Global, description: &Description) -> Result<Vec<u32>, AllocError>
     ensures { IfOk result (λ counts. AreOffending description.now counts.items) }
 {

@@ -9,7 +9,7 @@ use crate::table::sample_table;
 use desc_core::{DescFault, Description, describe_table};
 use std::alloc::{AllocError, Global};
 
-/// The description of so many hosts, which is never refused.
+/// Returns the description of `count` hosts, which is never refused.
 pub fn sample_description(alloc: Global, count: u16) -> Result<Description, AllocError>
     requires { count ≤ host_limit }
     ensures described { IfOk result (λ d. described_by_table (sample_table count) ≡ Ok d) }

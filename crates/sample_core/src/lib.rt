@@ -1,4 +1,5 @@
-//! The sample: a description of as many hosts as wanted, and what every job makes of it, in numbers.
+//! The sample: a description with a given number of hosts, and the results of every command for it,
+//! in numbers.
 #![tactic(auto)]
 
 mod counts;

@@ -1,4 +1,4 @@
-//! The packets of the sample: one for each two hosts.
+//! The packets of the sample: one for each pair of hosts.
 
 ghost use Rattle.std.specs.Prelude.{◌≡◌, ◌<◌, ◌≤◌, IfOk, map};
 ghost use Rattle.flow_set.specs.EveryFlow.{every_flow};
@@ -11,7 +11,7 @@ use std::alloc::{AllocError, Global};
 
 const FIRST_ADDRESS: u32 = 10 << 24;
 
-/// The packets, in the order of their flows.
+/// Returns the packets, in the order of their flows.
 pub(crate) fn sample_packets(alloc: Global, count: u16) -> Result<Vec<Packet>, AllocError>
     requires { count ≤ host_limit }
     ensures { IfOk result (λ packets. packets.items ≡ map packet_between (every_flow count)) }

@@ -1,4 +1,4 @@
-//! The sample as it is printed.
+//! The printed form of the sample.
 
 ghost use Rattle.std.specs.Prelude.{◌≡◌, ◌≤◌, ◌++◌, IfOk, [], Ok, OnOk, codes, decimal, length};
 ghost use Rattle.desc_core.specs.Description.{described_by_table};
@@ -16,7 +16,7 @@ use net_core::{Policy, policy_of};
 use pkt_core::FlowPolicy;
 use std::alloc::{AllocError, Global};
 
-/// What the jobs make of the sample.
+/// The results of the commands for the sample.
 #[derive(Drop)]
 struct Counts {
     hosts: u16,
@@ -28,7 +28,7 @@ struct Counts {
     run: RunCounts,
 }
 
-/// The numbers of the sample of so many hosts, a line each.
+/// Returns the numbers of the sample of `count` hosts, one per line.
 pub fn sample_text(alloc: Global, count: u16) -> Result<Vec<u8>, AllocError>
     requires { count ≤ host_limit }
     ensures { IfOk result (λ text. IsSample count text.items) }
@@ -127,7 +127,7 @@ fn push_table(text: &mut Vec<u8>, table: TableLines) -> Result<(), AllocError>
     }
 }
 
-/// Puts a line with a word and a number.
+/// Appends a line with a word and a number.
 fn push_count(text: &mut Vec<u8>, word: &[u8], count: usize) -> Result<(), AllocError>
     ensures { OnOk result (text.new.items ≡ text.old.items ++ count_line word.now count) }
 {

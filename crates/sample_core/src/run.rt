@@ -1,4 +1,4 @@
-//! The run of a rule set over packets, beginning with no connections.
+//! The run of a rule set over packets, from an empty connection table.
 
 ghost use Rattle.std.specs.Prelude.{◌≡◌, ◌≤◌, ◌∷◌, Bool, List, [], Option, Some, IfOk, if◌then◌else◌, map};
 ghost use Rattle.host_net.specs.Limits.{host_limit};
@@ -25,7 +25,7 @@ pub(crate) struct RunCounts {
     pub(crate) forwarded: usize,
 }
 
-/// What the rules of a policy make of the packets of so many hosts.
+/// Returns the results of the rules of a policy for the packets of `count` hosts.
 pub(crate) fn run_counts(
     alloc: Global,
     count: u16,
@@ -46,7 +46,7 @@ pub(crate) fn run_counts(
     })
 }
 
-/// The chains of a policy, which are never too many where no flow is narrowed.
+/// Returns the chains of a policy, which are never too many if all flows are unrestricted.
 fn rules_of(alloc: Global, policy: &FlowPolicy<'_>) -> Result<Ruleset, AllocError>
     requires whole { policy.now.site.services ≡ [] }
     ensures { IfOk result (λ rules. rules ≡ layout policy.now.site policy.now.permitted policy.now.stateful) }
@@ -59,7 +59,7 @@ fn rules_of(alloc: Global, policy: &FlowPolicy<'_>) -> Result<Ruleset, AllocErro
     }
 }
 
-/// How many of the packets are forwarded.
+/// Returns the number of packets that are forwarded.
 fn forwarded(alloc: Global, filter: &Filter<'_>, packets: &[Packet]) -> Result<usize, AllocError>
     ensures { IfOk result (AreForwarded (Passes filter.now) (map Seen packets.now)) }
 {
@@ -72,8 +72,8 @@ fn forwarded(alloc: Global, filter: &Filter<'_>, packets: &[Packet]) -> Result<u
     Ok(count)
 }
 
-/// Whether the rules forward a packet, which is tracked: a run over what follows is one over this packet
-/// and what follows.
+/// Whether the rules forward a packet. The packet is tracked: a run over the remaining packets
+/// continues this run.
 fn is_forwarded(filter: &Filter<'_>, track: &mut Track, packet: &Packet) -> Result<bool, AllocError>
     ensures { IfOk result (λ passes. (events : List Event) (answers : List (Option Bool))
         → Runs (Passes filter.now) (kept_in track.new) events answers

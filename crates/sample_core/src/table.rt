@@ -10,7 +10,7 @@ ghost use Rattle.toml.specs.View.{items_view, table_view, view};
 use std::alloc::{AllocError, Global};
 use toml::{Table, Value};
 
-/// The table of a description of so many hosts.
+/// Returns the table of a description of `count` hosts.
 #[tactic(auto, unfolding(crate::specs::SampleTable::sample_table))]
 pub(crate) fn sample_table(alloc: Global, count: u16) -> Result<Table, AllocError>
     ensures { IfOk result (λ table. table_view table ≡ sample_table count) }
@@ -33,7 +33,7 @@ pub(crate) fn sample_table(alloc: Global, count: u16) -> Result<Table, AllocErro
     Ok(document)
 }
 
-/// A table for each host.
+/// Returns a table for each host.
 fn hosts(alloc: Global, count: u16) -> Result<Vec<Value>, AllocError>
     ensures { IfOk result (λ values. map view values.items ≡ map (table_value host_table) (sample_hosts count)) }
 {
@@ -55,7 +55,7 @@ fn host_value(alloc: Global, host: u16) -> Result<Value, AllocError>
     Ok(Value::Table(table))
 }
 
-/// Both invariants.
+/// Returns both invariants.
 fn invariants(alloc: Global, count: u16) -> Result<Vec<Value>, AllocError>
     ensures { IfOk result (λ values. items_view values.items ≡ invariant_tables count) }
 {
@@ -75,7 +75,7 @@ fn invariant(alloc: Global, template: &str, assigns: Vec<Value>) -> Result<Value
     Ok(Value::Table(table))
 }
 
-/// The levels of all hosts.
+/// Returns the levels of all hosts.
 fn levels(alloc: Global, count: u16) -> Result<Vec<Value>, AllocError>
     ensures { IfOk result (λ values. map view values.items ≡ map (table_value level_table) (sample_hosts count)) }
 {
@@ -92,7 +92,7 @@ fn level(host: u16) -> Value
     Value::Integer(i64::from(host % 4))
 }
 
-/// The hosts in care.
+/// Returns the assigns of `care`.
 fn cares(alloc: Global, count: u16) -> Result<Vec<Value>, AllocError>
     ensures { IfOk result (λ values. map view values.items ≡ map (table_value care_table) (hosts_in_care count)) }
 {
@@ -103,7 +103,7 @@ fn cares(alloc: Global, count: u16) -> Result<Vec<Value>, AllocError>
     Ok(values)
 }
 
-/// Puts a host that is in care.
+/// Appends the assign of `care` for a host.
 fn push_care(alloc: Global, values: &mut Vec<Value>, host: u16) -> Result<(), AllocError>
     ensures { OnOk result (map view values.new.items ≡ map view values.old.items ++ (if is_in_care host then table (care_table host) ∷ [] else [])) }
 {
@@ -113,7 +113,7 @@ fn push_care(alloc: Global, values: &mut Vec<Value>, host: u16) -> Result<(), Al
     Ok(())
 }
 
-/// The assign of a host, with one key beside its name.
+/// Returns the assign of a host, with one key in addition to its name.
 fn assign(alloc: Global, host: u16, key: &str, value: Value) -> Result<Value, AllocError>
     ensures { IfOk result (λ made. view made ≡ table (with_member key.now (view value)
         (with_member (codes "host") (string (sample_name host)) no_members))) }
@@ -144,7 +144,7 @@ fn text(alloc: Global, text: &str) -> Result<Value, AllocError>
     Ok(Value::String(String::from_str(alloc, text)?))
 }
 
-/// Puts a value at a key.
+/// Inserts a value at a key.
 fn put(alloc: Global, table: &mut Table, key: &str, value: Value) -> Result<(), AllocError>
     ensures { OnOk result (table_view table.new ≡ with_member key.now (view value) (table_view table.old)) }
 {

@@ -1,4 +1,4 @@
--- The numbers of the sample, one by one as the code has them, and their text.
+-- The numbers of the sample, as separate values of the code, and their text.
 use Rattle.std.specs.Prelude.{◌≡◌, ℕ, Bool, List, ◌++◌, length, map, filter, Option, codes}
 use Rattle.flow_set.specs.declared.flow.Flow.{Flow}
 use Rattle.ipt_rules.specs.Chain.{Chain}
@@ -13,25 +13,25 @@ use Rattle.sample_core.specs.Sample.{Found, chains_of, count_line, offence_size,
 use Rattle.sample_core.specs.declared.counts.TableLines.{TableLines}
 use Rattle.sample_core.specs.declared.printed.Counts.{Counts}
 
--- for each invariant of a network
+-- The numbers for each invariant of a network.
 pub record AreOffending (d : Network) (counts : List ℕ) : Type 0 where
   pub offences : List (Option (List Flow))
   pub found : AreOffences d.invariants d.asked.flows offences
   pub counted : counts ≡ map offence_size offences
 
--- how many packets a run of the filter forwards, beginning with no connections
+-- The number of packets that a run of the filter forwards, from an empty connection table.
 pub record AreForwarded (filter_of : Filter) (events : List Event) (count : ℕ) : Type 0 where
   pub answers : List (Option Bool)
   pub run : RunsFromNothing filter_of events answers
   pub counted : count ≡ length (filter was_forwarded answers)
 
--- the lines of the text of the chains, the events, and how many packets the chains forward
+-- The number of lines of the text of the chains, of events, and of packets that the chains forward.
 pub record AreRunCounts (n : ℕ) (chains : List Chain) (rules events forwarded : ℕ) : Type 0 where
   pub lines : rules ≡ length (text_lines chains)
   pub all : events ≡ length (sample_events n)
   pub passed : AreForwarded (Passes chains) (sample_events n) forwarded
 
--- the numbers of what is found of the sample of n hosts
+-- The numbers of the results for the sample of n hosts.
 pub record AreCounts (n : ℕ) (counts : Counts) : Type 0 where
   pub found : Found n
   pub hosts : counts.hosts ≡ length found.network.hosts
@@ -44,7 +44,7 @@ pub record AreCounts (n : ℕ) (counts : Counts) : Type 0 where
   pub events : counts.run.events ≡ length (sample_events n)
   pub forwarded : counts.run.forwarded ≡ length (filter was_forwarded found.answers)
 
--- the text of such numbers
+-- The text of these numbers.
 abbrev pub rows : (n hosts asked : ℕ) (offending : List ℕ) (permitted stateful rules : ℕ) → TableLines → (events forwarded : ℕ) → List ℕ
 rows n hosts asked offending permitted stateful rules table events forwarded =
     count_line (codes "sample") n

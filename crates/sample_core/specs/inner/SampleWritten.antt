@@ -1,4 +1,4 @@
--- What is written in the table of the sample.
+-- The raw description of the table of the sample.
 use Rattle.std.specs.Prelude.{ℕ, pos, true, false, List, [], ◌∷◌, map, codes}
 use Rattle.desc_form.specs.Written.{Written, WrittenAssign, WrittenHost, WrittenInvariant}
 use Rattle.sample_core.specs.SampleTable.{care_table, hosts_in_care, level_table, sample_hosts, sample_name, sample_prefix}

@@ -1,8 +1,8 @@
--- The tables of the sample as the code makes them.
+-- The tables of the sample as the code builds them.
 use Rattle.std.specs.Prelude.{ℕ, ◌%◌, ◌==◌, Bool}
 use Rattle.toml.specs.Data.{Data, table, Members}
 
--- the value that a table is
+-- A table as a value.
 abbrev pub table_value : (ℕ → Members) → ℕ → Data
 table_value made k = table (made k)
 

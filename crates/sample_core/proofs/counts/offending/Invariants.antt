@@ -2,6 +2,6 @@ use Rattle.std.proofs.Common.{drop}
 use Rattle.sample_core.proofs.OffenceLemmas.{GoesOn}
 use Rattle.sample_core.proofs.counts.offending.Given as goal
 
--- the invariants so far are counted
+-- The invariants so far are counted.
 abbrev pub invariant-loop-invariant : goal.invariant-loop-invariant
 invariant-loop-invariant l = GoesOn l.description l.counts.items (drop l.invariant-index l.description.invariants)

@@ -6,8 +6,8 @@ use Rattle.sample_core.proofs.run.forwarded.Given as goal
 
 abbrev pub invariant-loop-place : goal.invariant-loop-place
 invariant-loop-place l = record {
-  -- at most each packet was forwarded
+  -- At most each packet was forwarded.
   few : l.count ≤ l.place;
-  -- what is forwarded of those that are left is added
+  -- The number of forwarded packets among the remaining ones is added.
   left : Leaves (Passes l.filter) l.packets (kept_in l.track) (drop l.place l.packets) l.count;
 }

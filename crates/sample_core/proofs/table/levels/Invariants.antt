@@ -4,6 +4,6 @@ use Rattle.sample_core.specs.SampleTable.{level_table, sample_hosts}
 use Rattle.toml.specs.View.{view}
 use Rattle.sample_core.proofs.table.levels.Given as goal
 
--- there is a table for each host so far
+-- There is a table for each host so far.
 abbrev pub invariant-loop-host : goal.invariant-loop-host
 invariant-loop-host l = map view l.values.items ≡ map (table_value level_table) (sample_hosts l.host)
