@@ -1,4 +1,4 @@
--- What the code reads of the words of a command line is what they ask for.
+-- The parser of the arguments returns the command that they form.
 use Rattle.std.proofs.Common.{◌≡◌, ◌==◌, ◌≤◌, ◌<◌, inl, inr, ℕ, zero, suc, Bool, true, false, if◌then◌else◌, List, [], ◌∷◌, Option, None, Some, arith, bytes_eq, codes, decimal, option_map, option_and_then, refl, ap, sym, subst, ◌∙◌}
 use Rattle.std.proofs.lemmas.Slice.Eq.{bytes_eq-Decides}
 use Rattle.host_net.specs.Limits.{host_limit}
@@ -13,7 +13,7 @@ use Rattle.topos_top.specs.inner.Replies.{MayGiveBy}
 use Rattle.topos_top.specs.declared.dialect.Dialect.{Dialect}
 use Rattle.topos_top.specs.declared.dialect.Dialect.TheVariants.{Iptables, OpenFlow}
 
--- ---- what the words ask for is read
+-- ---- the command that the arguments form is parsed
 
 some_said : (n : ℕ) → 0 < n → (if n == 0 then None else Some n) ≡ Some n
 some_said n some = grind arith
@@ -41,14 +41,14 @@ read_of (Local file host) few = refl
 pub is_read : (words : List (List ℕ)) (ask : Ask) → AskFor words ask → ask_of words ≡ Some ask
 is_read words ask asks = ap ask_of asks.0 ∙ read_of ask asks.1
 
--- words ask for one thing
+-- Arguments form at most one command.
 pub one_ask : (words : List (List ℕ)) (ask other : Ask) → AskFor words ask → AskFor words other → ask ≡ other
 one_ask words ask other p q =
     let here = is_read words ask p in
     let there = is_read words other q in
     cc (here, there)
 
--- ---- what is read is what the words ask for
+-- ---- the parsed command is the one that the arguments form
 
 same_ask : (ask other : Ask) → Some ask ≡ Some other → ask ≡ other
 same_ask ask other is = cc is
@@ -56,7 +56,7 @@ same_ask ask other is = cc is
 none_asked : {C : Type 0} (ask : Ask) → ◌≡◌ {A = Option Ask} None (Some ask) → C
 none_asked ask is = cc is
 
--- a form is read only where its word and those after it ask for that
+-- A command form is parsed only if its first argument and the following arguments form that command.
 abbrev IsForm : (word : List ℕ) → (List (List ℕ) → Option Ask) → Type 0
 IsForm word asks = (rest : List (List ℕ)) (ask : Ask) → asks rest ≡ Some ask → AskFor (word ∷ rest) ask
 
@@ -74,7 +74,7 @@ two_form word make spells (a ∷ []) ask is = none_asked ask is
 two_form word make spells (a ∷ b ∷ []) ask is = asked (word ∷ a ∷ b ∷ []) (make a b) ask (spells a b).0 (spells a b).1 is
 two_form word make spells (a ∷ b ∷ c ∷ rest) ask is = none_asked ask is
 
--- a word names the dialect whose word it is
+-- An argument names the dialect with this name.
 named : {C : Type 0} (name : List ℕ) (make : Dialect → Ask) (ask : Ask) → ((dialect : Dialect) → name ≡ dialect_word dialect → Some (make dialect) ≡ Some ask → C)
     → option_map make (dialect_named name) ≡ Some ask → C
 named {C = C} name make ask follows is = by_first (bytes_eq name (codes "iptables")) refl is
@@ -107,7 +107,7 @@ files_form word make spells (name ∷ a ∷ b ∷ []) ask is =
     (λ dialect same made. asked (word ∷ name ∷ a ∷ b ∷ []) (make dialect a b) ask (ap (λ (n : List ℕ). word ∷ n ∷ a ∷ b ∷ []) same ∙ (spells dialect a b).0) (spells dialect a b).1 made) is
 files_form word make spells (name ∷ a ∷ b ∷ other ∷ rest) ask is = none_asked ask is
 
--- a number of hosts is a word that is that number in decimals
+-- A number of hosts is an argument that is this number in decimal notation.
 sample_form : IsForm (codes "sample") (λ words. option_and_then (λ word. option_map Sample (hosts_said word)) (one_word words))
 sample_form [] ask is = none_asked ask is
 sample_form (word ∷ []) ask is = by_number (number host_limit word) refl is
@@ -169,7 +169,7 @@ is_asked (word ∷ rest) ask is = among_forms forms are_forms word rest ask is
 
 -- ---- the reply
 
--- the reply by what was read is one that may be given
+-- The reply for the parsed command is one that may be given.
 pub may_give : (words : List (List ℕ)) (shelf : ShelfChange) (given : Reply) → MayGiveBy (ask_of words) shelf given → MayGive words shelf given
 may_give words shelf given may = by_read (ask_of words) refl may
   where

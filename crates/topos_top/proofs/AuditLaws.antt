@@ -1,4 +1,5 @@
--- What an audit gives is one, its three ends are apart, and rules that were written for a network audit as equal to it.
+-- The result of an audit is unique, its three outcomes are mutually exclusive, and rules that were emitted for a
+-- network audit as equal to it.
 use Rattle.std.proofs.Common.{◌≡◌, ◌↔◌, inl, inr, List, [], ◌∷◌, ◌++◌, ℕ, Bool, true, refl, sym, subst, ◌∙◌, ap, arith}
 use Rattle.audit_core.specs.laws.FindingLaws.{trace_packets}
 use Rattle.audit_core.proofs.ExpectedLaws.{expected_where_agree, no_difference_where_expected}
@@ -9,7 +10,7 @@ use Rattle.audit_core.specs.inner.Findings.{IsFinding}
 use Rattle.audit_core.specs.FindingText.{trace_text}
 use Rattle.audit_core.specs.inner.FindingText.{finding_text}
 use Rattle.audit_core.specs.Lists.{front_of}
-use Rattle.audit_core.specs.Places.{leasts_of}
+use Rattle.audit_core.specs.Places.{representatives_of}
 use Rattle.audit_core.specs.Rules.{Rules, filter_of}
 use Rattle.audit_core.specs.Verdicts.{GivesOne}
 use Rattle.audit_core.specs.Sides.{ForwardAlike, Sides, sides_of}
@@ -42,14 +43,14 @@ use Rattle.topos_top.proofs.RulesLaws.{moved as same_policy, rules_keep}
 few_not_many : (sides : Sides) (line : List ℕ) → FewClasses sides → HasManyClasses sides line → ⊥
 few_not_many sides line few many = omega (arith, few, many.0)
 
--- ---- what is told of a difference
+-- ---- the report of a difference
 
 trace_events : (kind : Kind) (p : Packet) (forwards : Bool) → events_of (trace_of kind p forwards) ≡ front_of kind p ++ Seen p ∷ []
 trace_events Alone p forwards = refl
 trace_events BehindSwap p forwards = refl
 trace_events BehindBoth p forwards = refl
 
-tells_difference : (sides : Sides) (t : Trace) → IsFirstTrace sides (leasts_of (cuts_between sides)) t → TellsDifference sides (trace_text t)
+tells_difference : (sides : Sides) (t : Trace) → IsFirstTrace sides (representatives_of (cuts_between sides)) t → TellsDifference sides (trace_text t)
 tells_difference sides t first = record {
   trace = t;
   first = first;
@@ -61,19 +62,19 @@ tells_difference sides t first = record {
   differ = first.first.differ;
 }
 
--- a first trace is a list of packets on which they differ
+-- A first trace is a list of packets on which they differ.
 differ_there : (sides : Sides) (t : Trace) → IsFinding sides (Differing t) → DifferSomewhere sides
 differ_there sides t found =
     (events_of t, subst (λ (u : Trace). ArePackets (events_of u)) (sym found.is) (trace_packets found.kind found.packet t.forwards found.first.packet), found.differ)
 
--- ---- what is owed of the ends
+-- ---- obligations of the outcomes
 
--- a policy of the network, and the rules
+-- A policy of the network, and the rules.
 abbrev pub sides_for : Network → Rules → Policy → Sides
 sides_for d rules policy = sides_of (site_of d) policy.permitted.flows policy.stateful.flows rules
 
 module _ (d : Network) (rules : Rules) where
-  -- what holds of the sides of one holds of those of the other
+  -- Properties of the sides of one hold for the sides of the other.
   moved : (Holds Other : Sides → Type 0) (p : OfSides d rules Holds) (q : OfSides d rules Other) → Holds (sides_for d rules q.policy)
   moved Holds Other p q = same_policy d (λ site f s. Holds (sides_of site f s rules)) (λ site f s. Other (sides_of site f s rules)) p q
 
@@ -99,9 +100,9 @@ module _ (d : Network) (rules : Rules) where
       no_difference_where_expected (sides_for d rules agree.policy) agree.so.1
       (moved (λ sides. FewClasses sides × DifferSomewhere sides) (λ sides. FewClasses sides × ForwardAlike sides) differ agree).1
 
--- ---- both ways
+-- ---- both directions
 
--- where the classes are few, `equal` is written exactly where they forward alike
+-- If the number of classes is within the limit, `equal` is written if and only if they forward alike.
 pub equal_exactly : (d : Network) (rules : Rules) (reply : Reply) → Answers true (audit_job d rules) reply → OfSides d rules FewClasses
     → (reply.status ≡ Done) ↔ OfSides d rules ForwardAlike
 equal_exactly d rules reply answers few = (alike_where_done, done_where_alike)
@@ -128,12 +129,12 @@ equal_exactly d rules reply answers few = (alike_where_done, done_where_alike)
       ]
     ]
 
--- rules let pass in an audit what they let pass in their dialect
+-- Rules forward in an audit the packets that they forward in their dialect.
 pub filter_in : (dialect : Dialect) (said : (language_of dialect).Rules) → filter_of (rules_in dialect said) ≡ (language_of dialect).filter said
 filter_in Iptables chains = refl
 filter_in OpenFlow entries = refl
 
--- the rules that are read of a text that `rules` or `repair` writes forward alike
+-- The rules that are parsed from a text of `rules` or `repair` forward alike.
 pub written_alike : (dialect : Dialect) (d : Network) (text : List ℕ) (said : (language_of dialect).Rules) → IsNetwork d
     → OfPolicy d (language_of dialect).CanWrite → IsRules (language_of dialect) d text → (language_of dialect).IsReading text said
     → OfSides d (rules_in dialect said) ForwardAlike
@@ -147,7 +148,7 @@ written_alike dialect d text said network can is reading =
       so = subst (λ (f : Filter). ForwardsExpected f (site_of d) keep.policy.permitted.flows keep.policy.stateful.flows) filter keep.expected;
     }
 
--- ---- what the code answers
+-- ---- the result of the code
 
 module _ (d : Network) (rules : Rules) (policy : Policy) (is_policy : IsPolicyOf d policy) where
   ends_different : (reply : Reply) (t : Trace) → FewClasses (sides_for d rules policy) → IsFinding (sides_for d rules policy) (Differing t)

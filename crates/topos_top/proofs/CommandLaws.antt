@@ -1,4 +1,4 @@
--- What is owed of the job of each command, where its files were read.
+-- The obligations of each command's job after its files were read.
 use Rattle.std.proofs.Common.{◌≡◌, ℕ, List, true, refl, sym, ◌∙◌}
 use Rattle.audit_core.specs.Findings.{DifferSomewhere}
 use Rattle.audit_core.specs.Rules.{Rules as AuditedRules}
@@ -38,7 +38,7 @@ use Rattle.topos_top.proofs.RulesLaws.{rules_are_one, never_both, hindrance_is_o
 use Rattle.edit_core.specs.Edit.{Edit as Change}
 use Rattle.toml.specs.Data.{Members}
 
--- what is owed of a course, with whatever is read along it
+-- The obligations of a plan, for all parse results.
 abbrev pub IsOwedAlong : Course → Type 0
 IsOwedAlong (reads kind file next) = (said : (contents_of kind).Said) → IsSound kind said → IsOwedAlong (next said)
 IsOwedAlong (ends job) = IsSettled job

@@ -1,4 +1,5 @@
--- What else follows from the clauses of `run`: how a command ends by what its told files say, and how many files a run began that had no memory.
+-- Further consequences of the clauses of `run`: the status of a command in terms of its observable files, and the number of files that a
+-- run opened before memory ran out.
 use Rattle.std.proofs.Common.{◌≡◌, ◌⊎◌, ◌≤◌, ◌+◌, inl, inr, ℕ, zero, suc, min, List, [], ◌∷◌, length, ◌-◌, ◌^◌, Option, None, Some, Result, Ok, Err, Bool, refl, ap, sym, subst, ◌∙◌, arith}
 use Rattle.std.specs.Prelude.{IfSome}
 use Rattle.std.specs.FinMap.{get}
@@ -22,28 +23,28 @@ use Rattle.topos_top.proofs.AskLaws.{one_ask}
 use Rattle.topos_top.proofs.CourseLaws.{between, stops_once, stops_or_read}
 use Rattle.topos_top.proofs.KindLaws.{reads_once}
 
--- ---- streams that had no fault
+-- ---- streams without errors
 
--- where the output had none, the run ends in the status of the reply, and the text went to its stream, whole for the output
+-- If the output had no error, the run ends with the status of the reply, and the text was written to its stream, completely for the output.
 pub given_whole : (out err : SinkChange) (reply : Reply) (ended : Status) → IsGiven out err reply ended → (Rose out.faults_before out.faults_after → ⊥)
     → (ended ≡ reply.status) × WentTo reply.stream out err reply.text
 given_whole out err reply ended given no_fault = elim given [ inl whole ↦ whole | inr cut ↦ absurd (no_fault cut.2.1) ]
 
--- ---- how a command ends by what its told files say
+-- ---- the status of a command in terms of its observable files
 
--- how a job ends: in the status of the first of its ends that comes
+-- A job ends with the status of the first of its outcomes that is reached.
 abbrev pub EndsAs : Job → Status → Type 0
 EndsAs [] ended = ⊥
 EndsAs (end ∷ job) ended = (end.when × (ended ≡ end.status)) ⊎ ((end.when → ⊥) × EndsAs job ended)
 
--- what was read of a file
+-- The parse result of a file.
 abbrev pub Reading : Type 0
 Reading = (kind : Kind) × (contents_of kind).Said
 
 abbrev pub with_reading : (kind : Kind) → (contents_of kind).Said → Result (List Reading) Reply → Result (List Reading) Reply
 with_reading kind said read = result_map_both (λ readings. (kind, said) ∷ readings) (λ why. why) read
 
--- a file has this reading, and is followed by such readings
+-- A file has this parse result, and the files after it have such results.
 pub record HasReading (told : Files) (kind : Kind) (file : List ℕ) (Follow : (contents_of kind).Said → Result (List Reading) Reply → Type 0) (read : Result (List Reading) Reply) : Type 0 where
   pub bytes : List ℕ
   pub held : get told file ≡ Some bytes
@@ -53,25 +54,25 @@ pub record HasReading (told : Files) (kind : Kind) (file : List ℕ) (Follow : (
   pub follow : Follow said rest
   pub is : read ≡ with_reading kind said rest
 
--- the readings of the files along a course, in their order, or the reply for the first that has none
+-- The parse results of the files of a plan, in order, or the reply for the first file without one.
 abbrev pub ReadsTold : Files → Course → Result (List Reading) Reply → Type 0
 ReadsTold told (ends job) read = read ≡ Ok []
 ReadsTold told (reads kind file next) read =
     ((why : Reply) × Stops kind file (get told file) why × (read ≡ Err why)) ⊎ HasReading told kind file (λ said rest. ReadsTold told (next said) rest) read
 
--- how a command ends, by what is read of its files
+-- The status of a command, by the parse results of its files.
 abbrev pub EndsByReadings : Result (List Reading) Reply → Course → Status → Type 0
 EndsByReadings (Err why) course ended = ended ≡ why.status
 EndsByReadings (Ok []) (ends job) ended = EndsAs job ended
 EndsByReadings (Ok (reading ∷ readings)) (reads kind file next) ended = (said : (contents_of kind).Said) × (reading ≡ (kind, said)) × EndsByReadings (Ok readings) (next said) ended
 EndsByReadings _ course ended = ⊥
 
--- the told files have these readings, or this reply for the first that has none, and no others
+-- The observable files have exactly these parse results, or exactly this reply for the first file without one.
 pub record AreTheReadings (told : Files) (course : Course) (read : Result (List Reading) Reply) : Type 0 where
   pub given : ReadsTold told course read
   pub only : (other : Result (List Reading) Reply) → ReadsTold told course other → other ≡ read
 
--- Where neither shelf nor output had a fault, the told files alone decide how a command ends, unless there is no memory.
+-- If neither shelf nor output had an error, the observable files alone determine the status of a command, unless memory runs out.
 abbrev pub EndsAsTold : List (List ℕ) → ShelfChange → SinkChange → Status → Type 0
 EndsAsTold words shelf out ended = (ask : Ask) → AskFor words ask → IfSome shelf.before.told (λ files.
     (Rose shelf.before.faults shelf.after.faults → ⊥) → (Rose out.faults_before out.faults_after → ⊥)
@@ -139,20 +140,21 @@ ends_as_told words shelf out err ended complete ask asked = by_told shelf.before
           )
     ]
 
--- ---- how many files a run began
+-- ---- the number of files that a run opened
 
--- the files along a course, whatever is read of them
+-- The files of a plan, for all parse results.
 abbrev pub HasFiles : List (Kind × List ℕ) → Course → Type 0
 HasFiles [] (ends job) = Unit {0}
 HasFiles (named ∷ files) (reads kind file next) = (named ≡ (kind, file)) × ((said : (contents_of kind).Said) → HasFiles files (next said))
 HasFiles _ course = ⊥
 
--- the count of begun files after n more
+-- The count of opened files after n more.
 abbrev pub begun : ℕ → ℕ → ℕ
 begun count zero = count
 begun count (suc n) = more count (suc n)
 
--- The call began the first of these files, if there is one, and no more than there are. Of one file it began just that.
+-- The call opened the first of these files, if there is one, and at most as many as there are. If there is one file, it
+-- opened exactly that one.
 pub record BeganSome (shelf : ShelfChange) (files : List (Kind × List ℕ)) : Type 0 where
   pub count : ℕ
   pub some : min 1 (length files) ≤ count
@@ -166,7 +168,7 @@ begun_more b (suc n) = twice b n (2 ^ 64 - 1)
     twice : (b n most : ℕ) → min (min (b + 1) most + suc n) most ≡ min (b + suc (suc n)) most
     twice b n most = omega arith
 
--- a file that stopped the run was begun
+-- A file that stopped the run was opened.
 began_at : (seen : ShelfChange) (kind : Kind) (file : List ℕ) (given : Reply) → StopsAt seen kind file given → seen.after.begins ≡ more seen.before.begins 1
 began_at seen kind file given (NoMemory begins is) = begins
 began_at seen kind file given (Stopped saw last is) = last.begins
@@ -183,7 +185,7 @@ began_along only (ends job) [] before after Here There began has here = record {
 began_along only (reads kind file next) [] before after Here There began has came = absurd has
 began_along only (ends job) (named ∷ files) before after Here There began has came = absurd has
 
--- wherever a run came to, as where there was no memory
+-- For every point at which a run stopped, including an allocation failure.
 pub began_some : (ended : Status) (words : List (List ℕ)) (shelf : ShelfChange) (out err : SinkChange) (cause : HasCause ended words shelf out err)
     → (files : List (Kind × List ℕ)) → HasFiles files (course_of cause.ask) → BeganSome shelf files
 began_some ended words shelf out err cause files has =

@@ -1,4 +1,4 @@
--- What is so along a course: the laws for a file and for the job, each once.
+-- Properties along a plan: one lemma for a file, one for the outcomes.
 use Rattle.std.proofs.Common.{◌≡◌, ◌≤◌, ◌⊎◌, inl, inr, ℕ, ◌+◌, ◌^◌, ◌-◌, min, arith, List, Option, None, Some, Bool, Ok, Err, refl, sym, subst, ◌∙◌}
 use Rattle.std.specs.Prelude.{IfOk, IfSome, Result}
 use Rattle.std.specs.FinMap.{get}
@@ -20,13 +20,13 @@ use Rattle.topos_top.proofs.CommandLaws.{IsOwedAlong}
 use Rattle.topos_top.proofs.JobLaws.{IsSettled, answers_first, answers_once}
 use Rattle.topos_top.proofs.KindLaws.{IsSound-Reads, reads_once, reads_or_refuses, refuses_once}
 
--- ---- what the code does
+-- ---- the steps of the code
 
--- a shelf between two moments
+-- A shelf between two moments.
 abbrev pub between : Type 0 → (before after : Shelf) → ShelfChange
 between only before after = record { before = before; after = after; only_failures = only }
 
--- after one that was accepted the run goes on
+-- After an accepted file the run continues.
 pub went_on : {only : Type 0} (on : Bool) (kind : Kind) (file : List ℕ) (next : (contents_of kind).Said → Course) (before mid after : Shelf) (said : (contents_of kind).Said) (given : Reply)
     → MayRead kind file (between only before mid) (Ok said) → MayReply on (next said) (between only mid after) given
     → MayReply on (reads kind file next) (between only before after) given
@@ -40,7 +40,7 @@ went_on on kind file next before mid after said given read rest = inr (record {
   next = rest;
 })
 
--- after the last one there was no memory for the job, or it answers
+-- After the last file memory for the outcome runs out, or the outcome has a reply.
 job_answers : (on : Bool) (job : Job) (made : Result Answer AllocError) (given : Reply) → IfOk made (λ answer. Answers on job (reply_view answer))
     → given ≡ job_reply made → (given ≡ no_memory) ⊎ Answers on job given
 job_answers on job (Ok answer) given answers is = inr (subst (λ (r : Reply). Answers on job r) (sym is) answers)
@@ -53,9 +53,9 @@ pub went_to_job : {only : Type 0} (on : Bool) (kind : Kind) (file : List ℕ) (j
 went_to_job on kind file job before after said made given read answers is =
     went_on on kind file (λ x. ends (job x)) before after after said given read (refl, job_answers on (job said) made given answers is)
 
--- ---- what is so at the end of a course
+-- ---- the end of a plan
 
--- what follows of wherever a run came to
+-- A consequence of every point at which a run stopped.
 pub wherever : {C : Type 0} (only : Type 0) (course : Course) (shelf : Shelf) (AtFile : Kind → List ℕ → Shelf → Type 0) (AtJob : Job → Shelf → Type 0) → IsOwedAlong course
     → ((kind : Kind) (file : List ℕ) (at : Shelf) → AtFile kind file at → C)
     → ((job : Job) (at : Shelf) → IsSettled job → AtJob job at → C)
@@ -65,7 +65,7 @@ wherever only (reads kind file next) shelf AtFile AtJob owed f j (inr on) =
     wherever only (next on.said) on.after AtFile AtJob (owed on.said (IsSound-Reads kind on.bytes on.said on.read)) f j on.next
 wherever only (ends job) shelf AtFile AtJob owed f j here = j job shelf owed here
 
--- a run came to the same place, where what is so there implies another thing
+-- A run stopped at the same point, with a property that is implied there.
 pub came_so : (only : Type 0) (course : Course) (shelf : Shelf) (AtFile AtFile' : Kind → List ℕ → Shelf → Type 0) (AtJob AtJob' : Job → Shelf → Type 0) → IsOwedAlong course
     → ((kind : Kind) (file : List ℕ) (at : Shelf) → AtFile kind file at → AtFile' kind file at)
     → ((job : Job) (at : Shelf) → IsSettled job → AtJob job at → AtJob' job at)
@@ -82,16 +82,16 @@ came_so only (reads kind file next) shelf AtFile AtFile' AtJob AtJob' owed f j (
 })
 came_so only (ends job) shelf AtFile AtFile' AtJob AtJob' owed f j here = j job shelf owed here
 
--- ---- where the files are told
+-- ---- if the files are observable
 
--- a count that did not rise since did not rise since later
+-- A count that did not increase from an earlier moment did not increase from a later one.
 not_since : (before mid after : ℕ) → before ≤ mid → (Rose before after → ⊥) → Rose mid after → ⊥
 not_since before mid after stay none rose = none (later before mid after (2 ^ 64 - 1) stay rose)
   where
     later : (before mid after most : ℕ) → before ≤ mid → min (mid + 1) most ≤ after → min (before + 1) most ≤ after
     later before mid after most stay rose = omega (arith, stay, rose)
 
--- what was seen without a fault is what a told shelf has
+-- An observation without an error is the content of an observable shelf.
 seen_is_told : (shelf : ShelfChange) (files : Files) → shelf.before.told ≡ Some files → (Rose shelf.before.faults shelf.after.faults → ⊥)
     → (file : List ℕ) (saw : Option (List ℕ)) → SawFile shelf file saw → get files file ≡ saw
 seen_is_told shelf files told no_fault file None saw = elim saw [
@@ -101,14 +101,14 @@ seen_is_told shelf files told no_fault file None saw = elim saw [
 seen_is_told shelf files told no_fault file (Some bytes) saw =
     subst (λ (t : Option Files). IfSome t (λ fs. get fs file ≡ Some bytes)) told saw
 
--- a shelf after a file was taken without a fault
+-- A shelf after a file was read without an error.
 abbrev after_file : Kind → List ℕ → Shelf → Shelf
 after_file kind bytes shelf = record { told = shelf.told; faults = shelf.faults; begins = more shelf.begins 1; taken = taken_of kind bytes }
 
 took_it : {only : Type 0} (kind : Kind) (bytes : List ℕ) (shelf : Shelf) → TookBytes only kind bytes shelf (after_file kind bytes shelf)
 took_it kind bytes shelf = record { told = refl; faults_stay = omega arith; no_fault = λ only. refl; begins = refl; taken = refl }
 
--- what is given is want of memory, or a reply to the told files
+-- The reply is an allocation failure, or the reply for the observable files.
 pub given_as_told : (only : Type 0) (on : Bool) (course : Course) (before after other : Shelf) (files : Files) (given : Reply) → IsOwedAlong course
     → before.told ≡ Some files → other.told ≡ Some files → (Rose before.faults after.faults → ⊥)
     → MayReply on course (between only before after) given
@@ -134,7 +134,7 @@ given_as_told only on (ends job) before after other files given owed told also n
 given_as_told only on (ends job) before after other files given owed told also no_fault (same, inr answers) =
     inr (answers, answers_first job owed.apart given answers.1)
 
--- a file that stops a run with a reply stops it with no other, and is not accepted
+-- A file that stops a run has exactly one reply, and is not accepted.
 pub stops_once : (kind : Kind) (file : List ℕ) (saw : Option (List ℕ)) (r s : Reply) → Stops kind file saw r → Stops kind file saw s → r ≡ s
 stops_once kind file None r s p q = p ∙ sym q
 stops_once kind file (Some bytes) r s p q =
@@ -149,7 +149,7 @@ stops_or_read kind file bytes (Some other) r said is p q =
     let same : other ≡ bytes = cc is in
     absurd (reads_or_refuses kind bytes p.line said q (subst (λ (bs : List ℕ). (contents_of kind).Refuses bs p.line) same p.refuses))
 
--- the told files have one reply along a course
+-- The observable files have one reply along a plan.
 pub told_once : (on : Bool) (course : Course) (shelf other : Shelf) (files : Files) (r s : Reply) → IsOwedAlong course → shelf.told ≡ Some files → other.told ≡ Some files
     → CameAlong (Unit {0}) course shelf (λ kind file at. Stops kind file (get files file) r) (λ job at. Answers on job r × AnswersFirst job r)
     → CameAlong (Unit {0}) course other (λ kind file at. Stops kind file (get files file) s) (λ job at. Answers on job s × AnswersFirst job s)

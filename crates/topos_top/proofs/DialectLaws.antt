@@ -1,4 +1,4 @@
--- What is true of each dialect, so that the rules of a policy keep it.
+-- Properties of each dialect by which the rules of a policy have their guarantee.
 use Rattle.std.proofs.Common.{◌≡◌, ℕ, List, ◌++◌, codes, ap, sym, ◌∙◌, arith}
 use Rattle.emit_core.specs.FlowTable.{flow_entries}
 use Rattle.emit_core.proofs.ForwardingLaws.{layout_enforces}
@@ -18,7 +18,7 @@ use Rattle.topos_top.specs.Reply.{not_emittable}
 use Rattle.topos_top.specs.declared.dialect.Dialect.{Dialect}
 use Rattle.topos_top.specs.declared.dialect.Dialect.TheVariants.{Iptables, OpenFlow}
 
--- what rules keep a policy by
+-- The properties by which rules guarantee a policy.
 pub record KeepsPolicies (language : Language) : Type 0 where
   pub enforces : (site : Site) (p s : List Flow) → IsSite site → language.CanWrite site p s → Enforces (language.filter (language.layout site p s)) site p s
   pub other_frames : (site : Site) (p s : List Flow) → IsSite site → language.CanWrite site p s → language.OtherFrames (language.layout site p s)

@@ -1,4 +1,4 @@
--- What edits give is one, and their two ends are apart.
+-- The result of edits is unique, and their two outcomes are mutually exclusive.
 use Rattle.std.proofs.Common.{◌≡◌, ℕ, ◌+◌, List, [], ◌∷◌, ◌++◌, Ok, Err, inl, inr, false, refl, sym, subst, ◌∙◌, ap, append_assoc, append-nil}
 use Rattle.desc_core.proofs.NetworkLaws.{IsNetwork-table}
 use Rattle.edit_core.specs.Runs.{AreSummaries, after_edits}
@@ -73,7 +73,7 @@ module _ (table : Members) (edits : List Edit) where
       let last = accepted.1 in
       cc (why, last)
 
-  -- ---- what the code answers
+  -- ---- the result of the code
 
   pub ends_refused : (reply : Reply) (line : ℕ) (why : EditWhy) → after_edits edits table ≡ Err (line, why)
       → reply ≡ error BadText (edit_fault_line line why) → Answers false (edit_job table edits) reply
@@ -88,7 +88,7 @@ module _ (table : Members) (edits : List Edit) where
       let all : SaysEdits IsPolicyReport table edits text = record { last = last; accepted = accepted; summaries = summaries; told = told; says = says } in
       subst (λ (r : Reply). Answers false (edit_job table edits) r) (sym is) (refl, inr (inl (refl, (last, accepted), all)))
 
--- ---- lines, one after another
+-- ---- lines, in sequence
 
 pub lines_next : (k : ℕ) (old new whole : List ℕ) (s : Summary) (ss rest : List Summary) → ss ≡ s ∷ rest → new ≡ old ++ summary_line k s
     → old ++ summary_lines k ss ≡ whole → new ++ summary_lines (k + 1) rest ≡ whole

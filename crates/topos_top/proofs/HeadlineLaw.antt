@@ -1,4 +1,4 @@
--- The headline, from what was written by the commands that write rules and descriptions, and by the one that compares rules.
+-- The headline, from the results of the commands that write rules and descriptions, and of the command that compares rules.
 use Rattle.std.proofs.Common.{◌≡◌, inl, inr, ℕ, List, Option, Some, subst}
 use Rattle.audit_core.specs.Rules.{Rules as AuditedRules}
 use Rattle.audit_core.specs.Sides.{ForwardAlike}
@@ -28,7 +28,7 @@ use Rattle.topos_top.proofs.CommandLaws.{settled}
 use Rattle.topos_top.proofs.CourseLaws.{came_so}
 use Rattle.topos_top.proofs.RunLaws.{stop_status}
 
--- the one end of the two jobs that is done is that of the rules
+-- The only outcome with status done in the two jobs is that of the rules.
 by_rules : (dialect : Dialect) (d : Network) (text : List ℕ) → OneEnd (Told Done text) (rules_job dialect d) → ListedHolds d × KeepPolicy (language_of dialect) d text
 by_rules dialect d text (inl violated) = let other = violated.0.0 in cc other
 by_rules dialect d text (inr (inl hindered)) = let other = hindered.0.0 in cc other
@@ -95,7 +95,7 @@ kept (Trace dialect rules events) shelf out came = tt
 kept (Sample hosts) shelf out came = tt
 kept (Edit file edits) shelf out came = tt
 
--- no file stops a run that is done
+-- No file stops a run with status done.
 never_done : (seen : ShelfChange) (kind : Kind) (file : List ℕ) (given : Reply) → StopsAt seen kind file given → given.status ≡ Done → ⊥
 never_done seen kind file given stops done = stop_status seen kind file (λ t. t ≡ Done → ⊥) given (λ e. cc e) (λ e. cc e) (λ e. cc e) (λ e. cc e) stops done
 

@@ -1,4 +1,4 @@
--- What is read of a file of each kind: one reading or one fault, and of a sort that is known.
+-- The results of reading a file of each kind: one parse result or one error, of a known sort.
 use Rattle.std.proofs.Common.{◌≡◌, ◌<◌, ℕ, List, length, Some, Ok, codes, refl, ap, sym, ◌∙◌}
 use Rattle.desc_core.specs.Description.{described}
 use Rattle.desc_core.proofs.DescriptionLaws.{described-too_long}
@@ -39,7 +39,7 @@ use Rattle.topos_top.specs.declared.kind.Kind.TheVariants.{Description, Rules, E
 use Rattle.topos_top.specs.declared.status.Status.{Status}
 use Rattle.topos_top.specs.declared.status.Status.TheVariants.{BadDescription, BadText}
 
--- ---- what is known of what was read
+-- ---- facts about the parse result
 
 abbrev pub IsSound : (kind : Kind) → (contents_of kind).Said → Type 0
 IsSound Description d = IsNetwork d
@@ -59,7 +59,7 @@ IsSound-Reads Document bytes text read = tt
 IsSound-Reads Edited bytes table read = tt
 IsSound-Reads Edits bytes edits read = tt
 
--- ---- what is read is one
+-- ---- the parse result is unique
 
 same_network : (bytes : List ℕ) (d e : Network) → described bytes ≡ Ok d → described bytes ≡ Ok e → d ≡ e
 same_network bytes d e p q = cc (p, q)
@@ -108,7 +108,7 @@ refuses_once Document bytes a b p q = same_refusal bytes a b p q
 refuses_once Edited bytes a b p q = same_refusal bytes a b p q
 refuses_once Edits bytes a b p q = same_line (codes "edits") list_reason IsRefusedInEdits bytes (one_fault_by_lines (by_lines edits_text) edits_settled bytes) a b p q
 
--- what is so of both statuses of refused files is so of each
+-- A property of both statuses of rejected files is a property of each.
 pub of_refused : (P : Status → Type 0) → P BadDescription → P BadText → (kind : Kind) → P (contents_of kind).refused_as
 of_refused P description text Description = description
 of_refused P description text (Rules dialect) = text
@@ -117,7 +117,7 @@ of_refused P description text Document = description
 of_refused P description text Edited = description
 of_refused P description text Edits = text
 
--- ---- bytes past the limit
+-- ---- bytes beyond the limit
 
 long_description : (bytes : List ℕ) → (contents_of Description).most < length bytes → IsNoDescription bytes (refusal_text (refused TooLong WholeDocument))
 long_description bytes long = (refused TooLong WholeDocument, described-too_long bytes long, refl)

@@ -1,4 +1,5 @@
--- The rules for the machines of a host are one text, and do what is promised of them; so is the line that says why there are none.
+-- The rules for the machines of a host are a unique text and have their guarantee; the same holds for the line with the reason why there
+-- are none.
 use Rattle.std.proofs.Common.{◌≡◌, inl, inr, ℕ, true, false, not, ◌==◌, List, None, Some, refl, sym, ap, subst, ◌∙◌, true≢false, arith}
 use Rattle.std.specs.Prelude.{◌↔◌, Option}
 use Rattle.std.specs.Option.{option_map_or}
@@ -34,14 +35,14 @@ some_number i j h = cc
 none_is_some : (o : Option ℕ) (i : ℕ) → o ≡ None → o ≡ Some i → ⊥
 none_is_some o i none some = cc
 
--- the rest host is not specific
+-- The rest host is not specific.
 rest_is_not : (hosts : List Host) (h : ℕ) → rest_of hosts ≡ Some h → is_specific hosts h ≡ false
 rest_is_not hosts h rest = ap (λ (o : Option ℕ). option_map_or (λ r. not (r == h)) o true) rest ∙ itself h
   where
     itself : (n : ℕ) → not (n == n) ≡ false
     itself n = grind (arith, nat_tests)
 
--- a host that is not specific is the rest host
+-- A host that is not specific is the rest host.
 pub is_rest : (hosts : List Host) (h : ℕ) → is_specific hosts h ≡ false → rest_of hosts ≡ Some h
 is_rest hosts h other = by_rest (rest_of hosts) other
   where
@@ -53,7 +54,7 @@ is_rest hosts h other = by_rest (rest_of hosts) other
     by_rest (Some r) it = ap (λ (n : ℕ). Some n) (same r it)
 
 module _ (d : Network) (host : List ℕ) where
-  -- a host of that name has one number
+  -- A host of that name has one number.
   one_number : (a b : IsSpecific d host) → a.number ≡ b.number
   one_number a b = some_number a.number b.number (sym a.named ∙ b.named)
 
@@ -97,7 +98,7 @@ module _ (d : Network) (host : List ℕ) where
         only_reading = λ others reading. one_reading rules others own reading read;
       }
 
-  -- the reply of the rules for the machines of a specific host
+  -- The reply of the rules for the machines of a specific host.
   pub ends_with_rules : (reply : Reply) (policy : Policy) (rules : List Chain) → IsPolicyOf d policy → (found : IsSpecific d host) → rules ≡ machines_for d policy found.number
       → reply ≡ reply_on Done Output (text rules) → Answers false (machines_job d host) reply
   ends_with_rules reply policy rules is_policy found layout is =
@@ -106,7 +107,7 @@ module _ (d : Network) (host : List ℕ) where
         inr (inl (refl, (tt, found), record { policy = policy; is_policy = is_policy; so = (found, ap (λ (chains : List Chain). text chains) layout) })),
       )
 
-  -- the reply whatever was listed is that where a listed policy holds
+  -- The reply regardless of a listed policy is the reply if a listed policy holds.
   pub answers_listed : (reply : Reply) → ListedHolds d → Answers false (machines_job d host) reply → Answers false (local_job d host) reply
   answers_listed reply holds answers = (
     answers.0,
@@ -119,7 +120,7 @@ module _ (d : Network) (host : List ℕ) where
     ],
   )
 
-  -- where a listed policy holds, the line that there are none comes exactly for a host that is not declared or is the rest host
+  -- If a listed policy holds, the line that there are none is written if and only if the host is not declared or is the rest host.
   pub barred_exactly : (reply : Reply) → Answers false (local_job d host) reply → ListedHolds d → (reply.status ≡ NotEmittable) ↔ ((line : List ℕ) × IsBarred d host line)
   barred_exactly reply answers holds = (bar_where_said, said_where_barred)
     where

@@ -1,4 +1,4 @@
--- The lines of a text that go into a sink in blocks.
+-- The lines of a text that are written to a sink in blocks.
 use Rattle.std.proofs.Common.{◌≡◌, ℕ, zero, suc, ◌+◌, ◌≤◌, List, [], ◌∷◌, ◌++◌, Option, Some, inl, inr, length, take, drop, arith, refl, ap, sym, subst, ◌∙◌, append_assoc, add-one}
 use Rattle.std.proofs.lemmas.List.{append-nil, length-take-le, take-append-le}
 use Rattle.std.proofs.Math.Seq.{take_all, take-append-add}
@@ -22,17 +22,17 @@ concat-cut lines zero = refl
 concat-cut [] (suc i) = refl
 concat-cut (x ∷ xs) (suc i) = ap (λ rest. x ++ rest) (concat-cut xs i) ∙ sym (append_assoc x (concat (take i xs)) (concat (drop i xs)))
 
--- what was put and what waits in the block are the lines so far
+-- The written lines and those in the block are the lines so far.
 pub record IsSofar (old now : Option (List ℕ)) (lines : List (List ℕ)) (i : ℕ) (waiting : List ℕ) : Type 0 where
   pub front : List ℕ
   pub put : now ≡ append_known old front
   pub all : concat (take i lines) ≡ front ++ waiting
 
--- nothing yet
+-- Initially nothing.
 pub sofar_none : (old : Option (List ℕ)) (lines : List (List ℕ)) → old ≡ append_known old [] → IsSofar old old lines 0 []
 sofar_none old lines same = record { front = []; put = same; all = refl }
 
--- the block is put
+-- The block is written.
 pub sofar_put : (old now new : Option (List ℕ)) (lines : List (List ℕ)) (i : ℕ) (waiting : List ℕ) → IsSofar old now lines i waiting → new ≡ append_known now waiting
     → IsSofar old new lines i []
 sofar_put old now new lines i waiting sofar step = record {
@@ -41,7 +41,7 @@ sofar_put old now new lines i waiting sofar step = record {
   all = sofar.all ∙ sym (append-nil (sofar.front ++ waiting));
 }
 
--- there is room for a line
+-- The block has room for a line.
 pub sofar_room : (old now new : Option (List ℕ)) (lines : List (List ℕ)) (i : ℕ) (waiting left : List ℕ) → IsSofar old now lines i waiting → HasRoom now new waiting left
     → IsSofar old new lines i left
 sofar_room old now new lines i waiting left sofar (inl same) =
@@ -49,7 +49,7 @@ sofar_room old now new lines i waiting left sofar (inl same) =
 sofar_room old now new lines i waiting left sofar (inr put) =
     subst (λ (bytes : List ℕ). IsSofar old new lines i bytes) (sym put.1) (sofar_put old now new lines i waiting sofar put.0)
 
--- a line more waits
+-- One more line is in the block.
 pub sofar_line : (old now : Option (List ℕ)) (lines : List (List ℕ)) (i : ℕ) (waiting line : List ℕ) → IsSofar old now lines i waiting → slice_get lines i ≡ Some line
     → IsSofar old now lines (i + 1) (waiting ++ line)
 sofar_line old now lines i waiting line sofar there = record {
@@ -58,7 +58,7 @@ sofar_line old now lines i waiting line sofar there = record {
   all = rw add-one (concat-take_suc lines i line there ∙ ap (λ (bytes : List ℕ). bytes ++ line) sofar.all ∙ append_assoc sofar.front waiting line);
 }
 
--- a prefix of the block was put, and so of the text
+-- A prefix of the block was written, and so a prefix of the text.
 pub cut_in_block : (old now new : Option (List ℕ)) (lines : List (List ℕ)) (i : ℕ) (waiting : List ℕ) → IsSofar old now lines i waiting → TookPrefix now new waiting
     → TookPrefix old new (concat lines)
 cut_in_block old now new lines i waiting sofar took =
@@ -66,14 +66,14 @@ cut_in_block old now new lines i waiting sofar took =
     concat-cut lines i ∙ ap (λ (bytes : List ℕ). bytes ++ concat (drop i lines)) sofar.all ∙ append_assoc sofar.front waiting (concat (drop i lines)) in
     subst (λ (bytes : List ℕ). TookPrefix old new bytes) (sym all) (TookPrefix-after old now new sofar.front waiting (concat (drop i lines)) sofar.put took)
 
--- all was put
+-- Everything was written.
 pub put_whole : (old now new : Option (List ℕ)) (lines : List (List ℕ)) (i : ℕ) (waiting : List ℕ) → IsSofar old now lines i waiting → length lines ≤ i → new ≡ append_known now waiting
     → new ≡ append_known old (concat lines)
 put_whole old now new lines i waiting sofar end step =
     let done = sofar_put old now new lines i waiting sofar step in
     done.put ∙ ap (append_known old) (sym (append-nil done.front) ∙ sym done.all ∙ ap concat (take_all i lines end))
 
--- what is written to the front of the room stands behind what fills the block
+-- The bytes that are written to the front of the room follow the content of the block.
 pub written_behind : (at room n : ℕ) (old new : List ℕ) → at ≤ length old → n ≤ length new
     → take (at + n) (put_mid at room old new) ≡ take at old ++ take n new
 written_behind at room n old new within fits =

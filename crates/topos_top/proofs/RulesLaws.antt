@@ -1,4 +1,5 @@
--- The rules of a network are one text, and do what is promised of them; so is the line that says why there are none.
+-- The rules of a network are a unique text and have their guarantee; the same holds for the line with the reason why
+-- there are none.
 use Rattle.std.proofs.Common.{◌≡◌, ℕ, List, false, inl, refl, sym, subst, ◌∙◌, ap}
 use Rattle.host_net.specs.Site.{Site}
 use Rattle.host_net.specs.inner.Site.{IsSite}
@@ -21,7 +22,7 @@ use Rattle.topos_top.specs.declared.dialect.Dialect.{Dialect}
 use Rattle.topos_top.specs.declared.status.Status.TheVariants.{NotEmittable}
 use Rattle.topos_top.proofs.DialectLaws.{KeepsPolicies}
 
--- the policy of a network keeps its invariants
+-- The policy of a network has its properties.
 pub policy_keeps : (d : Network) (policy : Policy) → IsNetwork d → IsPolicyOf d policy → KeepInvariants d policy
 policy_keeps d policy network is = record {
   is_policy = is;
@@ -32,13 +33,13 @@ policy_keeps d policy network is = record {
   complies = CompliesWithAll-from_policy d policy network is;
 }
 
--- what holds for the policy of one holds for that of the other
+-- Properties of the policy of one hold for the policy of the other.
 pub moved : (d : Network) (P Q : Site → (p s : List Flow) → Type 0) (a : OfPolicy d P) (b : OfPolicy d Q)
     → P (site_of d) b.policy.permitted.flows b.policy.stateful.flows
 moved d P Q a b =
     subst (λ (policy : Policy). P (site_of d) policy.permitted.flows policy.stateful.flows) (policy_is_one d a.policy b.policy a.is_policy b.is_policy) a.so
 
--- the reply where the rules cannot be written
+-- The reply if the rules cannot be emitted.
 pub ends_hindered : (dialect : Dialect) (d : Network) (reply : Reply) (line : List ℕ) → reply ≡ error NotEmittable line
     → OfPolicy d ((language_of dialect).Hinders line) → Answers false (repair_job dialect d) reply
 ends_hindered dialect d reply line is hindered = subst (λ (r : Reply). Answers false (repair_job dialect d) r) (sym is) (refl, inl (refl, (tt, line, hindered), hindered))

@@ -1,4 +1,4 @@
--- What follows from the one reply of a run, by where it came to: a table of what is so there in each status.
+-- Consequences of the single reply of a run, by the point at which it stopped: a table of the facts for each status.
 use Rattle.std.proofs.Common.{◌≡◌, ◌⊎◌, inl, inr, ℕ, List, None, Some, Bool, true, false, true≢false, refl, ap, sym, subst, ◌∙◌}
 use Rattle.std.specs.Prelude.{◌↔◌}
 use Rattle.topos_top.specs.Ask.{Ask, AskNothing, AsksToReport, reports_on_output}
@@ -20,13 +20,13 @@ use Rattle.topos_top.proofs.CourseLaws.{wherever, came_so}
 use Rattle.topos_top.proofs.JobLaws.{is_end, IsOwed, IsSettled, from_one, told_of, end_status}
 use Rattle.topos_top.proofs.KindLaws.{of_refused}
 
--- ---- what is so where a run came to, by its status
+-- ---- facts at the point where a run stopped, by its status
 
--- an end of the job came, in this status, and its text went to its stream
+-- An outcome of the job was reached with this status, and its text was written to its stream.
 abbrev GaveEnd : (out err : SinkChange) → Status → Ask → Job → Type 0
 GaveEnd out err t ask job = (text : List ℕ) × OneEnd (Told t text) job × WentTo (stream_of (reports_on_output ask) t) out err text
 
--- an end that gave its text is of a status of ends
+-- An outcome whose text was delivered has a status of outcomes.
 of_end : (out err : SinkChange) (t : Status) (ask : Ask) (job : Job) → is_end t ≡ true → GaveEnd out err t ask job → AtJob t out err ask job
 of_end out err status.Done ask job is here = here
 of_end out err status.Violated ask job is here = here
@@ -34,12 +34,12 @@ of_end out err status.NotEmittable ask job is here = here
 of_end out err status.BadText ask job is here = here
 of_end out err t ask job is here = cc is
 
--- no job ends in usage
+-- No job has status usage.
 no_usage : (out err : SinkChange) (ask : Ask) (job : Job) → IsSettled job → GaveEnd out err status.Usage ask job → ⊥
 no_usage out err ask job owed gave =
     from_one IsOwed (Told status.Usage gave.0) job (λ end is told. true≢false (sym is.status ∙ ap is_end (sym told.0.0))) owed.owed gave.1
 
--- a line for the error stream ends the run in its status
+-- A line for the error stream ends the run with its status.
 pub ends_in_error : (out err : SinkChange) (s : Status) (reply : Reply) (ended : Status) (line : List ℕ) → reply ≡ error ended line → IsGiven out err reply s
     → (s ≡ ended) × (out.held_after ≡ out.held_before) × IsSaid err line
 ends_in_error out err s reply ended line is given = elim (subst (λ (r : Reply). IsGiven out err r s) is given) [
@@ -47,14 +47,14 @@ ends_in_error out err s reply ended line is given = elim (subst (λ (r : Reply).
   | inr cut ↦ let other = cut.1 in cc other
 ]
 
--- what is neither done nor reported on the output goes to the error stream
+-- A text that is neither done nor reported on the output is written to the error stream.
 to_errors : (on : Bool) (s : Status) → (s ≡ status.Done → ⊥) → (s ≡ status.Violated → on ≡ true → ⊥) → stream_of on s ≡ Errors
 to_errors on status.Done not_done not_reported = absurd (not_done refl)
 to_errors true status.Violated not_done not_reported = absurd (not_reported refl refl)
 to_errors false status.Violated not_done not_reported = refl
 to_errors on s not_done not_reported = refl
 
--- a file that stops a run has its reply in one of four statuses, and for the error stream
+-- A file that stops a run has a reply with one of four statuses, for the error stream.
 pub stop_status : (seen : ShelfChange) (kind : Kind) (file : List ℕ) (P : Status → Type 0) (given : Reply) → P status.ReadFault → P status.Memory → P status.BadDescription → P status.BadText
     → StopsAt seen kind file given → P given.status
 stop_status seen kind file P given unread memory description text (NoMemory begins is) = subst (λ (r : Reply). P r.status) (sym is) memory
@@ -73,7 +73,7 @@ module _ (words : List (List ℕ)) (shelf : ShelfChange) (out err : SinkChange) 
   in_error : (ended : Status) (line : List ℕ) → gave.reply ≡ error ended line → (s ≡ ended) × (out.held_after ≡ out.held_before) × IsSaid err line
   in_error ended line is = ends_in_error out err s gave.reply ended line is gave.given
 
-  -- a reply for the error stream ends the run in its status, and its line is said
+  -- A reply for the error stream ends the run with its status, and its line is written.
   said_error : gave.reply.stream ≡ Errors → (gave.reply.status ≡ s) × IsSaid err gave.reply.text
   said_error errors = elim gave.given [
     | inl whole ↦ (sym whole.0, (subst (λ (stream : Stream). WentTo stream out err gave.reply.text) errors whole.1).1)
@@ -106,7 +106,7 @@ module _ (words : List (List ℕ)) (shelf : ShelfChange) (out err : SinkChange) 
     })
   ]
 
-  -- the cause of each status but usage is its row
+  -- The cause of each status except usage is its row.
   pub caused : (t : Status) → (t ≡ status.Usage → ⊥) → s ≡ t → HasCause t words shelf out err
   caused t other is = elim came [
     | inl usage ↦ absurd (other (sym is ∙ usage.0))
@@ -124,9 +124,9 @@ module _ (words : List (List ℕ)) (shelf : ShelfChange) (out err : SinkChange) 
           (λ kind file at here. stop_status (since at shelf) kind file (λ t. t ≡ status.Usage → ⊥) here.0 (λ e. cc e) (λ e. cc e) (λ e. cc e) (λ e. cc e) here.1 here.2)
           (λ job at owed here. no_usage out err there.ask job owed here.1) there.along
 
-  -- ---- streams that are as they were
+  -- ---- unchanged streams
 
-  -- the reply is for the stream of its status
+  -- The reply is for the stream of its status.
   error_goes : (on : Bool) (ended : Status) (line : List ℕ) → gave.reply ≡ error ended line → Errors ≡ stream_of on ended → gave.reply.stream ≡ stream_of on gave.reply.status
   error_goes on ended line is errors = subst (λ (r : Reply). r.stream ≡ stream_of on r.status) (sym is) errors
 
@@ -138,7 +138,7 @@ module _ (words : List (List ℕ)) (shelf : ShelfChange) (out err : SinkChange) 
   job_goes on job (inl lack) = error_goes on _ _ lack refl
   job_goes on job (inr answers) = answers.0
 
-  -- words that ask for nothing have a reply on the error stream, in no other status than usage
+  -- Arguments that form no command have a reply on the error stream, with status usage only.
   usage_goes : AskNothing words → gave.reply ≡ usage → (s ≡ status.Usage) × (gave.reply.stream ≡ Errors)
   usage_goes nothing is = ((in_error _ _ is).0, ap (λ (r : Reply). r.stream) is)
 
@@ -146,21 +146,22 @@ module _ (words : List (List ℕ)) (shelf : ShelfChange) (out err : SinkChange) 
   goes ask may =
       wherever shelf.only_failures (course_of ask) shelf.before _ _ (settled ask) (file_goes (reports_on_output ask)) (λ job at owed here. job_goes (reports_on_output ask) job here.1) may
 
-  -- so it is for the stream of the status in which the run ended, unless it was cut off
+  -- So it is for the stream of the status of the run, unless the output failed.
   stream_is : (ask : Ask) → MayReply (reports_on_output ask) (course_of ask) shelf gave.reply → (s ≡ status.WriteFault → ⊥) → gave.reply.stream ≡ stream_of (reports_on_output ask) s
   stream_is ask may not_cut = elim gave.given [
     | inl whole ↦ goes ask may ∙ ap (stream_of (reports_on_output ask)) (sym whole.0)
     | inr cut ↦ absurd (not_cut cut.0)
   ]
 
-  -- a run that ends otherwise than done, by a write fault, or with a report on the output has nothing for the output
+  -- A run that ends neither with status done, nor with a write fault, nor with a report on the output has nothing for
+  -- the output.
   pub nothing_to_write : (s ≡ status.Done → ⊥) → (s ≡ status.WriteFault → ⊥) → (s ≡ status.Violated → AsksToReport words → ⊥) → gave.reply.stream ≡ Errors
   nothing_to_write not_done not_cut not_reported = elim gave.allowed [
     | inl nothing ↦ (usage_goes nothing.0 nothing.1).1
     | inr asks ↦ stream_is asks.0 asks.2 not_cut ∙ to_errors (reports_on_output asks.0) s not_done (λ violated on. not_reported violated (asks.0, asks.1, on))
   ]
 
-  -- a run that is done, or ends with a report on the output, has a text for the output
+  -- A run that ends with status done, or with a report on the output, has a text for the output.
   pub something_to_write : (s ≡ status.Done) ⊎ ((s ≡ status.Violated) × AsksToReport words) → gave.reply.stream ≡ Output
   something_to_write (inl done) = elim gave.allowed [
     | inl nothing ↦ let other = (usage_goes nothing.0 nothing.1).0 in cc (done, other)

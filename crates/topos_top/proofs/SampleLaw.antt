@@ -1,4 +1,4 @@
--- The sample names no file, so that its run is its job alone.
+-- The sample reads no file, so its run consists only of its job.
 use Rattle.std.proofs.Common.{◌≡◌, inl, inr, ℕ, false, List, ap, subst, ◌∙◌}
 use Rattle.sample_core.proofs.SamplePromisesLaws.{tells_sample}
 use Rattle.topos_top.specs.Ask.{Ask, Sample, AskFor, reports_on_output}

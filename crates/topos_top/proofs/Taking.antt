@@ -1,4 +1,4 @@
--- How a file that was taken off the shelf, or was not, is what the call saw of it.
+-- The result of reading a file, or of failing to read it, is the observation of the call.
 use Rattle.std.proofs.Common.{◌≡◌, ◌∙◌, ℕ, ◌+◌, ◌<◌, ◌≤◌, ◌⊎◌, inl, inr, min, List, length, Option, None, Some, Err, refl, sym, ap, arith, replicate}
 use Rattle.std.proofs.lemmas.List.{length-replicate}
 use Rattle.std.specs.Prelude.{IfSome, IsSomeAnd}
@@ -20,7 +20,7 @@ use Rattle.topos_top.specs.declared.kind.Kind.{Kind}
 use Rattle.topos_top.specs.declared.status.Status.{Status}
 use Rattle.topos_top.specs.declared.status.Status.TheVariants.{BadDescription}
 
--- a file that was taken whole
+-- A file that was read completely.
 pub took_whole : {E : Type 0} (kind : Kind) (file bytes : List ℕ) (shelf : ShelfChange) → Holds shelf.before file bytes → shelf.after.told ≡ shelf.before.told
     → shelf.before.faults ≤ shelf.after.faults → (shelf.only_failures → E ⊎ (shelf.after.faults ≡ shelf.before.faults)) → (E → ⊥)
     → shelf.after.begins ≡ more shelf.before.begins 1 → length bytes ≡ shelf.after.taken → length bytes ≤ (contents_of kind).most → TookFile shelf kind file bytes
@@ -35,24 +35,25 @@ took_whole kind file bytes shelf held told faults_stay fault none begins taken w
   };
 }
 
--- there are bytes past every limit
+-- For every limit there are bytes beyond it.
 some_longer : (limit : ℕ) → (bytes : List ℕ) × (limit < length bytes)
 some_longer limit = (replicate (limit + 1) 0, rw length-replicate (omega arith))
 
--- the bytes of a held file that is too long
+-- The bytes of an observable file that is too long.
 told_longer : (limit : ℕ) (held : Option (List ℕ)) → IsSomeAnd held (λ bytes. limit < length bytes)
     → (bytes : List ℕ) × (held ≡ Some bytes) × (limit < length bytes)
 told_longer limit None longer = absurd longer
 told_longer limit (Some bytes) longer = (bytes, refl, longer)
 
--- some bytes that are too long are what the file holds, where that is told
+-- Bytes that are too long are the content of the file, if it is observable.
 too_long_seen : (limit : ℕ) (file : List ℕ) (told : Option Files)
     → IfSome told (λ files. IsSomeAnd (get files file) (λ bytes. limit < length bytes))
     → (bytes : List ℕ) × IfSome told (λ files. get files file ≡ Some bytes) × (limit < length bytes)
 too_long_seen limit file None longer = let some = some_longer limit in (some.0, tt, some.1)
 too_long_seen limit file (Some files) longer = told_longer limit (get files file) longer
 
--- a file of which one byte too many was taken: a told one is longer than the limit, and an untold one may be any that is
+-- A file of which one byte beyond the limit was read: an observable file is longer than the limit, and an unobservable one may be any file
+-- that is.
 pub took_too_much : (kind : Kind) (file : List ℕ) (shelf : ShelfChange) (given : Reply) → IfSome shelf.before.told (λ files. IsSomeAnd (get files file) (λ bytes. (contents_of kind).most < length bytes))
     → shelf.after.begins ≡ more shelf.before.begins 1 → shelf.after.taken ≡ (contents_of kind).most + 1 → ((bytes : List ℕ) → (contents_of kind).most < length bytes → IsRefused kind bytes given)
     → StopsAt shelf kind file given
@@ -63,12 +64,12 @@ took_too_much kind file shelf given longer begins taken refused =
     counted : (bytes : List ℕ) → (contents_of kind).most < length bytes → shelf.after.taken ≡ min (length bytes) ((contents_of kind).most + 1)
     counted bytes longer = omega (arith, longer, taken)
 
--- bytes that are refused
+-- Bytes that are rejected.
 pub refused_whole : (kind : Kind) (file bytes : List ℕ) (shelf : ShelfChange) (given : Reply) → TookFile shelf kind file bytes → IsRefused kind bytes given → StopsAt shelf kind file given
 refused_whole kind file bytes shelf given took refused =
     Stopped (Some bytes) (record { begins = took.took.begins; held = took.held; taken = took.took.taken }) refused
 
--- a description that is refused, or for which there is no memory
+-- A description that is refused, or for which memory runs out.
 pub description_refused : (kind : Kind) → ((bytes line : List ℕ) → IsNoDescription bytes line → (contents_of kind).Refuses bytes line) → (contents_of kind).refused_as ≡ BadDescription
     → (shelf : ShelfChange) (file bytes : List ℕ) (fault : DescFault) (given : Reply) → TookFile shelf kind file bytes
     → ((why : Refusal) → fault ≡ desc.Refused why → described bytes ≡ Err why) → given ≡ description_reply fault → StopsAt shelf kind file given

@@ -1,4 +1,4 @@
--- Where the shelf tells its files and had no fault, words and files decide the reply.
+-- If the files of the shelf are observable and no error occurred, arguments and files determine the reply.
 use Rattle.std.proofs.Common.{◌≡◌, ◌⊎◌, inl, inr, ℕ, List, Option, None, Some, refl, sym, subst, ◌∙◌}
 use Rattle.std.specs.Prelude.{IfSome}
 use Rattle.edge_io.specs.Counts.{Rose}
@@ -26,7 +26,7 @@ reply_to_is_one words told r s (inr p) (inr q) =
     told_once (reports_on_output p.0) (course_of p.0) (telling told) (telling told) told r s (settled p.0) refl refl p.2
     (subst (λ (ask : Ask). Replies (reports_on_output ask) (course_of ask) told s) same q.2)
 
--- what is given is want of memory, or a reply to the told files
+-- The reply is an allocation failure, or the reply for the observable files.
 may_as_told : (words : List (List ℕ)) (shelf : ShelfChange) (files : Files) (given : Reply) → shelf.before.told ≡ Some files → (Rose shelf.before.faults shelf.after.faults → ⊥)
     → MayGive words shelf given → (given ≡ no_memory) ⊎ RepliesTo words files given
 may_as_told words shelf files given told no_fault (inl nothing) = inr (inl (nothing.0, nothing.1))

@@ -1,4 +1,4 @@
--- The forms of the command line word by word, and some words that are none of them.
+-- Test vectors: the command forms, and some arguments that form no command.
 use Rattle.std.proofs.Common.{◌≡◌, ℕ, List, [], ◌∷◌, None, Some, refl}
 use Rattle.std.specs.Prelude.{codes}
 use Rattle.std.specs.Fmt.{digits}
@@ -52,7 +52,7 @@ local_words : (file host : List ℕ) → ask_of (codes "local" ∷ file ∷ host
 unfolding ask_of
 local_words file host = refl
 
--- no host, more than there may be, a zero in front, no number, a word too many
+-- No host, more than the limit, a leading zero, no number, an argument too many.
 no_hosts : ask_of (codes "sample" ∷ codes "0" ∷ []) ≡ None
 unfolding ask_of number digits
 no_hosts = refl
@@ -77,7 +77,7 @@ sample_of_file : (file : List ℕ) → ask_of (codes "sample" ∷ codes "8" ∷ 
 unfolding ask_of number digits
 sample_of_file file = refl
 
--- rules of another dialect, a word too few, a word too many
+-- Rules of another dialect, an argument too few, an argument too many.
 other_dialect : (file : List ℕ) → ask_of (codes "rules" ∷ codes "nftables" ∷ file ∷ []) ≡ None
 unfolding ask_of
 other_dialect file = refl

@@ -1,4 +1,4 @@
--- What the words of a command line ask for (docs/GUIDE.md): a constructor for each form, with all that its words say.
+-- The commands of the command line (docs/GUIDE.md): one constructor per command form, with all its arguments.
 use Rattle.std.specs.Prelude.{◌≡◌, ℕ, ◌<◌, ◌≤◌, List, [], ◌∷◌, ◌++◌, Bool, true, false, IsTrue, codes, decimal}
 use Rattle.host_net.specs.Limits.{host_limit}
 use Rattle.topos_top.specs.declared.dialect.Dialect.{Dialect}
@@ -16,11 +16,12 @@ pub data Ask : Type 0 where
   Edit : (file edits : List ℕ) → Ask
   Local : (file host : List ℕ) → Ask
 
+-- The name of a dialect on the command line.
 abbrev pub dialect_word : Dialect → List ℕ
 dialect_word Iptables = codes "iptables"
 dialect_word OpenFlow = codes "openflow"
 
--- the words that ask for it
+-- The arguments of the command.
 abbrev pub words_for : Ask → List (List ℕ)
 words_for (Check file) = codes "check" ∷ file ∷ []
 words_for (Policy file) = codes "policy" ∷ file ∷ []
@@ -33,20 +34,20 @@ words_for (Audit dialect file rules) = codes "audit" ∷ dialect_word dialect �
 words_for (Edit file edits) = codes "edit" ∷ file ∷ edits ∷ []
 words_for (Local file host) = codes "local" ∷ file ∷ host ∷ []
 
--- a sample has from 1 to as many hosts as there may be
+-- The number of hosts of a sample is from 1 to the host limit.
 abbrev pub HasFewHosts : Ask → Type 0
 HasFewHosts (Sample hosts) = (0 < hosts) × (hosts ≤ host_limit)
 HasFewHosts _ = Unit {0}
 
--- The words ask for this.
+-- The arguments form this command.
 abbrev pub AskFor : List (List ℕ) → Ask → Type 0
 AskFor words ask = (words ≡ words_for ask) × HasFewHosts ask
 
--- The words are no form of the command line.
+-- The arguments form no command.
 abbrev pub AskNothing : List (List ℕ) → Type 0
 AskNothing words = (ask : Ask) → AskFor words ask → ⊥
 
--- the forms, as they are told where words are none of them
+-- The usage text, which lists the command forms.
 unfoldable pub usage_text : List ℕ
 usage_text =
     codes "usage: topos check FILE\n"
@@ -60,12 +61,12 @@ usage_text =
     ++ (codes "       topos edit FILE EDITS\n"
     ++ codes "       topos local FILE HOST\n"))))))))
 
--- the report of what fails goes to the output, and else to the error stream
+-- The command reports violations on the output. All other commands report them on the error stream.
 abbrev pub reports_on_output : Ask → Bool
 reports_on_output (Check file) = true
 reports_on_output (Audit dialect file rules) = true
 reports_on_output _ = false
 
--- The words ask for a command that reports so.
+-- The arguments form a command that reports violations on the output.
 abbrev pub AsksToReport : List (List ℕ) → Type 0
 AsksToReport words = (ask : Ask) × AskFor words ask × IsTrue (reports_on_output ask)

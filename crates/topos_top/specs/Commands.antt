@@ -1,4 +1,5 @@
--- The table of the commands: the course of each. Policies and reports are singled out by what is true of them, and not by a way to find them.
+-- The table of commands: the plan of each command. Policies and reports are characterized by their properties, not by an algorithm that
+-- finds them.
 use Rattle.std.specs.Prelude.{ℕ, List}
 use Rattle.topos_top.specs.Ask.{Ask, Check, Policy, Rules, Repair, Trace, Sample, Migrate, Audit, Edit, Local, AskFor}
 use Rattle.topos_top.specs.Audit.{audit_job, rules_in}
@@ -15,6 +16,7 @@ use Rattle.topos_top.specs.Sample.{sample_job}
 use Rattle.topos_top.specs.Trace.{trace_job}
 use Rattle.topos_top.specs.declared.kind.Kind.TheVariants as kind
 
+-- The plan of each command.
 abbrev pub course_of : Ask → Course
 course_of (Check file) = reads kind.Description file (λ d. ends (check_job d))
 course_of (Policy file) = reads kind.Description file (λ d. ends (policy_job d))
@@ -27,6 +29,6 @@ course_of (Audit dialect file rules) = reads kind.Description file (λ d. reads 
 course_of (Edit file edits) = reads kind.Edited file (λ table. reads kind.Edits edits (λ es. ends (edit_job table es)))
 course_of (Local file host) = reads kind.Description file (λ d. ends (local_job d host))
 
--- the words are no command, or one that names no file
+-- The arguments form no command, or a command that reads no file.
 abbrev pub NamesNoFile : List (List ℕ) → Type 0
 NamesNoFile words = (ask : Ask) → AskFor words ask → ReadsNothing (course_of ask)

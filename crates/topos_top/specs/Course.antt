@@ -1,20 +1,21 @@
--- What a command does with its files: it reads them one after the other, each in its turn, and has a job with what it read.
+-- The plan of a command: the files that it reads, in order, and then its outcomes for their contents.
 use Rattle.std.specs.Prelude.{◌⊎◌, List, ℕ}
 use Rattle.topos_top.specs.Job.{Job}
 use Rattle.topos_top.specs.Kinds.{contents_of}
 use Rattle.topos_top.specs.Shelf.{Shelf, Holds, TookBytes}
 use Rattle.topos_top.specs.declared.kind.Kind.{Kind}
 
+-- A plan either reads a file and continues by its parse result, or ends with a list of outcomes.
 pub data Course : Type 1 where
   reads : (kind : Kind) (file : List ℕ) → ((contents_of kind).Said → Course) → Course
   ends : Job → Course
 
--- a course without files
+-- A plan without files.
 abbrev pub ReadsNothing : Course → Type 0
 ReadsNothing (reads kind file next) = ⊥
 ReadsNothing (ends job) = Unit {0}
 
--- A file was accepted with this reading, and what comes next is so with the shelf after it.
+-- A file was accepted with this parse result, and `Next` holds for the rest of the plan with the shelf after it.
 pub record Accepted (only_failures : Type 0) (shelf : Shelf) (kind : Kind) (file : List ℕ) (Next : (contents_of kind).Said → Shelf → Type 0) : Type 0 where
   pub bytes : List ℕ
   pub held : Holds shelf file bytes
@@ -24,7 +25,8 @@ pub record Accepted (only_failures : Type 0) (shelf : Shelf) (kind : Kind) (file
   pub took : TookBytes only_failures kind bytes shelf after
   pub next : Next said after
 
--- Where a run along a course came to, from this shelf, which may count only calls that fail: to a file, after every one before it was accepted; or to the job, after all were.
+-- The point of the plan at which a run from this shelf stopped (the shelf may count only calls that fail): at a file, after every earlier
+-- file was accepted; or at the outcomes, after all files were accepted.
 abbrev pub CameAlong : Type 0 → Course → Shelf → (at_file : Kind → (file : List ℕ) → Shelf → Type 0) → (at_job : Job → Shelf → Type 0) → Type 0
 CameAlong only_failures (reads kind file next) shelf at_file at_job =
     at_file kind file shelf ⊎ Accepted only_failures shelf kind file (λ said after. CameAlong only_failures (next said) after at_file at_job)

@@ -1,4 +1,4 @@
--- The dialects of rules: how rules are written and read, what they let pass, and the rules of a policy.
+-- The dialects of rules: their texts, their parsers, the packets that rules forward, and the rules of a policy.
 use Rattle.std.specs.Prelude.{◌≡◌, ◌≤◌, ◌<◌, ℕ, List, ◌++◌, length, codes, decimal}
 use Rattle.emit_core.specs.FlowTable.{flow_entries}
 use Rattle.emit_core.specs.EmitRefusals.{rule_limit}
@@ -25,8 +25,9 @@ use Rattle.topos_top.specs.TextFault.{TellsFault, rules_reason, flows_reason}
 use Rattle.topos_top.specs.declared.dialect.Dialect.{Dialect}
 use Rattle.topos_top.specs.declared.dialect.Dialect.TheVariants.{Iptables, OpenFlow}
 
--- A dialect: what rules are, their text, the most bytes that one may have which is read, which rules a text is read as, why one is refused, which packets rules let pass in which state, and what they do with frames that are no such packets;
--- and for a site with permitted flows p and stateful ones s their rules, where these can be written, and the line that says why not (docs/TEXTS.md).
+-- A dialect: the type of its rules, their text, the size limit of the parser, the rules that a text parses to, the reasons to reject a
+-- text, the packets that rules forward in each state, and the treatment of other frames; and, for a site with permitted flows p and
+-- stateful flows s, their rules, if they can be emitted, and the line that gives the reason otherwise (docs/TEXTS.md).
 pub record Language : Type 1 where
   pub Rules : Type 0
   pub text : Rules → List ℕ
@@ -39,12 +40,12 @@ pub record Language : Type 1 where
   pub CanWrite : Site → (p s : List Flow) → Type 0
   pub Hinders : (line : List ℕ) → Site → (p s : List Flow) → Type 0
 
--- there are too many rules of chains, and the line says how many
+-- The chains have too many rules, and the line reports their number.
 abbrev pub BarsChains : (line : List ℕ) → Site → (p s : List Flow) → Type 0
 BarsChains line site p s =
     (rule_limit < rule_count (layout site p s)) × (line ≡ not_emittable (decimal (rule_count (layout site p s)) ++ codes " rules exceed 600000\n"))
 
--- chains of iptables, which see IPv4 packets alone
+-- Chains of iptables, which process only IPv4 packets.
 abbrev pub iptables : Language
 iptables = record {
   Rules = List Chain;
@@ -59,8 +60,8 @@ iptables = record {
   Hinders = BarsChains;
 }
 
--- Why there is no table, and the line that says so: the first flow of s whose answers are not covered, since a table keeps no connections; where there is none, the first flow of p with a
--- range of ports; where there is none, there are too many entries.
+-- The reason for no table, and the line that reports it: the first flow of s whose answers are not covered, since a table is stateless;
+-- otherwise the first flow of p with a range of ports; otherwise too many entries.
 pub data BarsTable (line : List ℕ) (site : Site) (p s : List Flow) : Type 0 where
   NeedsState : (flow : Flow) → IsFirstBarred site.services p s flow
       → line ≡ not_emittable (codes "answers of " ++ (flow_text site.hosts flow ++ codes " need state\n")) → BarsTable line site p s
@@ -69,7 +70,7 @@ pub data BarsTable (line : List ℕ) (site : Site) (p s : List Flow) : Type 0 wh
   TooManyFlows : AnswersAreCovered site.services p s → HasNoRange site.services p → most_entries < length (flow_entries site p)
       → line ≡ not_emittable (decimal (length (flow_entries site p)) ++ codes " flows exceed 8192\n") → BarsTable line site p s
 
--- a flow table of OpenFlow: it can be written where nothing bars it
+-- A flow table of OpenFlow. It can be emitted unless there is such a reason.
 abbrev pub openflow : Language
 openflow = record {
   Rules = List Entry;
@@ -84,6 +85,7 @@ openflow = record {
   Hinders = BarsTable;
 }
 
+-- The definition of each dialect.
 abbrev pub language_of : Dialect → Language
 language_of Iptables = iptables
 language_of OpenFlow = openflow

@@ -1,4 +1,4 @@
--- `edit FILE EDITS`: what becomes of a network as its description is edited, and its policy in the end.
+-- `edit FILE EDITS`: the development of a network while its description is edited, and its final policy.
 use Rattle.std.specs.Prelude.{◌≡◌, ℕ, ◌+◌, List, [], ◌∷◌, ◌++◌, Ok, Err, codes, decimal}
 use Rattle.desc_core.specs.Description.{described_by_table}
 use Rattle.edit_core.specs.Runs.{AreSummaries, after_edits}
@@ -22,12 +22,12 @@ summary_line k s =
     ++ (codes " permitted "
     ++ (decimal s.permitted ++ (codes " stateful " ++ (decimal s.stateful ++ (codes " failing " ++ (decimal s.failing ++ codes "\n"))))))))
 
--- the lines of the summaries, where the first is that of edit k
+-- The lines of the summaries, the first of which belongs to edit k.
 abbrev pub summary_lines : ℕ → List Summary → List ℕ
 summary_lines k [] = []
 summary_lines k (s ∷ ss) = summary_line k s ++ summary_lines (k + 1) ss
 
--- The text says the summaries, and then reports what this table describes.
+-- The text lists the summaries, and then reports the network that this table describes.
 pub record SaysTable (Reports : Network → List ℕ → Type 0) (table : Members) (summaries : List Summary) (text : List ℕ) : Type 0 where
   pub network : Network
   pub described : described_by_table table ≡ Ok network
@@ -35,8 +35,8 @@ pub record SaysTable (Reports : Network → List ℕ → Type 0) (table : Member
   pub reports : Reports network report
   pub written : text ≡ summary_lines 1 summaries ++ report
 
--- No edit is refused. The text says of the description after each of them how much is asked for, permitted and stateful and how many
--- invariants fail, and then reports what the last table describes.
+-- No edit is refused. For the description after each edit, the text reports the number of asked, permitted and stateful flows and of
+-- failing invariants; then it reports the network of the last table.
 pub record SaysEdits (Reports : Network → List ℕ → Type 0) (table : Members) (edits : List Edit) (text : List ℕ) : Type 0 where
   pub last : Members
   pub accepted : after_edits edits table ≡ Ok last
@@ -44,14 +44,14 @@ pub record SaysEdits (Reports : Network → List ℕ → Type 0) (table : Member
   pub told : AreSummaries edits table summaries
   pub says : SaysTable Reports last summaries text
 
--- The line says which edit is the first that is refused, on the table that those before it leave, and why.
+-- The line reports the first edit that is refused, on the table that the edits before it leave, and the reason.
 pub record SaysRefusal (table : Members) (edits : List Edit) (line : List ℕ) : Type 0 where
   pub number : ℕ
   pub why : EditWhy
   pub refused : after_edits edits table ≡ Err (number, why)
   pub told : line ≡ edit_fault_line number why
 
--- no edit is refused
+-- No edit is refused.
 abbrev pub acceptance : Members → List Edit → End
 acceptance table edits = record {
   status = Done;
@@ -60,5 +60,6 @@ acceptance table edits = record {
   tells = SaysEdits TellsPolicy table edits;
 }
 
+-- The outcomes of edits: an edit is refused, or all are accepted.
 abbrev pub edit_job : Members → List Edit → Job
 edit_job table edits = says_why BadText (Unit {0}) (SaysRefusal table edits) ∷ (acceptance table edits ∷ [])

@@ -1,4 +1,4 @@
--- The kinds of files: what is read of the bytes of each, and why bytes are refused.
+-- The file formats: the parse result of a file of each kind, and the reasons to reject it.
 use Rattle.std.specs.Prelude.{◌≡◌, ℕ, List, Ok, Err, codes}
 use Rattle.desc_core.specs.Conditions.{byte_limit}
 use Rattle.desc_core.specs.Description.{described}
@@ -20,7 +20,8 @@ use Rattle.topos_top.specs.declared.kind.Kind.TheVariants.{Description, Rules, E
 use Rattle.topos_top.specs.declared.status.Status.{Status}
 use Rattle.topos_top.specs.declared.status.Status.TheVariants as status
 
--- What files of a kind hold: what is read of one, the most bytes that it may have, which reading bytes have, why they are refused, and the status of a run that this ends.
+-- The format of a kind of file: the type of its parse results, its size limit, the parse result of the bytes, the reasons to reject them,
+-- and the status of a run that a rejection ends.
 pub record Contents : Type 1 where
   pub Said : Type 0
   pub most : ℕ
@@ -28,18 +29,19 @@ pub record Contents : Type 1 where
   pub Refuses : (bytes line : List ℕ) → Type 0
   pub refused_as : Status
 
--- the bytes are no description, and the line is that of the refusal
+-- The bytes are no description, and the line reports the refusal.
 abbrev pub IsNoDescription : (bytes line : List ℕ) → Type 0
 IsNoDescription bytes line = (why : Refusal) × (described bytes ≡ Err why) × (line ≡ refusal_text why)
 
--- a description, of which this is read
+-- A description, with this parse result.
 abbrev pub description : (Said : Type 0) → (List ℕ → Said → Type 0) → Contents
 description Said Reads = record { Said = Said; most = byte_limit; Reads = Reads; Refuses = IsNoDescription; refused_as = status.BadDescription }
 
--- a text by lines
+-- A line-oriented file.
 abbrev pub text : (Said : Type 0) → ℕ → (List ℕ → Said → Type 0) → (Refuses : (bytes line : List ℕ) → Type 0) → Contents
 text Said most Reads Refuses = record { Said = Said; most = most; Reads = Reads; Refuses = Refuses; refused_as = status.BadText }
 
+-- The format of each kind of file.
 abbrev pub contents_of : Kind → Contents
 contents_of Description = description Network (λ bytes d. described bytes ≡ Ok d)
 contents_of (Rules dialect) = text (language_of dialect).Rules (language_of dialect).byte_limit (language_of dialect).IsReading (language_of dialect).Refuses
@@ -48,7 +50,7 @@ contents_of Document = description (List ℕ) IsMigrated
 contents_of Edited = description Members (λ bytes table. IsStarted bytes (Ok table))
 contents_of Edits = text (List Edit) edits_text.byte_limit IsReadingOfEdits (TellsFault (codes "edits") list_reason IsRefusedInEdits)
 
--- the reply to bytes that are refused
+-- The reply to bytes that are rejected.
 pub record IsRefused (kind : Kind) (bytes : List ℕ) (given : Reply) : Type 0 where
   pub line : List ℕ
   pub refuses : (contents_of kind).Refuses bytes line

@@ -1,4 +1,4 @@
--- `local FILE HOST`: the rules for the machines of one host, unless the policy was listed and breaks an invariant.
+-- `local FILE HOST`: the rules for the machines of one host, unless the policy was listed and violates an invariant.
 use Rattle.std.specs.Prelude.{◌≡◌, ℕ, List, [], ◌∷◌, ◌++◌, None, Some, codes, IsTrue}
 use Rattle.host_emit.specs.Guarding.{Guards}
 use Rattle.host_emit.specs.LocalEvents.{PassesExpected}
@@ -15,28 +15,29 @@ use Rattle.topos_top.specs.Reply.{not_emittable}
 use Rattle.topos_top.specs.Rules.{KeepInvariants, ListedHolds, OfPolicy}
 use Rattle.topos_top.specs.declared.status.Status.TheVariants.{Violated, NotEmittable, Done}
 
--- Why there are no rules for a host of that name, and the line that says so (docs/TEXTS.md): there is no such host, or it is the rest host, which has no machines of its own.
+-- The reason for no rules for a host of that name, and the line that reports it (docs/TEXTS.md): there is no such host, or it is the rest
+-- host, which has no machines.
 pub data IsBarred (d : Network) (host line : List ℕ) : Type 0 where
   NoHost : host_named d.hosts host ≡ None → line ≡ not_emittable (codes "no host " ++ (host ++ codes "\n")) → IsBarred d host line
   RestHost : (h : ℕ) → host_named d.hosts host ≡ Some h → rest_of d.hosts ≡ Some h → line ≡ not_emittable (host ++ codes " is the rest host\n") → IsBarred d host line
 
--- The host of that name is a specific one, and this is its number.
+-- The host of that name is specific, with this number.
 pub record IsSpecific (d : Network) (host : List ℕ) : Type 0 where
   pub number : ℕ
   pub named : host_named d.hosts host ≡ Some number
   pub specific : IsTrue (is_specific d.hosts number)
 
--- The text is the rules for the machines of that host, by the policy of the network.
+-- The text is the rules for the machines of that host, for the policy of the network.
 abbrev pub IsLocal : Network → (host rules : List ℕ) → Type 0
 IsLocal d host rules = OfPolicy d (λ site p s. (found : IsSpecific d host) × (rules ≡ text (local_layout site p s found.number)))
 
--- The chains for the machines of each host, by a policy of the network.
+-- The chains for the machines of each host, for a policy of the network.
 abbrev pub machines_for : Network → Policy → ℕ → List Chain
 machines_for d policy = local_layout (site_of d) policy.permitted.flows policy.stateful.flows
 
--- What rules for the machines of a host do. They guard it by the policy, which is that of the network and keeps its invariants. Where every specific host has its own on its
--- machines, over every list of packets and forgettings, a packet passes exactly where the policy and its answers expect it. The text has these rules
--- as its reading, and no others.
+-- The guarantee of the rules for the machines of a host. They enforce the policy on the host; the policy is that of the network and
+-- satisfies its invariants. If every specific host has its rules on its machines, a packet passes if and only if the policy and its answers
+-- expect it, for every list of events. The text parses to exactly these rules.
 pub record KeepLocal (d : Network) (host rules : List ℕ) : Type 0 where
   pub policy : Policy
   pub invariants : KeepInvariants d policy
@@ -47,13 +48,14 @@ pub record KeepLocal (d : Network) (host rules : List ℕ) : Type 0 where
   pub read : IsReading rules (machines_for d policy found.number)
   pub only_reading : (others : List Chain) → IsReading rules others → others ≡ machines_for d policy found.number
 
--- the rules, where this holds and the host is a specific one; and before them the line that says why, where this holds and it is not
+-- The rules, if the condition holds and the host is specific; with higher precedence the line with the reason, if the condition holds and
+-- the host is not specific.
 abbrev pub machines_when : Type 0 → Network → (host : List ℕ) → Job
 machines_when holds d host =
     says_why NotEmittable holds (IsBarred d host)
     ∷ (record { status = Done; when = holds × IsSpecific d host; is = IsLocal d host; tells = KeepLocal d host }
     ∷ [])
 
--- The same, or the report of `check` where a listed policy breaks an invariant.
+-- The same, or the report of `check` if a listed policy violates an invariant.
 abbrev pub local_job : Network → (host : List ℕ) → Job
 local_job d host = offences_when Violated (ListedHolds d → ⊥) d ∷ machines_when (ListedHolds d) d host

@@ -1,4 +1,4 @@
--- What an operator may rely on, each by itself. All of it follows from the one reply of a run.
+-- What an operator may rely on, one promise per definition. All of them follow from the single reply of a run.
 use Rattle.std.specs.Prelude.{◌≡◌, ℕ, ◌⊎◌, List, codes, Some, IfSome}
 use Rattle.audit_core.specs.Sides.{ForwardAlike}
 use Rattle.edge_io.specs.Counts.{Rose}
@@ -23,28 +23,30 @@ use Rattle.topos_top.specs.declared.status.Status.{Status}
 use Rattle.topos_top.specs.declared.status.Status.TheVariants as status
 use Rattle.topos_top.specs.declared.status.Stream.TheVariants.{Output}
 
--- The run gave one reply that the files as it saw them allow: in its status, and with its text on its stream.
+-- The run delivered one reply that the observed files allow: with its status, and its text on its stream.
 pub record GaveReply (words : List (List ℕ)) (shelf : ShelfChange) (out err : SinkChange) (ended : Status) : Type 0 where
   pub reply : Reply
   pub allowed : MayGive words shelf reply
   pub given : IsGiven out err reply ended
 
--- ---- the causes of each end
+-- ---- the causes of each status
 
--- What is so at the file that stopped a run, the last that it began, by the status in which it ended. The file could not be read, there was no memory for it, or it is refused:
--- there is a reply for that (`StopsAt`), in this status, and the error stream has its line.
+-- What holds if a file stopped the run, by exit status. It is the last file that the run opened. It could not be read, memory for it ran
+-- out, or it is refused: a reply exists for this (`StopsAt`), with this status, and the error stream has its line.
 abbrev pub AtFile : Status → (err : SinkChange) → ShelfChange → Kind → (file : List ℕ) → Type 0
 AtFile ended err seen kind file = (given : Reply) × StopsAt seen kind file given × (given.status ≡ ended) × IsSaid err given.text
 
--- What is so at the job, with every file accepted. An end of the job came whose text goes to the output, and there it broke off, after a prefix; the error stream says so.
--- There was no memory for the job. Or an end came, in this status, with a text that tells what is promised, and the text went to its stream; the other one holds what it held.
+-- What holds if every file was accepted, by exit status. `WriteFault`: an outcome was reached whose text goes to the output, which failed
+-- after a prefix of it; the error stream says so. `Memory`: memory for the outcome ran out. Any other status: an outcome with this status
+-- was reached, its text guarantees what is promised, and the text was written to its stream; the other stream is unchanged.
 abbrev pub AtJob : Status → (out err : SinkChange) → Ask → Job → Type 0
 AtJob status.WriteFault out err ask job =
     (ended : Status) × (text : List ℕ) × OneEnd (Told ended text) job × (stream_of (reports_on_output ask) ended ≡ Output) × BrokeOff out err text
 AtJob status.Memory out err ask job = IsSaid err no_memory.text
 AtJob ended out err ask job = (text : List ℕ) × OneEnd (Told ended text) job × WentTo (stream_of (reports_on_output ask) ended) out err text
 
--- Where a run ended in this status for words that are a command: along its course it was stopped by a file, the first that was not accepted, or it came to the job.
+-- Why a run ended with this status, for arguments that are a command: a file stopped it, the first that was not accepted, or it reached an
+-- outcome.
 pub record HasCause (ended : Status) (words : List (List ℕ)) (shelf : ShelfChange) (out err : SinkChange) : Type 0 where
   pub ask : Ask
   pub asked : AskFor words ask
@@ -54,7 +56,7 @@ pub record HasCause (ended : Status) (words : List (List ℕ)) (shelf : ShelfCha
 
 -- ---- what commands write
 
--- A file, as the call saw it, has a reading, of which this is so.
+-- The file, as observed by the call, parses to a value for which `IsSo` holds.
 pub record WasRead (shelf : ShelfChange) (kind : Kind) (file : List ℕ) (IsSo : (contents_of kind).Said → Type 0) : Type 0 where
   pub bytes : List ℕ
   pub held : SawFile shelf file (Some bytes)
@@ -62,14 +64,15 @@ pub record WasRead (shelf : ShelfChange) (kind : Kind) (file : List ℕ) (IsSo :
   pub read : (contents_of kind).Reads bytes said
   pub so : IsSo said
 
--- A text went to the output, whole, and does this.
+-- A text was written to the output completely, and satisfies `Keep`.
 abbrev pub Wrote : (out : SinkChange) → (List ℕ → Type 0) → Type 0
 Wrote out Keep = (text : List ℕ) × Took out text × Keep text
 
--- What the commands keep that write rules and descriptions, and the one that compares rules. Rules do what is said of them in their dialect (`KeepPolicy`), and on the machines of a host
--- (`KeepLocal`). `rules` writes them only where a listed policy meets every invariant, so that it is permitted as it is. A description in version 2 is a document of the table of the first one
--- in version 2, so that it describes the same network (`IsMigrated`). Rules are told to be equal only where they forward over every list of packets and forgettings what the policy of the network
--- and its answers expect (`ForwardAlike`).
+-- The headline, by command: for the commands that write rules or descriptions, and for the one that compares rules. Rules satisfy what is
+-- stated for their dialect (`KeepPolicy`), or for the machines of a host (`KeepLocal`). `rules` writes them only if a listed policy
+-- satisfies every invariant, so that it is permitted unchanged. `migrate` writes a document of the table of the given description, in
+-- version 2, so that it describes the same network (`IsMigrated`). `audit` reports `equal` only if, for every list of packets and forget
+-- events, the rules forward what the policy of the network and its answers expect (`ForwardAlike`).
 abbrev pub Keeps : Ask → ShelfChange → (out : SinkChange) → Type 0
 Keeps (Rules dialect file) shelf out = WasRead shelf kind.Description file (λ d. ListedHolds d × Wrote out (KeepPolicy (language_of dialect) d))
 Keeps (Repair dialect file) shelf out = WasRead shelf kind.Description file (λ d. Wrote out (KeepPolicy (language_of dialect) d))
@@ -81,15 +84,16 @@ Keeps _ shelf out = Unit {0}
 
 -- ---- the sample
 
--- how the sample ends: its report is on the output, or the output had a fault after a prefix of it, or there was no memory and the output holds what it held
+-- How `sample` ends: its report is on the output; or the output failed after a prefix of the report; or memory ran out and the output is
+-- unchanged.
 pub data EndsAsSample (n : ℕ) (out : SinkChange) (ended : Status) : Type 0 where
   Written : ended ≡ status.Done → (report : List ℕ) → IsSample n report → TellsSample n report → Took out report → EndsAsSample n out ended
   CutOff : ended ≡ status.WriteFault → (report : List ℕ) → IsSample n report → TookSome out report → Rose out.faults_before out.faults_after → EndsAsSample n out ended
   NoMemory : ended ≡ status.Memory → out.held_after ≡ out.held_before → EndsAsSample n out ended
 
--- ---- where the shelf tells its files and had no fault
+-- ---- if the files are observable and no fault occurred
 
--- The words and the told files alone decide the reply that the run gives, unless there is no memory: they allow this one, and no other.
+-- The arguments and the observable files alone determine the reply of the run, unless memory runs out: they allow this reply and no other.
 abbrev pub IsComplete : List (List ℕ) → ShelfChange → (out err : SinkChange) → Status → Type 0
 IsComplete words shelf out err ended =
     IfSome shelf.before.told (λ files. (Rose shelf.before.faults shelf.after.faults → ⊥)

@@ -1,4 +1,5 @@
--- What the program replies to its words: how the run ends, and a text for one of the two streams (docs/GUIDE.md, docs/TEXTS.md).
+-- The reply of the program to its arguments: the exit status of the run, and a text for one of the two streams (docs/GUIDE.md,
+-- docs/TEXTS.md).
 use Rattle.std.specs.Prelude.{ℕ, List, ◌++◌, codes}
 use Rattle.topos_top.specs.Ask.{usage_text}
 use Rattle.topos_top.specs.declared.status.Status.{Status}
@@ -6,25 +7,28 @@ use Rattle.topos_top.specs.declared.status.Status.TheVariants as status
 use Rattle.topos_top.specs.declared.status.Stream.{Stream}
 use Rattle.topos_top.specs.declared.status.Stream.TheVariants.{Errors}
 
+-- A reply: the exit status, the stream, and the text for it.
 pub record Reply : Type 0 where
   pub status : Status
   pub stream : Stream
   pub text : List ℕ
 
--- a line on the error stream
+-- A line on the error stream.
 abbrev pub error : Status → (line : List ℕ) → Reply
 error ended line = record { status = ended; stream = Errors; text = line }
 
--- words that are no form, a file that cannot be read, and want of memory
+-- The reply to arguments that form no command.
 abbrev pub usage : Reply
 usage = error status.Usage usage_text
 
+-- The reply to a file that cannot be read.
 abbrev pub cannot_read : (file : List ℕ) → Reply
 cannot_read file = error status.ReadFault (codes "topos: cannot read " ++ (file ++ codes "\n"))
 
+-- The reply to an allocation failure.
 abbrev pub no_memory : Reply
 no_memory = error status.Memory (codes "topos: out of memory\n")
 
--- the line that what is asked for cannot be written, and why
+-- The line that reports that a result cannot be emitted, and the reason.
 abbrev pub not_emittable : (why : List ℕ) → List ℕ
 not_emittable why = codes "topos: not emittable: " ++ why

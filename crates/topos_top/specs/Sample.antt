@@ -1,4 +1,4 @@
--- `sample N`: what every job makes of the sample of N hosts, in numbers.
+-- `sample N`: the results of every command for the sample of N hosts, in numbers.
 use Rattle.std.specs.Prelude.{ℕ}
 use Rattle.sample_core.specs.Sample.{IsSample}
 use Rattle.sample_core.specs.SamplePromises.{TellsSample}

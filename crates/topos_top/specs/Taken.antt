@@ -1,4 +1,4 @@
--- What one call put into its sinks.
+-- The output of one call to its sinks.
 use Rattle.std.specs.Prelude.{◌≡◌, ℕ, ◌⊎◌, List, Option, codes}
 use Rattle.std.specs.Io.KnownBytes.{append_known}
 use Rattle.edge_io.specs.Counts.{Rose}
@@ -10,40 +10,41 @@ use Rattle.topos_top.specs.declared.status.Status.TheVariants as status
 use Rattle.topos_top.specs.declared.status.Stream.{Stream}
 use Rattle.topos_top.specs.declared.status.Stream.TheVariants.{Output, Errors}
 
--- A sink before a call and after it.
+-- A sink before and after a call.
 pub record SinkChange : Type 0 where
   pub held_before : Option (List ℕ)
   pub held_after : Option (List ℕ)
   pub faults_before : ℕ
   pub faults_after : ℕ
 
--- a sink before a call and after it, as its kind tells of it
+-- A sink before and after a call, as its implementation models it.
 abbrev pub sink_change : {S : Type 0} → Ghosts S → (old new : S) → SinkChange
 sink_change O old new = record { held_before = O.held old; held_after = O.held new; faults_before = O.faults old; faults_after = O.faults new }
 
--- the sink took these bytes whole
+-- The sink received all of these bytes.
 abbrev pub Took : SinkChange → List ℕ → Type 0
 Took sink bytes = sink.held_after ≡ append_known sink.held_before bytes
 
--- the sink took a prefix of these bytes
+-- The sink received a prefix of these bytes.
 abbrev pub TookSome : SinkChange → List ℕ → Type 0
 TookSome sink bytes = TookPrefix sink.held_before sink.held_after bytes
 
--- The line is said whole where the count of faults did not rise, and else a prefix of it.
+-- The line is written completely if the count of errors did not increase, and otherwise a prefix of it.
 abbrev pub IsSaid : SinkChange → List ℕ → Type 0
 IsSaid err line = TookSome err line × (Rose err.faults_before err.faults_after ⊎ Took err line)
 
--- A text went to its stream, and the other stream holds what it held.
+-- A text was written to its stream, and the other stream is unchanged.
 abbrev pub WentTo : Stream → (out err : SinkChange) → (text : List ℕ) → Type 0
 WentTo Output out err text = Took out text × (err.held_after ≡ err.held_before)
 WentTo Errors out err text = (out.held_after ≡ out.held_before) × IsSaid err text
 
--- The output had a fault after a prefix of its text, and the error stream says so.
+-- The output failed after a prefix of its text, and the error stream reports it.
 abbrev pub BrokeOff : (out err : SinkChange) → (text : List ℕ) → Type 0
 BrokeOff out err text = TookSome out text × Rose out.faults_before out.faults_after × IsSaid err (codes "topos: cannot write\n")
 
--- How a reply is given: the run ends in its status, and its text goes to its stream; or the text is for the output, and broke off there.
--- So the reply alone decides status and output where the output had no fault; how much of the text stands before a fault is the sink's to say.
+-- The delivery of a reply: the run ends with its status, and its text is written to its stream; or the text is for the output, and the
+-- output failed. So the reply determines status and output if the output had no error; the sink determines the part of the text before an
+-- error.
 abbrev pub IsGiven : (out err : SinkChange) → Reply → (ended : Status) → Type 0
 IsGiven out err reply ended =
     ((ended ≡ reply.status) × WentTo reply.stream out err reply.text)

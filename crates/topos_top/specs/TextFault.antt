@@ -1,4 +1,4 @@
--- The line of a text of rules, of events or of edits that is refused, with its first line that is faulty and why (docs/TEXTS.md).
+-- The line that reports a rejected file of rules, events or edits: its first bad line and the reason (docs/TEXTS.md).
 use Rattle.std.specs.Prelude.{◌≡◌, ℕ, List, ◌++◌, codes, decimal}
 use Rattle.desc_form.specs.Refusals.{name}
 use Rattle.edit_core.specs.declared.fault.EditWhy.{EditWhy}
@@ -10,6 +10,7 @@ use Rattle.ofp_read.specs.declared.fault.OfpWhy.TheVariants as flows
 use Rattle.text_core.specs.declared.faults.ListWhy.{ListWhy}
 use Rattle.text_core.specs.declared.faults.ListWhy.TheVariants as list
 
+-- The name of the reason to reject iptables rules.
 abbrev pub rules_reason : IptWhy → List ℕ
 rules_reason rules.TooLong = codes "TooLong"
 rules_reason rules.BadLine = codes "BadLine"
@@ -25,6 +26,7 @@ rules_reason rules.NoCommit = codes "NoCommit"
 rules_reason rules.AfterCommit = codes "AfterCommit"
 rules_reason rules.TooMany = codes "TooMany"
 
+-- The name of the reason to reject a flow file.
 abbrev pub flows_reason : OfpWhy → List ℕ
 flows_reason flows.TooLong = codes "TooLong"
 flows_reason flows.BadLine = codes "BadLine"
@@ -35,29 +37,30 @@ flows_reason flows.UnknownAction = codes "UnknownAction"
 flows_reason flows.Ambiguous = codes "Ambiguous"
 flows_reason flows.TooMany = codes "TooMany"
 
--- why a list of events or of edits is refused
+-- The name of the reason to reject a list of events or of edits.
 abbrev pub list_reason : ListWhy → List ℕ
 list_reason list.TooLong = codes "TooLong"
 list_reason list.BadLine = codes "BadLine"
 list_reason list.BadValue = codes "BadValue"
 list_reason list.TooMany = codes "TooMany"
 
--- why an edit is refused on the table that it changes
+-- The name of the reason to refuse an edit on the table that it changes.
 abbrev pub edit_reason : EditWhy → List ℕ
 edit_reason edit.NoPolicy = codes "NoPolicy"
 edit_reason edit.Absent = codes "Absent"
 edit_reason (edit.Refused why) = name why
 
--- a line by its number, from 1, and the reason; line 0 stands for the whole text
+-- A line by its number, from 1, and the reason. Line 0 means the whole file.
 abbrev pub fault_line : (text : List ℕ) → (line : ℕ) → (reason : List ℕ) → List ℕ
 fault_line text line reason = codes "topos: " ++ (text ++ (codes ": line " ++ (decimal line ++ (codes ": " ++ (reason ++ codes "\n")))))
 
--- The line tells a fault of the bytes, which are to hold such a text. A text of rules is called so in every dialect.
+-- The line reports an error of the bytes, for this kind of file. A file of rules has the same name in every dialect.
 pub record TellsFault {Why : Type 0} (text : List ℕ) (reason_of : Why → List ℕ) (HasFault : List ℕ → ℕ → Why → Type 0) (bytes line : List ℕ) : Type 0 where
   pub number : ℕ
   pub why : Why
   pub fault : HasFault bytes number why
   pub told : line ≡ fault_line text number (reason_of why)
 
+-- The line that reports a refused edit, by the number of its line.
 unfoldable pub edit_fault_line : (line : ℕ) → EditWhy → List ℕ
 edit_fault_line line why = fault_line (codes "edits") line (edit_reason why)

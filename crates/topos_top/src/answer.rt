@@ -1,4 +1,4 @@
-//! What the program answers to its words, before anything is written.
+//! The reply of the program to its arguments, before anything is written.
 
 ghost use Rattle.std.specs.Prelude.{◌≡◌};
 ghost use Rattle.topos_top.specs.Reply.{no_memory, error};
@@ -11,7 +11,7 @@ use crate::text::Text;
 use desc_core::{DescFault, Refusal};
 use std::alloc::{AllocError, AllocFailed};
 
-/// An answer: how the run ends, and a text for one of the two streams.
+/// A reply: the exit status of the run, and a text for one of the two streams.
 #[derive(Drop)]
 pub struct Answer<'a> {
     pub status: Status,
@@ -20,7 +20,7 @@ pub struct Answer<'a> {
 }
 
 impl<'a> Answer<'a> {
-    /// What was asked for, on the output.
+    /// Returns the requested text, on the output.
     pub fn done(text: Text<'a>) -> Answer<'a>
         ensures { reply_view result ≡ reply_on Status.Done Stream.Output (text_view text.entry) }
     {
@@ -31,7 +31,7 @@ impl<'a> Answer<'a> {
         }
     }
 
-    /// The report of what fails, on the output.
+    /// Returns the report of violations, on the output.
     pub fn reported(text: Text<'a>) -> Answer<'a>
         ensures { reply_view result ≡ reply_on Status.Violated Stream.Output (text_view text.entry) }
     {
@@ -42,7 +42,7 @@ impl<'a> Answer<'a> {
         }
     }
 
-    /// An answer that tells why there is no text.
+    /// Returns a reply with the reason why there is no result.
     pub fn error(status: Status, text: Text<'a>) -> Answer<'a>
         ensures { reply_view result ≡ error status (text_view text.entry) }
     {
@@ -53,29 +53,29 @@ impl<'a> Answer<'a> {
         }
     }
 
-    /// A text that is refused: what it was to hold, the number of its faulty line, or 0 for the whole
-    /// of it, and why.
+    /// Returns the reply to a rejected file: the kind of its content, the number of its bad line,
+    /// or 0 for the whole file, and the reason.
     pub fn bad_text(text: &'static [u8], line: u32, reason: &'static [u8]) -> Answer<'a>
         ensures { reply_view result ≡ error Status.BadText (fault_line text.now line reason.now) }
     {
         Answer::error(Status::BadText, Text::Fault(text, line, reason))
     }
 
-    /// There is no memory for what is asked for.
+    /// Returns the reply to an allocation failure.
     pub fn no_memory() -> Answer<'a>
         ensures { reply_view result ≡ no_memory }
     {
         Answer::error(Status::Memory, Text::NoMemory)
     }
 
-    /// The answer of a job, or that there was no memory for it.
+    /// Returns the reply of a job, or that memory for it ran out.
     pub fn of_job(made: Result<Answer<'a>, AllocError>) -> Result<Answer<'a>, Answer<'a>>
         ensures { reply_in result ≡ job_reply made.entry }
     {
         Ok(made?)
     }
 
-    /// Why what is asked for cannot be written.
+    /// Returns the reply that a result cannot be emitted, with the reason.
     pub fn not_emittable(line: Vec<u8>) -> Answer<'a>
         ensures { reply_view result ≡ error Status.NotEmittable line.items }
     {

@@ -1,4 +1,4 @@
-//! What the words of a command line ask for.
+//! Parsing the arguments of a command line.
 
 ghost use Rattle.std.specs.Prelude.{◌≡◌, ◌≤◌, map, string_bytes, option_map, IfSome};
 ghost use Rattle.host_net.specs.Limits.{host_limit};
@@ -9,33 +9,33 @@ use crate::dialect::Dialect;
 use host_net::HOST_LIMIT;
 use text_core::read_number;
 
-/// What the program is asked to do: a variant for each form, with all that its words say.
+/// A command: one variant per command form, with all its arguments.
 #[derive(Clone, Copy)]
 pub enum Ask<'a> {
-    /// `check FILE`: whether the asked flows meet the invariants.
+    /// `check FILE`: whether the asked flows satisfy the invariants.
     Check(&'a str),
-    /// `policy FILE`: what becomes of each flow, and why.
+    /// `policy FILE`: the status of each flow, and the reason.
     Policy(&'a str),
-    /// `rules iptables|openflow FILE`: the rules of the permitted policy, unless it was listed and
-    /// breaks an invariant.
+    /// `rules iptables|openflow FILE`: the rules of the permitted policy, unless the policy was
+    /// listed and violates an invariant.
     Rules(Dialect, &'a str),
     /// `repair iptables|openflow FILE`: the rules of the permitted policy.
     Repair(Dialect, &'a str),
-    /// `trace iptables|openflow RULES EVENTS`: what becomes of each event.
+    /// `trace iptables|openflow RULES EVENTS`: the result of each event.
     Trace(Dialect, &'a str, &'a str),
-    /// `sample N`: what every job makes of a network of N hosts, in numbers.
+    /// `sample N`: the results of every command for a network of N hosts, in numbers.
     Sample(u16),
     /// `migrate FILE`: the description in version 2.
     Migrate(&'a str),
-    /// `audit iptables|openflow FILE RULES`: whether rules do what the policy says.
+    /// `audit iptables|openflow FILE RULES`: whether rules forward what the policy expects.
     Audit(Dialect, &'a str, &'a str),
-    /// `edit FILE EDITS`: what becomes of the network edit by edit, and the policy in the end.
+    /// `edit FILE EDITS`: the development of the network edit by edit, and its final policy.
     Edit(&'a str, &'a str),
     /// `local FILE HOST`: the rules for the machines of one host.
     Local(&'a str, &'a str),
 }
 
-/// What the words ask for, where they are one of the forms.
+/// Parses a command, if the arguments form one.
 #[tactic(auto, unfolding(crate::specs::inner::Ask::ask_of))]
 pub fn ask_of_words(words: &[String]) -> Option<Ask<'_>>
     ensures ask { option_map ask_view result ≡ ask_of (map string_bytes words.now) }
@@ -47,7 +47,7 @@ pub fn ask_of_words(words: &[String]) -> Option<Ask<'_>>
     }
 }
 
-/// What a verb asks for with the words after it.
+/// Parses a command from a verb and the arguments after it.
 fn ask_after<'a>(verb: &str, rest: &'a [String]) -> Option<Ask<'a>>
     ensures ask { option_map ask_view result ≡ among forms verb.now (map string_bytes rest.now) }
     ensures few { IfSome result (λ ask. IsWithinHosts (ask_view ask)) }
@@ -85,7 +85,7 @@ fn ask_after<'a>(verb: &str, rest: &'a [String]) -> Option<Ask<'a>>
     }
 }
 
-/// The words, where there are just as many.
+/// Returns the single argument, if there is exactly one.
 pub fn one_word(words: &[String]) -> Option<&str>
     ensures { option_map (λ word. word.now) result ≡ one_word (map string_bytes words.now) }
 {
@@ -113,7 +113,7 @@ pub fn three_words(words: &[String]) -> Option<(&str, &str, &str)>
     }
 }
 
-/// The number of hosts that a word says, from 1 to as many as there may be.
+/// Parses a number of hosts, from 1 to the host limit.
 fn hosts_said(word: &str) -> Option<u16>
     ensures said { result ≡ hosts_said word.now }
     ensures few { IfSome result (λ hosts. hosts ≤ host_limit) }

@@ -1,4 +1,5 @@
-//! `audit iptables|openflow FILE RULES`: whether rules do what the policy of a network says.
+//! `audit iptables|openflow FILE RULES`: whether rules forward what the policy of a network
+//! expects.
 
 ghost use Rattle.std.specs.Prelude.{◌≡◌, ◌≤◌, IfOk, true};
 ghost use Rattle.audit_core.specs.Rules.{filter_of};
@@ -26,7 +27,7 @@ use edge_io::Shelf;
 use net_core::policy_of;
 use std::alloc::{AllocError, Global};
 
-/// The answer to the files of those names.
+/// Returns the reply for the files of those names.
 pub fn reply<'a, H: Shelf>(
     alloc: Global,
     dialect: Dialect,
@@ -43,7 +44,7 @@ pub fn reply<'a, H: Shelf>(
     reply_for(alloc, dialect, &description, rules, shelf)
 }
 
-/// The same for the network of a description: the answer to the rules.
+/// Returns the reply for the network of a description and the file of rules.
 fn reply_for<'a, H: Shelf>(
     alloc: Global,
     dialect: Dialect,
@@ -60,7 +61,8 @@ fn reply_for<'a, H: Shelf>(
     Answer::of_job(answer(alloc, description, &rules))
 }
 
-/// What an audit of these rules finds. They have one verdict for every packet in each state.
+/// Returns the reply of an audit of these rules. They have one verdict for every packet in each
+/// state.
 fn answer<'a>(
     alloc: Global,
     description: &Description,
@@ -75,7 +77,7 @@ fn answer<'a>(
     }
 }
 
-/// What an audit finds, or that there are too many classes of packets.
+/// Returns the finding of an audit, or that there are too many packet classes.
 fn finding<'a>(
     alloc: Global,
     description: &Description,
@@ -94,7 +96,7 @@ fn finding<'a>(
     }
 }
 
-/// The text of what was found, as a report where the rules differ.
+/// Returns the text of a finding, as a report of violations if the rules differ.
 fn told<'a>(alloc: Global, finding: &Finding) -> Result<Answer<'a>, AllocError>
     ensures { IfOk result (λ answer. reply_view answer ≡ finding_reply finding.now) }
 {

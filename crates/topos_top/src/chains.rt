@@ -1,4 +1,4 @@
-//! The rules of a policy as chains of iptables.
+//! The rules of a policy as iptables chains.
 
 ghost use Rattle.std.specs.Prelude.{◌≡◌, IfOk, false, length};
 ghost use Rattle.net_core.specs.Policies.{IsPolicyOf};
@@ -16,7 +16,7 @@ use emit_core::{NoChains, iptables_layout};
 use net_core::Policy;
 use std::alloc::{AllocError, Global};
 
-/// The chains, or that there are too many rules.
+/// Returns the chains, or that there are too many rules.
 pub fn answer<'a>(
     alloc: Global,
     description: &Description,

@@ -1,4 +1,4 @@
-//! `check FILE`: whether the asked flows meet the invariants.
+//! `check FILE`: whether the asked flows satisfy the invariants.
 
 ghost use Rattle.std.specs.Prelude.{◌≡◌, ◌≤◌, IfOk, true};
 ghost use Rattle.topos_top.specs.Ask.{Check};
@@ -17,7 +17,7 @@ use edge_io::Shelf;
 use report_core::check_report;
 use std::alloc::{AllocError, Global};
 
-/// The answer to the file of that name.
+/// Returns the reply for the file of that name.
 pub fn reply<'a, H: Shelf>(
     alloc: Global,
     file: &'a str,
@@ -32,7 +32,7 @@ pub fn reply<'a, H: Shelf>(
     Answer::of_job(answer(alloc, &description))
 }
 
-/// The report, as a violation where an invariant fails on the asked flows.
+/// Returns the report, with status violated if an invariant fails on the asked flows.
 fn answer<'a>(alloc: Global, description: &Description) -> Result<Answer<'a>, AllocError>
     ensures { IfOk result (λ answer. Answers true (check_job description.now) (reply_view answer)) }
 {

@@ -1,4 +1,4 @@
-//! The table of the commands.
+//! The table of commands.
 
 ghost use Rattle.std.specs.Prelude.{◌≡◌, ◌≤◌};
 ghost use Rattle.topos_top.specs.Ask.{reports_on_output};
@@ -14,7 +14,7 @@ use crate::{audit, check, edit, local, migrate, policy, repair, rules, sample, t
 use edge_io::Shelf;
 use std::alloc::Global;
 
-/// The answer to what is asked. An `Err` is one that ended the run early.
+/// Returns the reply to a command. An `Err` is a reply that ended the run early.
 pub fn reply<'a, H: Shelf>(
     alloc: Global,
     ask: Ask<'a>,

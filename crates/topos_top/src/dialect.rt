@@ -16,7 +16,7 @@ pub enum Dialect {
 }
 
 impl Dialect {
-    /// The dialect of a word.
+    /// Returns the dialect of that name.
     pub fn named(word: &str) -> Option<Dialect>
         ensures { result ≡ dialect_named word.now }
     {
@@ -28,7 +28,7 @@ impl Dialect {
     }
 }
 
-/// Rules of a dialect, as they are read.
+/// Parsed rules of a dialect.
 #[derive(Drop)]
 pub enum Rules {
     /// Chains of iptables.

@@ -1,5 +1,5 @@
-//! `edit FILE EDITS`: what becomes of a network as its description is edited, and its policy in the
-//! end.
+//! `edit FILE EDITS`: the development of a network while its description is edited, and its final
+//! policy.
 
 ghost use Rattle.std.specs.Prelude.{◌≡◌, ◌≤◌, ◌++◌, OnOk, IfOk, false, map};
 ghost use Rattle.edit_core.specs.inner.Kept.{table_of};
@@ -24,7 +24,7 @@ use edit_core::{EditRefusal, Session, Summary};
 use report_core::{policy_report, push_numbered};
 use std::alloc::{AllocError, Global};
 
-/// The answer to the files of those names.
+/// Returns the reply for the files of those names.
 pub fn reply<'a, H: Shelf>(
     alloc: Global,
     file: &'a str,
@@ -40,7 +40,7 @@ pub fn reply<'a, H: Shelf>(
     reply_for(alloc, &mut session, edits, shelf)
 }
 
-/// The same for a session over the description: the answer to the edits.
+/// Returns the reply for a session over the description and the file of edits.
 fn reply_for<'a, H: Shelf>(
     alloc: Global,
     session: &mut Session,
@@ -56,7 +56,7 @@ fn reply_for<'a, H: Shelf>(
     Answer::of_job(answer(alloc, session, &edits))
 }
 
-/// The summaries and the policy in the end, or the first edit that is refused.
+/// Returns the summaries and the final policy, or the first edit that is refused.
 fn answer<'a>(
     alloc: Global,
     session: &mut Session,
@@ -76,7 +76,8 @@ fn answer<'a>(
     }
 }
 
-/// The lines of the summaries, and then what becomes of each flow of the description now.
+/// Returns the lines of the summaries, followed by the status of each flow of the current
+/// description.
 fn text_of(alloc: Global, session: &Session, summaries: &[Summary]) -> Result<Vec<u8>, AllocError>
     ensures { IfOk result (λ text. SaysTable IsPolicyReport (table_of session.now) summaries.now text.items) }
 {
@@ -87,7 +88,7 @@ fn text_of(alloc: Global, session: &Session, summaries: &[Summary]) -> Result<Ve
     Ok(text)
 }
 
-/// Puts a line for each summary, by the number of its edit.
+/// Appends a line for each summary, with the number of its edit.
 fn push_summaries(text: &mut Vec<u8>, summaries: &[Summary]) -> Result<(), AllocError>
     ensures { OnOk result (text.new.items ≡ text.old.items ++ summary_lines 1 summaries.now) }
 {

@@ -1,4 +1,4 @@
-//! How an answer ends the run: its text goes to the stream that it is for.
+//! Delivery of a reply: its text is written to its stream.
 
 ghost use Rattle.std.specs.Prelude.{◌≡◌, ◌≢◌, ◌≤◌};
 ghost use Rattle.topos_top.specs.Taken.{IsGiven};
@@ -9,7 +9,8 @@ use crate::answer::Answer;
 use crate::status::{Status, Stream};
 use edge_io::{Sink, put_all};
 
-/// Gives the answer on its stream, and says how the run ended. A failure of `err` changes nothing else.
+/// Writes the reply to its stream, and returns the status of the run. A failure of `err` changes
+/// nothing else.
 pub fn give<O: Sink, E: Sink>(answer: &Answer<'_>, out: &mut O, err: &mut E) -> Status
     ensures given { IsGiven (sink_change O.Sink out.old out.new)
         (sink_change E.Sink err.old err.new) (reply_view answer.now) result }

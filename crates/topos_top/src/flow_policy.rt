@@ -1,4 +1,4 @@
-//! The policy of a description in one piece.
+//! The policy of a description as one value.
 
 ghost use Rattle.std.specs.Prelude.{◌≡◌, length};
 ghost use Rattle.net_core.specs.Network.{site_of};
@@ -8,7 +8,7 @@ use desc_core::Description;
 use net_core::Policy;
 use pkt_core::FlowPolicy;
 
-/// The policy between the hosts of a description.
+/// Returns the policy between the hosts of a description.
 pub fn policy_between<'a>(description: &'a Description, policy: &'a Policy) -> FlowPolicy<'a>
     requires permitted { policy.now.permitted.size ≡ length description.now.hosts }
     requires stateful { policy.now.stateful.size ≡ length description.now.hosts }

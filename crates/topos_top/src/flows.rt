@@ -1,4 +1,4 @@
-//! The rules of a policy as a flow table of OpenFlow.
+//! The rules of a policy as an OpenFlow flow table.
 
 ghost use Rattle.std.specs.Prelude.{◌≡◌, IfOk, false, length};
 ghost use Rattle.net_core.specs.Policies.{IsPolicyOf};
@@ -16,8 +16,8 @@ use emit_core::{NoTable, flow_table_layout, needs_state};
 use net_core::Policy;
 use std::alloc::{AllocError, Global};
 
-/// The flow table, or why there is none: a table keeps no connections, asks for one port at a time,
-/// and has room for a number of flows.
+/// Returns the flow table, or the reason why there is none: a table is stateless, matches one port
+/// at a time, and has an entry limit.
 pub fn answer<'a>(
     alloc: Global,
     description: &Description,

@@ -1,4 +1,4 @@
-//! The lines that say why the rules of a policy cannot be written.
+//! The lines with the reasons why the rules of a policy cannot be emitted.
 
 ghost use Rattle.std.specs.Prelude.{◌≡◌, ◌<◌, ◌++◌, IfOk, IsTrue, codes, decimal, length};
 ghost use Rattle.flow_set.specs.FlowSet.{has};
@@ -9,7 +9,7 @@ use host_net::Hosts;
 use report_core::push_flow;
 use std::alloc::{AllocError, Global};
 
-/// The line that says that the answers of a flow need a look at connections.
+/// Returns the line that reports a flow whose answers require connection tracking.
 pub fn answers_line(alloc: Global, hosts: &Hosts, flow: Flow) -> Result<Vec<u8>, AllocError>
     requires from { flow.from < length hosts.now }
     requires to { flow.to < length hosts.now }
@@ -23,8 +23,8 @@ pub fn answers_line(alloc: Global, hosts: &Hosts, flow: Flow) -> Result<Vec<u8>,
     Ok(line)
 }
 
-/// The line that says that a flow, which is one of a set between the hosts, asks for a range of
-/// ports.
+/// Returns the line that reports a flow with a range of ports. The flow is a member of a set of
+/// flows between the hosts.
 pub fn ports_line(
     alloc: Global,
     hosts: &Hosts,
@@ -36,7 +36,7 @@ pub fn ports_line(
     ensures { IfOk result (λ line. line.items ≡
         codes "topos: not emittable: ports of " ++ (flow_text hosts.now flow ++ codes " are a range\n")) }
 {
-    // A set of flows bounds the ends of each of them.
+    // The call establishes that the ends of each flow of a set are below its size.
     let _hosts = flows.size();
     let mut line = Vec::new(alloc);
     line.extend_from_slice(b"topos: not emittable: ports of ")?;
@@ -45,14 +45,14 @@ pub fn ports_line(
     Ok(line)
 }
 
-/// The line that says how many flows of a table are too many.
+/// Returns the line with the number of flows of a table that is too large.
 pub fn flows_line(alloc: Global, count: u32) -> Result<Vec<u8>, AllocError>
     ensures { IfOk result (λ line. line.items ≡ codes "topos: not emittable: " ++ (decimal count ++ codes " flows exceed 8192\n")) }
 {
     count_line(alloc, count, b" flows exceed 8192\n")
 }
 
-/// The line that says how many rules of chains are too many.
+/// Returns the line with the number of rules of chains that are too large.
 pub fn rules_line(alloc: Global, count: u32) -> Result<Vec<u8>, AllocError>
     ensures { IfOk result (λ line. line.items ≡ codes "topos: not emittable: " ++ (decimal count ++ codes " rules exceed 600000\n")) }
 {

@@ -1,4 +1,4 @@
-//! The kinds of files, each with its limit.
+//! The kinds of files, each with its size limit.
 
 ghost use Rattle.std.specs.Prelude.{◌≡◌, ◌≤◌, ◌<◌, ◌^◌, ℕ, List, length};
 ghost use Rattle.desc_form.specs.Refusals.{refused};
@@ -14,7 +14,7 @@ use desc_core::{DescFault, Place, Refusal, Why};
 use edit_core::EDITS_BYTE_LIMIT;
 use pkt_core::EVENTS_BYTE_LIMIT;
 
-/// What a file is to hold.
+/// The content of a file.
 #[derive(Clone, Copy)]
 pub enum Kind {
     /// A description.
@@ -23,16 +23,16 @@ pub enum Kind {
     Rules(Dialect),
     /// A list of events.
     Events,
-    /// A description that is written anew.
+    /// A description to be migrated.
     Document,
-    /// A description that is edited.
+    /// A description to be edited.
     Edited,
     /// A list of edits.
     Edits,
 }
 
 impl Kind {
-    /// The most bytes that such a file may have.
+    /// Returns the size limit of such a file.
     pub fn most(self) -> usize
         ensures most { result ≡ (contents_of self).most }
         ensures small { result ≤ 2 ^ 26 }
@@ -46,7 +46,7 @@ impl Kind {
         }
     }
 
-    /// The answer to a file that has more.
+    /// Returns the reply to a file above the limit.
     pub fn too_long<'a>(self) -> Answer<'a>
         ensures { (bytes : List ℕ) → (contents_of self).most < length bytes → IsRefused self bytes (reply_view result) }
     {
@@ -61,7 +61,7 @@ impl Kind {
     }
 }
 
-/// The answer to a description that is too long.
+/// Returns the reply to a description above the limit.
 fn too_long_description<'a>() -> Answer<'a>
     ensures { reply_view result ≡ error Status.BadDescription (refusal_text (refused Why.TooLong Place.Document)) }
 {

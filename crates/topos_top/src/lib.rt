@@ -1,8 +1,8 @@
-//! Everything that the program does, over any shelf of files and any two sinks of bytes. The words ask
-//! for a command, a command has a course over its files to its job, and the job gives an answer. Each
-//! command has a file of its own here and in `specs/`; `ask` and `commands`, `specs/Ask.antt` and
-//! `specs/Commands.antt` list them. The program `topos-query` reads its files and gives its answers by
-//! the same calls.
+//! The entire program, generic over the file source (`Shelf`) and the two output sinks. The
+//! arguments form a command, a command reads its files in order, and its outcome gives the reply.
+//! Each command has its own file here and in `specs/`; `ask` and `commands`, `specs/Ask.antt` and
+//! `specs/Commands.antt` list the commands. The program `topos-query` reads its files and writes
+//! its replies with the same calls.
 #![tactic(auto)]
 
 mod answer;
@@ -35,9 +35,11 @@ mod trace;
 
 pub use answer::Answer;
 pub use ask::{one_word, three_words};
+pub use dialect::{Dialect, Rules};
 pub use ending::give;
+pub use flow_policy::policy_between;
 pub use local::no_host_line;
 pub use program::run;
-pub use reading::read_description;
+pub use reading::{read_description, read_rules};
 pub use status::{Status, Stream};
 pub use text::Text;

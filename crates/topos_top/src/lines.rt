@@ -1,5 +1,5 @@
-//! Putting a text into a sink in blocks of lines, so that the text is never held whole and a write
-//! takes many of its lines. The block stands on the stack.
+//! Writing a text to a sink in blocks of lines, so the text is never stored as a whole and one
+//! write contains many lines. The block is on the stack.
 
 ghost use Rattle.std.specs.Prelude.{◌≡◌, ◌<◌, ◌≤◌, OnOk, OnErr, IfOk, Some, length, slice_get, take};
 ghost use Rattle.std.specs.List.{concat};
@@ -12,10 +12,10 @@ use edge_io::{Sink, WriteFault, put_all};
 use ipt_rules::Ruleset;
 use ofp_rules::Table;
 
-/// The most bytes of a line.
+/// The greatest length of a line, in bytes.
 const LINE: usize = 320;
 
-/// The bytes of a block: 8 KB and room for a line, so that each write but the last takes more than 8 KB.
+/// The size of a block: 8 KB and room for a line, so each write except the last has more than 8 KB.
 const BLOCK: usize = 8512;
 
 /// A text that is written line by line.
@@ -25,11 +25,11 @@ pub trait Lines: Sized {
     /// Its lines, each with its newline.
     ghost lines_of: { Self → List (List ℕ) };
 
-    /// How many lines it has.
+    /// Returns the number of lines.
     fn count(&self) -> u32
         ensures { result ≡ length (lines_of self.now) };
 
-    /// Writes line `i`, from 0, to the front of the buffer, and answers its length.
+    /// Writes line `i`, from 0, to the front of the buffer, and returns its length.
     fn write(&self, i: u32, buffer: &mut [u8; 320]) -> usize
         requires { i < length (lines_of self.now) }
         ensures line { slice_get (lines_of self.now) i ≡ Some (take result buffer.new) }
@@ -67,7 +67,8 @@ impl Lines for Table {
     }
 }
 
-/// Puts the lines of a text into the sink, in blocks, and stops at the first fault. Takes no memory.
+/// Writes the lines of a text to the sink, in blocks, and stops at the first error. Does not
+/// allocate.
 pub fn put_lines<T: Lines, O: Sink>(sink: &mut O, text: &T) -> Result<(), WriteFault>
     ensures prefix { TookPrefix (O.held sink.old) (O.held sink.new) (concat (T.lines_of text.now)) }
     ensures whole { OnOk result (O.held sink.new ≡ append_known (O.held sink.old) (concat (T.lines_of text.now))) }
@@ -83,7 +84,7 @@ pub fn put_lines<T: Lines, O: Sink>(sink: &mut O, text: &T) -> Result<(), WriteF
     put_all(sink, &block[..filled])
 }
 
-/// Writes line `i` to the front of the room, and answers its length.
+/// Writes line `i` to the front of the room, and returns its length.
 fn write_front<T: Lines>(text: &T, i: u32, room: &mut [u8]) -> usize
     requires there { i < length (T.lines_of text.now) }
     requires fits { 320 ≤ length room.old }
@@ -96,8 +97,7 @@ fn write_front<T: Lines>(text: &T, i: u32, room: &mut [u8]) -> usize
     text.write(i, front)
 }
 
-/// Puts the block where what is left of it may be too little for a line, and answers how much of it is
-/// filled now.
+/// Writes the block if its free room may be too small for a line, and returns its filled length.
 fn make_room<O: Sink>(sink: &mut O, block: &[u8; 8512], filled: usize) -> Result<usize, WriteFault>
     requires { filled ≤ 8512 }
     ensures room { IfOk result (λ left. left ≤ 8192) }

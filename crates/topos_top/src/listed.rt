@@ -1,4 +1,4 @@
-//! The check of a listed policy, before rules are written for it.
+//! The check of a listed policy, before rules are emitted for it.
 
 ghost use Rattle.std.specs.Prelude.{◌≡◌, ◌↔◌, All, IfOk, IsTrue, MatchOption};
 ghost use Rattle.inv_any.specs.Templates.{meaning_of};
@@ -13,7 +13,8 @@ use inv_law::Invariant;
 use report_core::{Report, check_report};
 use std::alloc::{AllocError, Global};
 
-/// The report of the policy of a description, where it is listed and some invariant fails on it.
+/// Returns the report of the policy of a description, if it is listed and some invariant fails on
+/// it.
 pub fn listed_offences(
     alloc: Global,
     description: &Description,

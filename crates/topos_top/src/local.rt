@@ -1,5 +1,5 @@
-//! `local FILE HOST`: the rules for the machines of one host, unless the policy was listed and breaks
-//! an invariant.
+//! `local FILE HOST`: the rules for the machines of one host, unless the policy was listed and
+//! violates an invariant.
 
 ghost use Rattle.std.specs.Prelude.{◌≡◌, ◌≤◌, ◌<◌, IfOk, IsTrue, Some, false};
 ghost use Rattle.host_emit.specs.LocalLayout.{is_specific};
@@ -25,7 +25,7 @@ use host_emit::{is_specific, local_rules};
 use net_core::policy_of;
 use std::alloc::{AllocError, Global};
 
-/// The answer to the file of that name, for the host of that name.
+/// Returns the reply for the file of that name and the host of that name.
 pub fn reply<'a, H: Shelf>(
     alloc: Global,
     file: &'a str,
@@ -41,7 +41,7 @@ pub fn reply<'a, H: Shelf>(
     Answer::of_job(answer(alloc, &description, host))
 }
 
-/// The rules, or why there are none.
+/// Returns the rules, or the reason why there are none.
 fn answer<'a>(
     alloc: Global,
     description: &Description,
@@ -55,7 +55,7 @@ fn answer<'a>(
     }
 }
 
-/// The rules for the machines of the host of that name, or the line that there are none.
+/// Returns the rules for the machines of the host of that name, or the line that there are none.
 fn machines<'a>(
     alloc: Global,
     description: &Description,
@@ -73,7 +73,7 @@ fn machines<'a>(
     specific_machines(alloc, description, host, number)
 }
 
-/// The rules for the machines of a specific host.
+/// Returns the rules for the machines of a specific host.
 fn specific_machines<'a>(
     alloc: Global,
     description: &Description,
@@ -89,7 +89,7 @@ fn specific_machines<'a>(
     Ok(Answer::done(Text::Rules(rules)))
 }
 
-/// The line that there is no host of that name.
+/// Returns the line that reports that no host has that name.
 pub fn no_host_line(alloc: Global, host: &str) -> Result<Vec<u8>, AllocError>
     ensures { IfOk result (λ line. line.items ≡ no_host_line host.now) }
 {
@@ -100,7 +100,7 @@ pub fn no_host_line(alloc: Global, host: &str) -> Result<Vec<u8>, AllocError>
     Ok(line)
 }
 
-/// The line that the host is the rest host.
+/// Returns the line that reports that the host is the rest host.
 fn rest_host_line(alloc: Global, host: &str) -> Result<Vec<u8>, AllocError>
     ensures { IfOk result (λ line. line.items ≡ rest_host_line host.now) }
 {

@@ -13,7 +13,7 @@ use crate::text::Text;
 use edge_io::Shelf;
 use std::alloc::Global;
 
-/// The answer to the file of that name.
+/// Returns the reply for the file of that name.
 pub fn reply<'a, H: Shelf>(
     alloc: Global,
     file: &'a str,

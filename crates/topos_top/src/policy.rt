@@ -1,4 +1,4 @@
-//! `policy FILE`: what becomes of each flow, and why.
+//! `policy FILE`: the status of each flow, and the reason.
 
 ghost use Rattle.std.specs.Prelude.{◌≡◌, ◌≤◌, IfOk, false};
 ghost use Rattle.topos_top.specs.Ask.{Policy};
@@ -17,7 +17,7 @@ use edge_io::Shelf;
 use report_core::policy_report;
 use std::alloc::{AllocError, Global};
 
-/// The answer to the file of that name.
+/// Returns the reply for the file of that name.
 pub fn reply<'a, H: Shelf>(
     alloc: Global,
     file: &'a str,
@@ -32,7 +32,7 @@ pub fn reply<'a, H: Shelf>(
     Answer::of_job(answer(alloc, &description))
 }
 
-/// The report.
+/// Returns the report.
 fn answer<'a>(alloc: Global, description: &Description) -> Result<Answer<'a>, AllocError>
     ensures { IfOk result (λ answer. Answers false (policy_job description.now) (reply_view answer)) }
 {

@@ -1,4 +1,4 @@
-//! The whole program, over any shelf of files and any two sinks.
+//! The entire program, generic over the file source and the two output sinks.
 
 ghost use Rattle.std.specs.Prelude.{◌≡◌, ◌≢◌, ℕ, ◌≤◌, ◌↔◌, ◌⊎◌, map, string_bytes};
 ghost use Rattle.topos_top.specs.Ask.{Ask, Sample, AskFor, AskNothing, AsksToReport};
@@ -19,8 +19,8 @@ use crate::text::Text;
 use edge_io::{Shelf, Sink};
 use std::alloc::Global;
 
-/// Does what the words ask for: takes the files off the shelf, writes the text to `out`, and says on
-/// `err` why there is none. All memory is taken before the first byte is written.
+/// Runs the command given by `words`: reads its files from `shelf`, writes the result to `out`, or
+/// writes to `err` why there is none. All memory is allocated before the first byte is written.
 pub fn run<H: Shelf, O: Sink, E: Sink>(
     alloc: Global,
     words: &[String],
@@ -32,16 +32,17 @@ pub fn run<H: Shelf, O: Sink, E: Sink>(
     ensures faults_stay { (H.faults shelf.old ≤ H.faults shelf.new) × (O.faults out.old ≤ O.faults out.new)
         × (E.faults err.old ≤ E.faults err.new) }
 
-    // The run gives one reply that has its cause: its status, its text in out, its line on err.
+    // The run delivers exactly one allowed reply: a status, and a text on `out` or a line on `err`.
     ensures reply { GaveReply (map string_bytes words.now) (shelf_change H.Shelf shelf.old shelf.new)
         (sink_change O.Sink out.old out.new) (sink_change E.Sink err.old err.new) result }
 
-    // What follows from it. Usage is given exactly for words that are no form, and reads nothing.
+    // Consequences of `reply`. `Usage` is returned iff the arguments match no command form; no file
+    // is read then.
     ensures usage { (result ≡ Status.Usage) ↔ AskNothing (map string_bytes words.now) }
     ensures usage_reads_nothing { result ≡ Status.Usage → shelf.new ≡ shelf.old }
     ensures reads_nothing { NamesNoFile (map string_bytes words.now) → shelf.new ≡ shelf.old }
 
-    // Each other answer has its cause.
+    // Every other status has its cause.
     ensures read_fault { result ≡ Status.ReadFault → HasCause Status.ReadFault (map string_bytes words.now)
         (shelf_change H.Shelf shelf.old shelf.new)
         (sink_change O.Sink out.old out.new) (sink_change E.Sink err.old err.new) }
@@ -67,28 +68,30 @@ pub fn run<H: Shelf, O: Sink, E: Sink>(
         (shelf_change H.Shelf shelf.old shelf.new)
         (sink_change O.Sink out.old out.new) (sink_change E.Sink err.old err.new) }
 
-    // The headline: rules that are written forward exactly what the policy expects, over every list
-    // of packets and forgettings, also as they are read again, and the policy meets every invariant
-    // and is the first that does. Flows of OpenFlow do so without connections: they are written only
-    // where no answer needs one. A description that is migrated is written as a document of its own
-    // table in version 2. Rules are said to be equal to a description only where they forward what its
-    // policy expects. With the rules of every specific host on its machines, a packet passes between
-    // them exactly where the policy expects it.
+    // The headline. For every list of packets and forget events, the generated rules forward
+    // exactly what the policy expects, also when their text is parsed again. The policy satisfies
+    // every invariant and is the first that does. OpenFlow flows achieve this without connection
+    // state: they are written only if no answer needs it. `migrate` writes a document of the
+    // description's own table, in version 2. `audit` reports `equal` only if the rules forward what
+    // the policy expects. If the machines of every specific host have their rules, a packet passes
+    // between hosts iff the policy expects it.
     ensures headline { result ≡ Status.Done → (ask : Ask) → AskFor (map string_bytes words.now) ask
         → Keeps ask (shelf_change H.Shelf shelf.old shelf.new) (sink_change O.Sink out.old out.new) }
 
-    // A sample takes nothing off the shelf, and is always written unless the output fails or there is no memory.
+    // `sample` reads no file, and always writes its report unless the output fails or memory runs
+    // out.
     ensures sample { (n : ℕ) → AskFor (map string_bytes words.now) (Sample n)
         → (shelf.new ≡ shelf.old) × EndsAsSample n (sink_change O.Sink out.old out.new) result }
 
-    // Where nothing is written or said, the stream is as it was. A command reports what fails on one stream,
-    // and leaves the other as it was.
+    // A stream that gets no text is unchanged. A command reports violations on one stream and
+    // leaves the other unchanged.
     ensures untouched { result ≢ Status.Done → result ≢ Status.WriteFault
         → (result ≡ Status.Violated → AsksToReport (map string_bytes words.now) → ⊥) → out.new ≡ out.old }
     ensures silent { (result ≡ Status.Done) ⊎ ((result ≡ Status.Violated) × AsksToReport (map string_bytes words.now))
         → err.new ≡ err.old }
 
-    // The words and the told files decide what is given, and so how the run ends.
+    // If the shelf's files are observable, the arguments and the files determine the reply, and so
+    // how the run ends.
     ensures complete { IsComplete (map string_bytes words.now) (shelf_change H.Shelf shelf.old shelf.new)
         (sink_change O.Sink out.old out.new) (sink_change E.Sink err.old err.new) result }
 {
@@ -96,7 +99,7 @@ pub fn run<H: Shelf, O: Sink, E: Sink>(
     give(&answer, out, err)
 }
 
-/// The answer to the words, with its files taken off the shelf.
+/// Computes the reply to `words`, reading files from `shelf` as needed. Writes nothing.
 fn answer_to<'a, H: Shelf>(alloc: Global, words: &'a [String], shelf: &mut H) -> Answer<'a>
     ensures same_files { H.files shelf.new ≡ H.files shelf.old }
     ensures faults_stay { H.faults shelf.old ≤ H.faults shelf.new }

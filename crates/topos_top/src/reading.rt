@@ -1,4 +1,5 @@
-//! Reading a file of each kind. What is not accepted ends the run with its answer.
+//! Reading and parsing a file of each kind. A file that is not accepted ends the run with its
+//! reply.
 
 ghost use Rattle.std.specs.Prelude.{◌≡◌, ◌≤◌, IfOk};
 ghost use Rattle.audit_core.specs.Rules.{filter_of};
@@ -21,7 +22,7 @@ use ofp_read::OfpFault;
 use pkt_core::{Event, EventFault};
 use std::alloc::Global;
 
-/// The network that a file describes.
+/// Reads the network that a file describes.
 pub fn read_description<'a, H: Shelf>(
     alloc: Global,
     name: &'a str,
@@ -36,7 +37,7 @@ pub fn read_description<'a, H: Shelf>(
     Ok(describe(alloc, &bytes)?)
 }
 
-/// The rules of a file. They have one verdict for every packet in each state.
+/// Reads the rules of a file. They have one verdict for every packet in each state.
 pub fn read_rules<'a, H: Shelf>(
     alloc: Global,
     dialect: Dialect,
@@ -71,7 +72,7 @@ pub fn read_rules<'a, H: Shelf>(
     }
 }
 
-/// The events of a file.
+/// Reads the events of a file.
 pub fn read_events<'a, H: Shelf>(
     alloc: Global,
     name: &'a str,
@@ -93,7 +94,7 @@ pub fn read_events<'a, H: Shelf>(
     }
 }
 
-/// The description of a file in version 2.
+/// Reads the description of a file, migrated to version 2.
 pub fn read_document<'a, H: Shelf>(
     alloc: Global,
     name: &'a str,
@@ -107,7 +108,7 @@ pub fn read_document<'a, H: Shelf>(
     Ok(migrate(alloc, &bytes)?)
 }
 
-/// The description of a file, to be edited.
+/// Reads the description of a file, to be edited.
 pub fn read_session<'a, H: Shelf>(
     alloc: Global,
     name: &'a str,
@@ -121,7 +122,7 @@ pub fn read_session<'a, H: Shelf>(
     Ok(Session::start(alloc, &bytes)?)
 }
 
-/// The edits of a file.
+/// Reads the edits of a file.
 pub fn read_edits<'a, H: Shelf>(
     alloc: Global,
     name: &'a str,
@@ -143,7 +144,7 @@ pub fn read_edits<'a, H: Shelf>(
     }
 }
 
-/// The bytes of a file.
+/// Reads the bytes of a file.
 fn take<'a, H: Shelf>(
     alloc: Global,
     kind: Kind,

@@ -1,4 +1,5 @@
-//! `repair iptables|openflow FILE`: the rules of the permitted policy, whatever was listed.
+//! `repair iptables|openflow FILE`: the rules of the permitted policy, whether or not a policy was
+//! listed.
 
 ghost use Rattle.std.specs.Prelude.{◌≡◌, ◌≤◌, false};
 ghost use Rattle.topos_top.specs.Ask.{Repair};
@@ -14,7 +15,8 @@ use crate::rules::policy_rules;
 use edge_io::Shelf;
 use std::alloc::Global;
 
-/// The answer to the file of that name: the rules, or why they cannot be written.
+/// Returns the reply for the file of that name: the rules, or the reason why they cannot be
+/// emitted.
 pub fn reply<'a, H: Shelf>(
     alloc: Global,
     dialect: Dialect,

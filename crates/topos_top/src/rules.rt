@@ -1,5 +1,5 @@
-//! `rules iptables|openflow FILE`: the rules of the permitted policy, unless it was listed and breaks
-//! an invariant.
+//! `rules iptables|openflow FILE`: the rules of the permitted policy, unless the policy was listed
+//! and violates an invariant.
 
 ghost use Rattle.std.specs.Prelude.{◌≡◌, ◌≤◌, IfOk, false};
 ghost use Rattle.topos_top.specs.Ask.{Rules};
@@ -23,7 +23,7 @@ use edge_io::Shelf;
 use net_core::policy_of;
 use std::alloc::{AllocError, Global};
 
-/// The answer to the file of that name.
+/// Returns the reply for the file of that name.
 pub fn reply<'a, H: Shelf>(
     alloc: Global,
     dialect: Dialect,
@@ -39,7 +39,7 @@ pub fn reply<'a, H: Shelf>(
     Answer::of_job(answer(alloc, dialect, &description))
 }
 
-/// The rules, or why there are none.
+/// Returns the rules, or the reason why there are none.
 fn answer<'a>(
     alloc: Global,
     dialect: Dialect,
@@ -53,7 +53,7 @@ fn answer<'a>(
     }
 }
 
-/// The rules of the policy of a description, or why they cannot be written.
+/// Returns the rules of the policy of a description, or the reason why they cannot be emitted.
 pub fn policy_rules<'a>(
     alloc: Global,
     dialect: Dialect,

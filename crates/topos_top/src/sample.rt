@@ -1,4 +1,4 @@
-//! `sample N`: what every job makes of the sample of N hosts, in numbers.
+//! `sample N`: the results of every command for the sample of N hosts, in numbers.
 
 ghost use Rattle.std.specs.Prelude.{◌≤◌, IfOk, false};
 ghost use Rattle.host_net.specs.Limits.{host_limit};
@@ -11,7 +11,7 @@ use crate::text::Text;
 use sample_core::sample_text;
 use std::alloc::{AllocError, Global};
 
-/// The numbers of the sample.
+/// Returns the numbers of the sample.
 pub fn answer<'a>(alloc: Global, hosts: u16) -> Result<Answer<'a>, AllocError>
     requires { hosts ≤ host_limit }
     ensures { IfOk result (λ answer. Answers false (sample_job hosts) (reply_view answer)) }

@@ -1,33 +1,33 @@
-//! How a run ends, as an exit status, and the streams that it writes.
+//! The exit status of a run, and its output streams.
 
 ghost use Rattle.std.specs.Prelude.{◌≡◌};
 ghost use Rattle.topos_top.specs.inner.StatusNumber.{number_of};
 
-/// The end of a run. Its number is the exit status of the program.
+/// The status of a run. Its number is the exit status of the program.
 #[derive(Clone, Copy, Debug, PartialEq, Eq)]
 pub enum Status {
     /// The whole text is on the output.
     Done,
-    /// The words are no form of the command line.
+    /// The arguments form no command.
     Usage,
-    /// What has to hold fails.
+    /// A required property is violated.
     Violated,
     /// The description is refused.
     BadDescription,
-    /// A text of rules, of events or of edits is refused.
+    /// A file of rules, events or edits is rejected.
     BadText,
-    /// What is asked for cannot be written.
+    /// The result cannot be emitted.
     NotEmittable,
     /// A file cannot be read.
     ReadFault,
     /// The output failed, after a prefix of the text.
     WriteFault,
-    /// There is not enough memory.
+    /// Memory allocation failed.
     Memory,
 }
 
 impl Status {
-    /// The exit status, from 0 to 8 in the order of the variants.
+    /// Returns the exit status, from 0 to 8 in the order of the variants.
     pub fn number(&self) -> u8
         ensures { result ≡ number_of self.now }
     {
@@ -45,11 +45,11 @@ impl Status {
     }
 }
 
-/// Where a text goes.
+/// The stream of a text.
 #[derive(Clone, Copy)]
 pub enum Stream {
-    /// The output, for what was asked for.
+    /// The output, for results.
     Output,
-    /// The error stream, for why there is none of it.
+    /// The error stream, for the reasons why there is no result.
     Errors,
 }

@@ -1,4 +1,4 @@
-//! A text for a stream. None of them takes memory to be written, so that want of memory can be told.
+//! A text for a stream. Writing a text never allocates, so an allocation failure can be reported.
 
 ghost use Rattle.std.specs.Prelude.{◌≡◌, ◌≤◌, OnOk, OnErr};
 ghost use Rattle.std.specs.Io.KnownBytes.{append_known};
@@ -18,34 +18,34 @@ use ipt_rules::Ruleset;
 use ofp_rules::Table;
 use report_core::{Report, refusal_line};
 
-/// What goes to a stream.
+/// The text for a stream.
 #[derive(Drop)]
 pub enum Text<'a> {
-    /// The forms of the command line.
+    /// The usage text.
     Usage,
-    /// The line of a file that cannot be read.
+    /// The line for a file that cannot be read.
     CannotRead(&'a str),
-    /// The line of a refused description.
+    /// The line for a refused description.
     Refusal(Refusal),
-    /// The line of another file that is refused: what it was to hold, the number of its faulty line,
-    /// or 0 for the whole of it, and why.
+    /// The line for another rejected file: the kind of its content, the number of its bad line, or
+    /// 0 for the whole file, and the reason.
     Fault(&'static [u8], u32, &'static [u8]),
-    /// The line of an edit that is refused: the number of its line, and why.
+    /// The line for a refused edit: the number of its line, and the reason.
     RefusedEdit(u32, EditWhy),
-    /// The line of want of memory.
+    /// The line for an allocation failure.
     NoMemory,
     /// A report.
     Report(Report),
-    /// A text that is written out already.
+    /// A text that is already formatted.
     Bytes(Vec<u8>),
-    /// The chains of iptables, which are written line by line.
+    /// The chains of iptables, which are formatted line by line.
     Rules(Ruleset),
-    /// The flow table of OpenFlow, which is written line by line.
+    /// The flow table of OpenFlow, which is formatted line by line.
     Table(Table),
 }
 
 impl<'a> Text<'a> {
-    /// Puts the text into the sink, without memory, and stops at the first fault.
+    /// Writes the text to the sink, without allocation, and stops at the first error.
     #[tactic(auto, unfolding(crate::specs::TextFault::edit_fault_line))]
     pub fn put<O: Sink>(&self, sink: &mut O) -> Result<(), WriteFault>
         ensures prefix { TookPrefix (O.held sink.old) (O.held sink.new) (text_view self.now) }
@@ -70,7 +70,7 @@ impl<'a> Text<'a> {
     }
 }
 
-/// The forms of the command line.
+/// Writes the usage text.
 #[tactic(auto, unfolding(crate::specs::Ask::usage_text))]
 fn put_usage<O: Sink>(sink: &mut O) -> Result<(), WriteFault>
     ensures prefix { TookPrefix (O.held sink.old) (O.held sink.new) usage_text }
@@ -95,7 +95,7 @@ fn put_usage<O: Sink>(sink: &mut O) -> Result<(), WriteFault>
     )
 }
 
-/// The line of a refused description.
+/// Writes the line for a refused description.
 fn put_refusal<O: Sink>(sink: &mut O, why: &Refusal) -> Result<(), WriteFault>
     ensures prefix { TookPrefix (O.held sink.old) (O.held sink.new) (refusal_text why.now) }
     ensures whole { OnOk result (O.held sink.new ≡ append_known (O.held sink.old) (refusal_text why.now)) }
@@ -107,7 +107,7 @@ fn put_refusal<O: Sink>(sink: &mut O, why: &Refusal) -> Result<(), WriteFault>
     put_all(sink, &line[..length])
 }
 
-/// The line of a refused text, with the number of its line and the reason.
+/// Writes the line for a rejected file, with the number of its bad line and the reason.
 fn put_fault<O: Sink>(sink: &mut O, text: &[u8], line: u32, reason: &[u8]) -> Result<(), WriteFault>
     ensures prefix { TookPrefix (O.held sink.old) (O.held sink.new) (fault_line text.now line reason.now) }
     ensures whole { OnOk result (O.held sink.new ≡ append_known (O.held sink.old) (fault_line text.now line reason.now)) }

@@ -1,4 +1,4 @@
-//! The names of the reasons for which a text of rules, of events or of edits is refused.
+//! The names of the reasons to reject a file of rules, events or edits.
 
 ghost use Rattle.std.specs.Prelude.{◌≡◌};
 ghost use Rattle.topos_top.specs.TextFault.{rules_reason, flows_reason, list_reason, edit_reason};
@@ -8,7 +8,7 @@ use ipt_read::IptWhy;
 use ofp_read::OfpWhy;
 use text_core::ListWhy;
 
-/// Why rules are refused.
+/// Returns the name of the reason to reject iptables rules.
 pub fn rules_reason(why: IptWhy) -> &'static [u8]
     ensures { result.now ≡ rules_reason why }
 {
@@ -29,7 +29,7 @@ pub fn rules_reason(why: IptWhy) -> &'static [u8]
     }
 }
 
-/// Why flows are refused.
+/// Returns the name of the reason to reject a flow file.
 pub fn flows_reason(why: OfpWhy) -> &'static [u8]
     ensures { result.now ≡ flows_reason why }
 {
@@ -45,7 +45,7 @@ pub fn flows_reason(why: OfpWhy) -> &'static [u8]
     }
 }
 
-/// Why a list of events or of edits is refused.
+/// Returns the name of the reason to reject a list of events or of edits.
 pub fn list_reason(why: ListWhy) -> &'static [u8]
     ensures { result.now ≡ list_reason why }
 {
@@ -57,7 +57,7 @@ pub fn list_reason(why: ListWhy) -> &'static [u8]
     }
 }
 
-/// Why an edit is refused on the description that it changes.
+/// Returns the name of the reason to refuse an edit on the description that it changes.
 pub fn edit_reason(why: &EditWhy) -> &[u8]
     ensures { result.now ≡ edit_reason why.now }
 {

@@ -1,4 +1,4 @@
-//! `trace iptables|openflow RULES EVENTS`: what becomes of each event.
+//! `trace iptables|openflow RULES EVENTS`: the result of each event.
 
 ghost use Rattle.std.specs.Prelude.{◌≡◌, ◌≤◌, IfOk, false};
 ghost use Rattle.audit_core.specs.Rules.{filter_of};
@@ -22,7 +22,7 @@ use pkt_core::Event;
 use report_core::{trace_rules, trace_table};
 use std::alloc::{AllocError, Global};
 
-/// The answer to the files of those names.
+/// Returns the reply for the files of those names.
 pub fn reply<'a, H: Shelf>(
     alloc: Global,
     dialect: Dialect,
@@ -39,7 +39,7 @@ pub fn reply<'a, H: Shelf>(
     reply_for(alloc, &rules, events, shelf)
 }
 
-/// The same for rules that were read: the answer to the events.
+/// Returns the reply for parsed rules and the file of events.
 fn reply_for<'a, H: Shelf>(
     alloc: Global,
     rules: &Rules,
@@ -55,7 +55,7 @@ fn reply_for<'a, H: Shelf>(
     Answer::of_job(answer(alloc, rules, &events))
 }
 
-/// The lines of the events.
+/// Returns the lines of the events.
 fn answer<'a>(alloc: Global, rules: &Rules, events: &[Event]) -> Result<Answer<'a>, AllocError>
     ensures { IfOk result (λ answer. Answers false (trace_job (filter_of (rules_view rules.now)) events.now) (reply_view answer)) }
 {
@@ -63,7 +63,7 @@ fn answer<'a>(alloc: Global, rules: &Rules, events: &[Event]) -> Result<Answer<'
     Ok(Answer::done(Text::Bytes(text)))
 }
 
-/// What the rules do with each event, one line each.
+/// Returns the result of the rules for each event, one line per event.
 fn trace_text(alloc: Global, rules: &Rules, events: &[Event]) -> Result<Vec<u8>, AllocError>
     ensures { IfOk result (λ text. IsTrace (filter_of (rules_view rules.now)) events.now text.items) }
 {

@@ -1,4 +1,4 @@
--- What the code reads of the words of a command line. No promise of `run` stands on it but through what the words ask for.
+-- Parsing the arguments of a command line. The promises of `run` use it only through the commands that the arguments form.
 use Rattle.std.specs.Prelude.{ℕ, ◌==◌, List, [], ◌∷◌, Option, None, Some, option_map, codes, if◌then◌else◌}
 use Rattle.std.specs.Option.{option_and_then}
 use Rattle.std.specs.Str.{bytes_eq}
@@ -8,15 +8,17 @@ use Rattle.topos_top.specs.Ask.{Ask, Check, Policy, Rules, Repair, Trace, Sample
 use Rattle.topos_top.specs.declared.dialect.Dialect.{Dialect}
 use Rattle.topos_top.specs.declared.dialect.Dialect.TheVariants.{Iptables, OpenFlow}
 
--- the words, where there are just as many
+-- The single argument, if there is exactly one.
 abbrev pub one_word : List (List ℕ) → Option (List ℕ)
 one_word (word ∷ []) = Some word
 one_word _ = None
 
+-- The two arguments, if there are exactly two.
 abbrev pub two_words : List (List ℕ) → Option (List ℕ × List ℕ)
 two_words (first ∷ (second ∷ [])) = Some (first, second)
 two_words _ = None
 
+-- The three arguments, if there are exactly three.
 abbrev pub three_words : List (List ℕ) → Option (List ℕ × List ℕ × List ℕ)
 three_words (first ∷ (second ∷ (third ∷ []))) = Some (first, second, third)
 three_words _ = None
@@ -24,29 +26,32 @@ three_words _ = None
 abbrev pub dialect_named : (word : List ℕ) → Option Dialect
 dialect_named word = if bytes_eq word (codes "iptables") then Some Iptables else if bytes_eq word (codes "openflow") then Some OpenFlow else None
 
--- what a file asks for, two words, and a file behind a dialect
+-- The command for one file.
 abbrev pub of_file : (List ℕ → Ask) → List (List ℕ) → Option Ask
 of_file ask words = option_map ask (one_word words)
 
+-- The command for two arguments.
 abbrev pub of_two : ((first second : List ℕ) → Ask) → List (List ℕ) → Option Ask
 of_two ask words = option_map (λ (said : List ℕ × List ℕ). ask said.0 said.1) (two_words words)
 
+-- The command for a dialect and a file.
 abbrev pub in_dialect : (Dialect → List ℕ → Ask) → List (List ℕ) → Option Ask
 in_dialect ask words = option_and_then (λ (said : List ℕ × List ℕ). option_map (λ dialect. ask dialect said.1) (dialect_named said.0)) (two_words words)
 
+-- The command for a dialect and two files.
 abbrev pub with_two_files : (Dialect → (first second : List ℕ) → Ask) → List (List ℕ) → Option Ask
 with_two_files ask words = option_and_then (λ (said : List ℕ × List ℕ × List ℕ). option_map (λ dialect. ask dialect said.1 said.2) (dialect_named said.0)) (three_words words)
 
--- The number of hosts that a word says: a decimal number from 1 to as many as there may be.
+-- The number of hosts that an argument denotes: a decimal number from 1 to the host limit.
 abbrev pub hosts_said : (word : List ℕ) → Option ℕ
 hosts_said word = option_and_then (λ n. if n == 0 then None else Some n) (number host_limit word)
 
--- A form: its first word, and what those after it ask for.
+-- A command form: its first argument, and the parser of the following arguments.
 pub record Form : Type 0 where
   pub word : List ℕ
   pub asks : List (List ℕ) → Option Ask
 
--- all forms
+-- All command forms.
 abbrev pub forms : List Form
 forms =
     record { word = codes "check"; asks = of_file Check }
@@ -61,7 +66,7 @@ forms =
     ∷ (record { word = codes "local"; asks = of_two Local }
     ∷ [])))))))))
 
--- what is asked for by the form of that word among these
+-- The command that the form with that first argument parses.
 abbrev pub among : List Form → (word : List ℕ) → (rest : List (List ℕ)) → Option Ask
 among [] word rest = None
 among (form ∷ forms) word rest = if bytes_eq word form.word then form.asks rest else among forms word rest

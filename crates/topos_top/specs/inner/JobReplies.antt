@@ -1,4 +1,4 @@
--- What the code replies to a job. No promise of `run` stands on it.
+-- The replies of the code to a job. No promise of `run` depends on it.
 use Rattle.std.specs.Prelude.{Result, Ok, Err}
 use Rattle.std.specs.declared.alloc.AllocError.{AllocError}
 use Rattle.audit_core.specs.inner.FindingText.{finding_text}
@@ -10,12 +10,12 @@ use Rattle.topos_top.specs.declared.answer.Answer.{Answer}
 use Rattle.topos_top.specs.declared.status.Status.TheVariants.{Done, Violated}
 use Rattle.topos_top.specs.declared.status.Stream.TheVariants.{Output}
 
--- by its answer, where there may have been no memory for one
+-- The reply of a result, or of an allocation failure.
 abbrev pub job_reply : Result Answer AllocError → Reply
 job_reply (Ok given) = reply_view given
 job_reply (Err _) = no_memory
 
--- by what an audit found
+-- The reply of the finding of an audit.
 abbrev pub finding_reply : Finding → Reply
 finding_reply Equal = reply_on Done Output (finding_text Equal)
 finding_reply (Differ trace) = reply_on Violated Output (finding_text (Differ trace))

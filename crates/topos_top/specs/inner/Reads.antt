@@ -1,4 +1,4 @@
--- What the code ensures that reads a file. No promise of `run` stands on it.
+-- The contract of the code that reads a file. No promise of `run` depends on it.
 use Rattle.std.specs.Prelude.{◌≡◌, ℕ, List, Result, Ok, Err, Some}
 use Rattle.audit_core.specs.Rules.{Rules as AuditedRules}
 use Rattle.topos_top.specs.Audit.{rules_in}
@@ -11,7 +11,7 @@ use Rattle.topos_top.specs.declared.dialect.Dialect.{Dialect}
 use Rattle.topos_top.specs.declared.kind.Kind.{Kind}
 use Rattle.topos_top.specs.declared.kind.Kind.TheVariants.{Rules}
 
--- The bytes of a file were taken.
+-- The bytes of a file were read.
 pub record TookFile (shelf : ShelfChange) (kind : Kind) (file bytes : List ℕ) : Type 0 where
   pub held : SawFile shelf file (Some bytes)
   pub took : TookBytes shelf.only_failures kind bytes shelf.before shelf.after
@@ -20,12 +20,12 @@ abbrev pub MayTake : Kind → (file : List ℕ) → ShelfChange → Result (List
 MayTake kind file shelf (Ok bytes) = TookFile shelf kind file bytes
 MayTake kind file shelf (Err given) = StopsAt shelf kind file given
 
--- What may come of reading a file.
+-- The possible results of reading a file.
 abbrev pub MayRead : (kind : Kind) → (file : List ℕ) → ShelfChange → Result (contents_of kind).Said Reply → Type 0
 MayRead kind file shelf (Ok said) = (bytes : List ℕ) × TookFile shelf kind file bytes × (contents_of kind).Reads bytes said
 MayRead kind file shelf (Err given) = StopsAt shelf kind file given
 
--- Rules of a dialect were read, which are told as those of an audit.
+-- Rules of a dialect were read, in the form of an audit.
 pub record ReadRules (shelf : ShelfChange) (dialect : Dialect) (file : List ℕ) (rules : AuditedRules) : Type 0 where
   pub said : (language_of dialect).Rules
   pub told : rules ≡ rules_in dialect said

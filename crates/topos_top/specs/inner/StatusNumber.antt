@@ -1,4 +1,4 @@
--- The exit status of each end of a run (docs/GUIDE.md).
+-- The exit status of each kind of end of a run (docs/GUIDE.md).
 use Rattle.std.specs.Prelude.{ℕ}
 use Rattle.topos_top.specs.declared.status.Status.{Status}
 use Rattle.topos_top.specs.declared.status.Status.TheVariants.{Done, Usage, Violated, BadDescription, BadText, NotEmittable, ReadFault, WriteFault, Memory}

@@ -1,4 +1,4 @@
--- What the code asks and answers, as the definitions have it. No promise of `run` stands on it.
+-- The models of the code's commands and replies. No promise of `run` depends on it.
 use Rattle.std.specs.Prelude.{◌≤◌, ℕ, List, Result, Ok, Err, map}
 use Rattle.std.specs.Result.{result_map_both}
 use Rattle.std.specs.Global.{Global}
@@ -42,12 +42,12 @@ ask_view (ask.Audit dialect file rules) = Audit dialect file.now rules.now
 ask_view (ask.Edit file edits) = Edit file.now edits.now
 ask_view (ask.Local file host) = Local file.now host.now
 
--- a sample has no more hosts than there may be
+-- The number of hosts of a sample is at most the host limit.
 abbrev pub IsWithinHosts : Ask → Type 0
 IsWithinHosts (Sample hosts) = hosts ≤ host_limit
 IsWithinHosts _ = Unit {0}
 
--- the bytes of a text
+-- The bytes of a text.
 abbrev pub text_view : Text → List ℕ
 text_view text.Usage = usage_text
 text_view (text.CannotRead file) = (cannot_read file.now).text
@@ -66,24 +66,25 @@ reply_on ended stream text = record { status = ended; stream = stream; text = te
 abbrev pub reply_view : Answer → Reply
 reply_view answer = reply_on answer.status answer.stream (text_view answer.text)
 
--- the reply to a description, by the fault that the reader answers
+-- The reply to a description that the parser rejects.
 abbrev pub description_reply : DescFault → Reply
 description_reply (desc.Refused why) = error BadDescription (refusal_text why)
 description_reply desc.Memory = no_memory
 
--- the reply of an outcome, whether it ended the run early or not
+-- The reply of a result, whether or not it ended the run early.
 abbrev pub reply_in : Result Answer Answer → Reply
 reply_in (Ok given) = reply_view given
 reply_in (Err given) = reply_view given
 
--- what was read of a file, and of one whose reading is a vector
+-- The result of reading a file.
 abbrev pub outcome_view : {A : Type 0} → Result A Answer → Result A Reply
 outcome_view outcome = result_map_both (λ x. x) reply_view outcome
 
+-- The result of reading a file that is parsed to a vector.
 abbrev pub items_view : {A : Type 0} → Result (Vec A Global) Answer → Result (List A) Reply
 items_view outcome = result_map_both (λ xs. xs.items) reply_view outcome
 
--- rules that were read, as those of an audit
+-- Parsed rules, in the form of an audit.
 abbrev pub rules_view : CodeRules → AuditedRules
 rules_view (rules.Chains chains) = Chains chains
 rules_view (rules.Table table) = Entries table
@@ -91,9 +92,10 @@ rules_view (rules.Table table) = Entries table
 abbrev pub rules_outcome : Result CodeRules Answer → Result AuditedRules Reply
 rules_outcome outcome = result_map_both rules_view reply_view outcome
 
--- a description that is edited, as its table; and a list of edits, as what they stand for
+-- An edited description, as its table.
 abbrev pub session_view : Result (List (List ℕ × Value)) Answer → Result Members Reply
 session_view outcome = result_map_both table_of reply_view outcome
 
+-- A list of edits, as their models.
 abbrev pub edits_view : Result (Vec CodeEdit Global) Answer → Result (List meant.Edit) Reply
 edits_view outcome = result_map_both (λ edits. map edit_view edits.items) reply_view outcome

@@ -1,4 +1,4 @@
--- What is there and the lines that are left are what was there and all lines.
+-- The text so far followed by the remaining lines is the initial text followed by all lines.
 use Rattle.std.proofs.Common.{◌≡◌, ◌+◌, ◌++◌, drop}
 use Rattle.topos_top.specs.Edit.{summary_lines}
 use Rattle.topos_top.proofs.edit.push_summaries.Given as goal

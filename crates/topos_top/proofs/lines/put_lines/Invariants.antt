@@ -1,4 +1,4 @@
--- What was put and what waits in the block are the lines before `i`.
+-- The written lines and those in the block are the lines before `i`.
 use Rattle.std.proofs.Common.{◌≤◌, take}
 use Rattle.topos_top.proofs.PutBlocks.{IsSofar}
 use Rattle.topos_top.proofs.lines.put_lines.Given as goal

@@ -9,7 +9,7 @@ use Rattle.topos_top.specs.declared.answer.Answer.{Answer}
 use Rattle.topos_top.proofs.LocalLaws.{answers_listed}
 use Rattle.topos_top.proofs.local.answer.Goals as goal
 
--- what follows of each value
+-- A consequence for each value.
 if_ok : {T E : Type 0} (P Q : T → Type 0) → ((x : T) → P x → Q x) → (r : Result T E) → IfOk r P → IfOk r Q
 if_ok P Q f (Ok x) p = f x p
 if_ok P Q f (Err e) p = tt

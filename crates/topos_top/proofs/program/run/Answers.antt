@@ -12,7 +12,7 @@ use Rattle.topos_top.proofs.ToldLaws.{complete_law}
 use Rattle.topos_top.proofs.program.run.Given as given
 use Rattle.topos_top.proofs.program.run.Goals as goal
 
--- what the answer and its ending say, as one fact from which each clause follows
+-- The properties of the reply and of its delivery, as one fact from which each clause follows.
 gave : (g : given.Over) (c : goal.Joined-answer g) → GaveReply (map string_bytes c.args.words.now)
     (shelf_change g.H.Shelf c.args.shelf.now c.answer_to-answer.new.shelf)
     (sink_change g.O.Sink c.args.out.now c.give.new.out) (sink_change g.E.Sink c.args.err.now c.give.new.err) c.give.result
