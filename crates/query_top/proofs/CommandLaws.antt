@@ -1,15 +1,24 @@
--- The jobs of the questions: each end has one text, which has what is promised, and no two ends come at once.
-use Rattle.std.proofs.Common.{◌≡◌, ℕ, List, refl, subst}
+-- The jobs of the questions: each end has one text, which has what is promised, and no two ends come at once. The texts of `flows` and
+-- `changes` may be several, and each has what is promised.
+use Rattle.std.proofs.Common.{◌≡◌, ℕ, List, true, false, refl, subst}
 use Rattle.net_core.proofs.PolicyLaws.{policy_is_one}
 use Rattle.net_core.specs.Network.{Network as Described}
 use Rattle.net_core.specs.Policies.{Policy}
 use Rattle.query_core.proofs.OneAnswerLaws.{network_is_one}
+use Rattle.query_core.proofs.WeakeningOnceLaws.{weakens_once}
+use Rattle.query_core.specs.Json.{is_nothing}
 use Rattle.query_core.specs.NetworkText.{IsNetworkText}
+use Rattle.query_core.specs.Weakening.{IsWeakening}
 use Rattle.topos_top.proofs.CommandLaws.{IsOwedAlong}
 use Rattle.topos_top.proofs.JobLaws.{settled_writes}
-use Rattle.query_top.specs.Ask.{Ask, Network, Why}
+use Rattle.query_top.specs.Ask.{Ask, Changes, Compare, Flows, Network, Why}
+use Rattle.query_top.specs.Changes.{IsChangesAnswer}
 use Rattle.query_top.specs.Commands.{course_of}
 use Rattle.query_top.specs.Network.{IsNetworkAnswer}
+use Rattle.query_top.specs.Promises.{HasOneAnswer}
+use Rattle.query_top.proofs.CompareLaws.{settled_comparison}
+use Rattle.query_top.proofs.KeptLaws.{IsKeptAlong, kept_along}
+use Rattle.topos_top.specs.Audit.{rules_in}
 use Rattle.query_top.proofs.WhyLaws.{no_flow_is_one, no_flow_named, why_text_is_one}
 
 -- A network has one answer.
@@ -18,12 +27,38 @@ network_text_is_one d a b p q =
     let policies = policy_is_one d p.policy q.policy p.is_policy q.is_policy in
     network_is_one d q.policy a b (subst (λ (policy : Policy). IsNetworkText d policy a) policies p.written) q.written
 
-pub settled : (ask : Ask) → IsOwedAlong (course_of ask)
-settled (Why file from to) = λ d sound. record {
+-- An answer with weaker flows and one without are not of the same networks.
+weaken_or_not : (old new : Described) (a b : List ℕ) → IsChangesAnswer old new true a → IsChangesAnswer old new false b → ⊥
+weaken_or_not old new a b p q =
+    let before : p.before ≡ q.before = policy_is_one old p.before q.before p.is_before q.is_before in
+    let after : p.after ≡ q.after = policy_is_one new p.after q.after p.is_after q.is_after in
+    let same : is_nothing p.weakening.weaker.items ≡ is_nothing q.weakening.weaker.items =
+    weakens_once old q.before new q.after p.weakening q.weakening
+    (subst (λ (policy : Policy). IsWeakening old q.before new policy p.weakening) after
+    (subst (λ (policy : Policy). IsWeakening old policy new p.after p.weakening) before p.is_weakening)) q.is_weakening in
+    let some = p.some in
+    let none = q.some in
+    cc (same, some, none)
+
+pub settled : (ask : Ask) → HasOneAnswer ask → IsOwedAlong (course_of ask)
+settled (Why file from to) any = λ d sound. record {
   owed = (
     record { status = refl; one = no_flow_is_one d.hosts from to; tells = λ now line is. is },
     (record { status = refl; one = why_text_is_one d from to; tells = λ now text is. is }, tt),
   );
   apart = ((λ none named. no_flow_named d.hosts from to none.1 named.0 none.2 named.1, tt), (tt, tt));
 }
-settled (Network file) = λ d sound. settled_writes _ _ (network_text_is_one d) (λ text is. is)
+settled (Network file) any = λ d sound. settled_writes _ _ (network_text_is_one d) (λ text is. is)
+settled (Compare dialect file rules) any = λ d sound said reading. settled_comparison d (rules_in dialect said)
+settled (Flows dialect file rules) none = absurd none
+settled (Changes old new) none = absurd none
+
+pub kept : (ask : Ask) → IsKeptAlong (course_of ask)
+kept (Why file from to) = kept_along (course_of (Why file from to)) (settled (Why file from to) tt)
+kept (Network file) = kept_along (course_of (Network file)) (settled (Network file) tt)
+kept (Compare dialect file rules) = kept_along (course_of (Compare dialect file rules)) (settled (Compare dialect file rules) tt)
+kept (Flows dialect file rules) = λ d sound said reading. record { each = (record { status = refl; tells = λ now text is. is }, tt); apart = (tt, tt) }
+kept (Changes old new) = λ before sound after also. record {
+  each = (record { status = refl; tells = λ now text is. is }, (record { status = refl; tells = λ now text is. is }, tt));
+  apart = ((λ weaken none. weaken_or_not before after weaken.0 none.0 weaken.1 none.1, tt), (tt, tt));
+}

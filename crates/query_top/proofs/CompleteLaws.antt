@@ -1,5 +1,5 @@
--- If the shelf tells its files and counted no fault, the words and the files decide the reply.
-use Rattle.std.proofs.Common.{◌≡◌, ◌⊎◌, inl, inr, ℕ, List, Option, None, Some, false, refl, sym, subst, ◌∙◌}
+-- If the shelf tells its files and counted no fault, the words and the files decide the reply, if the words have one.
+use Rattle.std.proofs.Common.{◌≡◌, ◌⊎◌, inl, inr, ℕ, List, Option, None, Some, true, refl, sym, subst, ◌∙◌}
 use Rattle.std.specs.Prelude.{IfSome}
 use Rattle.edge_io.specs.Counts.{Rose}
 use Rattle.edge_io.specs.Told.{Files}
@@ -9,31 +9,32 @@ use Rattle.topos_top.specs.Shelf.{ShelfChange}
 use Rattle.topos_top.specs.Taken.{SinkChange, IsGiven}
 use Rattle.topos_top.specs.declared.status.Status.{Status}
 use Rattle.topos_top.specs.declared.status.Status.TheVariants as status
-use Rattle.topos_top.proofs.CourseLaws.{given_as_told, told_once}
+use Rattle.topos_top.proofs.CourseLaws.{told_once}
 use Rattle.topos_top.proofs.RunLaws.{ends_in_error}
 use Rattle.query_top.specs.Ask.{Ask}
 use Rattle.query_top.specs.Commands.{course_of}
-use Rattle.query_top.specs.Promises.{GaveReply, IsComplete}
+use Rattle.query_top.specs.Promises.{GaveReply, HaveOneReply, IsComplete}
 use Rattle.query_top.specs.Replies.{MayGive, RepliesTo}
 use Rattle.query_top.proofs.AskLaws.{one_ask}
-use Rattle.query_top.proofs.CommandLaws.{settled}
+use Rattle.query_top.proofs.CommandLaws.{kept, settled}
+use Rattle.query_top.proofs.KeptLaws.{kept_as_told}
 
 -- The words have one reply by the known files.
-reply_to_is_one : (words : List (List ℕ)) (told : Files) (r s : Reply) → RepliesTo words told r → RepliesTo words told s → r ≡ s
-reply_to_is_one words told r s (inl p) (inl q) = p.1 ∙ sym q.1
-reply_to_is_one words told r s (inl p) (inr q) = absurd (p.0 q.0 q.1)
-reply_to_is_one words told r s (inr p) (inl q) = absurd (q.0 p.0 p.1)
-reply_to_is_one words told r s (inr p) (inr q) =
+reply_to_is_one : (words : List (List ℕ)) (told : Files) (r s : Reply) → HaveOneReply words → RepliesTo words told r → RepliesTo words told s → r ≡ s
+reply_to_is_one words told r s one (inl p) (inl q) = p.1 ∙ sym q.1
+reply_to_is_one words told r s one (inl p) (inr q) = absurd (p.0 q.0 q.1)
+reply_to_is_one words told r s one (inr p) (inl q) = absurd (q.0 p.0 p.1)
+reply_to_is_one words told r s one (inr p) (inr q) =
     let same = one_ask words q.0 p.0 q.1 p.1 in
-    told_once false (course_of p.0) (telling told) (telling told) told r s (settled p.0) refl refl p.2
-    (subst (λ (ask : Ask). Replies false (course_of ask) told s) same q.2)
+    told_once true (course_of p.0) (telling told) (telling told) told r s (settled p.0 (one p.0 p.1)) refl refl p.2
+    (subst (λ (ask : Ask). Replies true (course_of ask) told s) same q.2)
 
 -- The reply is want of memory, or a reply by the known files.
 may_as_told : (words : List (List ℕ)) (shelf : ShelfChange) (files : Files) (given : Reply) → shelf.before.told ≡ Some files → (Rose shelf.before.faults shelf.after.faults → ⊥)
     → MayGive words shelf given → (given ≡ no_memory) ⊎ RepliesTo words files given
 may_as_told words shelf files given told no_fault (inl nothing) = inr (inl (nothing.0, nothing.1))
 may_as_told words shelf files given told no_fault (inr asks) =
-    elim (given_as_told shelf.only_failures false (course_of asks.0) shelf.before shelf.after (telling files) files given (settled asks.0) told refl no_fault asks.2) [
+    elim (kept_as_told shelf.only_failures true (course_of asks.0) shelf.before shelf.after files given (kept asks.0) told no_fault asks.2) [
       | inl lack ↦ inl lack
       | inr replies ↦ inr (inr (asks.0, asks.1, replies))
     ]
@@ -43,9 +44,9 @@ pub complete_law : (words : List (List ℕ)) (shelf : ShelfChange) (out err : Si
 complete_law words shelf out err s gave = by_told shelf.before.told refl
   where
     by_told : (told : Option Files) → shelf.before.told ≡ told
-        → IfSome told (λ files. (Rose shelf.before.faults shelf.after.faults → ⊥) → (s ≡ status.Memory) ⊎ ((reply : Reply) × RepliesTo words files reply × ((other : Reply) → RepliesTo words files other → other ≡ reply) × IsGiven out err reply s))
+        → IfSome told (λ files. (Rose shelf.before.faults shelf.after.faults → ⊥) → (s ≡ status.Memory) ⊎ ((reply : Reply) × RepliesTo words files reply × (HaveOneReply words → (other : Reply) → RepliesTo words files other → other ≡ reply) × IsGiven out err reply s))
     by_told None is = tt
     by_told (Some files) is = λ no_fault. elim (may_as_told words shelf files gave.reply is no_fault gave.allowed) [
       | inl lack ↦ inl (ends_in_error out err s gave.reply status.Memory no_memory.text lack gave.given).0
-      | inr allowed ↦ inr (gave.reply, allowed, λ other replies. reply_to_is_one words files other gave.reply replies allowed, gave.given)
+      | inr allowed ↦ inr (gave.reply, allowed, λ one other replies. reply_to_is_one words files other gave.reply one replies allowed, gave.given)
     ]

@@ -1,6 +1,8 @@
 pub mod AnsweredLaws
 pub mod AskLaws
 pub mod CommandLaws
+pub mod CompareLaws
 pub mod CompleteLaws
+pub mod KeptLaws
 pub mod RunLaws
 pub mod WhyLaws

@@ -1,5 +1,5 @@
 -- The job of `why`: the line that there is no flow, or the answer for the flow, never both, and one text.
-use Rattle.std.proofs.Common.{◌≡◌, inl, inr, ℕ, List, Some, false, length, refl, ap, sym, subst, ◌∙◌}
+use Rattle.std.proofs.Common.{◌≡◌, inl, inr, ℕ, List, Some, true, length, refl, ap, sym, subst, ◌∙◌}
 use Rattle.flow_set.specs.Flow.{IsFlow}
 use Rattle.flow_set.specs.declared.flow.Flow.{Flow}
 use Rattle.host_net.specs.Host.{Host, host_named}
@@ -38,14 +38,14 @@ same_host hosts from to line h k sender receiver same is = SameHost h sender (re
 
 -- The line that there is no flow answers the job.
 pub answers_no_flow : (d : Network) (from to line : List ℕ) (given : Reply) → IsNoFlow d.hosts from to line → given ≡ error NotEmittable line
-    → Answers false (why_job d from to) given
-answers_no_flow d from to line given none is = subst (λ (r : Reply). Answers false (why_job d from to) r) (sym is) (refl, inl (refl, (tt, line, none), none))
+    → Answers true (why_job d from to) given
+answers_no_flow d from to line given none is = subst (λ (r : Reply). Answers true (why_job d from to) r) (sym is) (refl, inl (refl, (tt, line, none), none))
 
 -- The answer for the flow answers the job.
 pub answers_flow : (d : Network) (from to text : List ℕ) (f : Flow) (given : Reply) → IsFlowNamed d.hosts from to f → IsWhyOf d f text
-    → given ≡ reply_on Done Output text → Answers false (why_job d from to) given
+    → given ≡ reply_on Done Output text → Answers true (why_job d from to) given
 answers_flow d from to text f given named answer is =
-    subst (λ (r : Reply). Answers false (why_job d from to) r) (sym is)
+    subst (λ (r : Reply). Answers true (why_job d from to) r) (sym is)
     (refl, inr (inl (refl, (f, named), record { flow = f; named = named; answer = answer })))
 
 -- ---- one text

@@ -1,5 +1,8 @@
 pub mod Ask
+pub mod Changes
 pub mod Commands
+pub mod Compare
+pub mod Flows
 pub mod Network
 pub mod Promises
 pub mod Replies

@@ -1,5 +1,5 @@
 -- The replies that a run may give, by what it saw of its files, and by the known files.
-use Rattle.std.specs.Prelude.{◌≡◌, ℕ, ◌⊎◌, List, false}
+use Rattle.std.specs.Prelude.{◌≡◌, ℕ, ◌⊎◌, List, true}
 use Rattle.edge_io.specs.Told.{Files}
 use Rattle.topos_top.specs.Replies.{MayReply, Replies}
 use Rattle.topos_top.specs.Reply.{Reply}
@@ -11,9 +11,9 @@ use Rattle.query_top.specs.Commands.{course_of}
 abbrev pub MayGive : List (List ℕ) → ShelfChange → Reply → Type 0
 MayGive words shelf given =
     (AskNothing words × (given ≡ usage) × (shelf.after ≡ shelf.before))
-    ⊎ ((ask : Ask) × AskFor words ask × MayReply false (course_of ask) shelf given)
+    ⊎ ((ask : Ask) × AskFor words ask × MayReply true (course_of ask) shelf given)
 
 -- A reply to the words by the known files.
 abbrev pub RepliesTo : List (List ℕ) → Files → Reply → Type 0
 RepliesTo words files given =
-    (AskNothing words × (given ≡ usage)) ⊎ ((ask : Ask) × AskFor words ask × Replies false (course_of ask) files given)
+    (AskNothing words × (given ≡ usage)) ⊎ ((ask : Ask) × AskFor words ask × Replies true (course_of ask) files given)

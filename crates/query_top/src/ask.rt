@@ -1,10 +1,11 @@
 //! The question of a command line.
 
 ghost use Rattle.std.specs.Prelude.{◌≡◌, map, string_bytes, option_map};
+ghost use Rattle.topos_top.specs.inner.Ask.{two_words};
 ghost use Rattle.query_top.specs.inner.Ask.{among, ask_of, forms};
 ghost use Rattle.query_top.specs.inner.Views.{ask_view};
 
-use topos_top::{one_word, three_words};
+use topos_top::{Dialect, one_word, three_words};
 
 /// A question: a variant for each form, with all its words.
 #[derive(Clone, Copy)]
@@ -13,6 +14,12 @@ pub enum Ask<'a> {
     Why(&'a str, &'a str, &'a str),
     /// `network FILE`: all that the description and its policy say of hosts, invariants and flows.
     Network(&'a str),
+    /// `flows iptables|openflow FILE RULES`: what rules let pass between the hosts.
+    Flows(Dialect, &'a str, &'a str),
+    /// `compare iptables|openflow FILE RULES`: whether rules do what the policy says, for each pair of owners.
+    Compare(Dialect, &'a str, &'a str),
+    /// `changes OLD NEW`: the packets that the policies of two descriptions treat differently.
+    Changes(&'a str, &'a str),
 }
 
 /// Returns the question of the words, or `None` if they are no form.
@@ -36,6 +43,28 @@ fn ask_after<'a>(verb: &str, rest: &'a [String]) -> Option<Ask<'a>>
             Some(Ask::Why(file, from, to))
         }
         "network" => Some(Ask::Network(one_word(rest)?)),
+        "flows" => {
+            let (word, file, rules) = three_words(rest)?;
+            Some(Ask::Flows(Dialect::named(word)?, file, rules))
+        }
+        "compare" => {
+            let (word, file, rules) = three_words(rest)?;
+            Some(Ask::Compare(Dialect::named(word)?, file, rules))
+        }
+        "changes" => {
+            let (old, new) = two_words(rest)?;
+            Some(Ask::Changes(old, new))
+        }
         _ => None,
+    }
+}
+
+// Returns the two words, if there are exactly two.
+fn two_words(words: &[String]) -> Option<(&str, &str)>
+    ensures { option_map (λ pair. (pair.0.now, pair.1.now)) result ≡ two_words (map string_bytes words.now) }
+{
+    match words {
+        [first, second] => Some((first.as_str(), second.as_str())),
+        [] | [_] | [_, _, _, ..] => None,
     }
 }

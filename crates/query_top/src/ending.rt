@@ -52,6 +52,9 @@ fn put_usage<E: Sink>(sink: &mut E) -> Result<(), WriteFault>
         &[
             b"usage: topos-query why FILE FROM TO\n",
             b"       topos-query network FILE\n",
+            b"       topos-query flows iptables|openflow FILE RULES\n",
+            b"       topos-query compare iptables|openflow FILE RULES\n",
+            b"       topos-query changes OLD NEW\n",
         ],
     )
 }

@@ -8,10 +8,14 @@
 #![tactic(auto)]
 
 mod ask;
+mod changes;
 mod commands;
+mod compare;
 mod ending;
+mod flows;
 mod network;
 mod program;
+mod rules;
 mod why;
 
 pub use program::run;

@@ -1,6 +1,6 @@
 //! `network FILE`: all that the description and its policy say of hosts, invariants and flows.
 
-ghost use Rattle.std.specs.Prelude.{◌≡◌, ◌≤◌, IfOk, false};
+ghost use Rattle.std.specs.Prelude.{◌≡◌, ◌≤◌, IfOk, true};
 ghost use Rattle.topos_top.specs.Job.{Answers};
 ghost use Rattle.topos_top.specs.Replies.{MayReply};
 ghost use Rattle.topos_top.specs.Shelf.{shelf_change};
@@ -24,7 +24,7 @@ pub fn reply<'a, H: Shelf>(
 ) -> Result<Answer<'a>, Answer<'a>>
     ensures same_files { H.files shelf.new ≡ H.files shelf.old }
     ensures faults_stay { H.faults shelf.old ≤ H.faults shelf.new }
-    ensures reply { MayReply false (course_of (Network file.now))
+    ensures reply { MayReply true (course_of (Network file.now))
         (shelf_change H.Shelf shelf.old shelf.new) (reply_in result) }
 {
     let description = read_description(alloc, file, shelf)?;
@@ -32,7 +32,7 @@ pub fn reply<'a, H: Shelf>(
 }
 
 fn answer<'a>(alloc: Global, description: &Description) -> Result<Answer<'a>, AllocError>
-    ensures { IfOk result (λ answer. Answers false (network_job description.now) (reply_view answer)) }
+    ensures { IfOk result (λ answer. Answers true (network_job description.now) (reply_view answer)) }
 {
     let text = network_text(alloc, description)?;
     Ok(Answer::done(Text::Bytes(text)))

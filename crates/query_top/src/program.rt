@@ -1,10 +1,10 @@
 //! The whole program, over any shelf of files and any two sinks.
 
-ghost use Rattle.std.specs.Prelude.{◌≡◌, ◌≢◌, ◌≤◌, ◌↔◌, None, map, string_bytes};
+ghost use Rattle.std.specs.Prelude.{◌≡◌, ◌≢◌, ◌≤◌, ◌↔◌, ◌⊎◌, None, map, string_bytes};
 ghost use Rattle.topos_top.specs.Shelf.{shelf_change};
 ghost use Rattle.topos_top.specs.Taken.{sink_change};
 ghost use Rattle.query_top.specs.Ask.{Ask, AskFor, AskNothing};
-ghost use Rattle.query_top.specs.Promises.{GaveReply, HasCause, IsComplete, Keeps};
+ghost use Rattle.query_top.specs.Promises.{GaveReply, HasCause, HasRules, IsComplete, Keeps, KeepsDifferences};
 ghost use Rattle.query_top.specs.inner.Ask.{ask_of};
 ghost use Rattle.query_top.specs.inner.Replies.{MayGiveBy};
 ghost use Rattle.query_top.specs.inner.Views.{ending_view};
@@ -16,7 +16,7 @@ use edge_io::{Shelf, Sink};
 use std::alloc::Global;
 use topos_top::Status;
 
-/// Answers the question of the words: reads its file off the shelf, and writes the answer to `out`, or to `err` the
+/// Answers the question of the words: reads its files off the shelf, and writes the answer to `out`, or to `err` the
 /// line that says why there is none. All memory is taken before the first byte is written.
 pub fn run<H: Shelf, O: Sink, E: Sink>(
     alloc: Global,
@@ -57,18 +57,30 @@ pub fn run<H: Shelf, O: Sink, E: Sink>(
         (shelf_change H.Shelf shelf.old shelf.new)
         (sink_change O.Sink out.old out.new) (sink_change E.Sink err.old err.new) }
 
-    // No question ends in one of the other two statuses of `topos`.
-    ensures other_statuses { (result ≢ Status.Violated) × (result ≢ Status.BadText) }
+    ensures violated { result ≡ Status.Violated → HasCause Status.Violated (map string_bytes words.now)
+        (shelf_change H.Shelf shelf.old shelf.new)
+        (sink_change O.Sink out.old out.new) (sink_change E.Sink err.old err.new) }
+    ensures bad_text { result ≡ Status.BadText → HasCause Status.BadText (map string_bytes words.now)
+        (shelf_change H.Shelf shelf.old shelf.new)
+        (sink_change O.Sink out.old out.new) (sink_change E.Sink err.old err.new) }
 
     // An answer on the output is the one to the question, for the network that the file describes.
     ensures answered { result ≡ Status.Done → (ask : Ask) → AskFor (map string_bytes words.now) ask
         → Keeps ask (shelf_change H.Shelf shelf.old shelf.new) (sink_change O.Sink out.old out.new) }
 
-    // Without an answer the output is as it was, and with one the error stream is.
-    ensures untouched { result ≢ Status.Done → result ≢ Status.WriteFault → out.new ≡ out.old }
-    ensures silent { result ≡ Status.Done → err.new ≡ err.old }
+    // Only a comparison with differences, and changes that weaken a flow, are violations. Then all of it is on the output.
+    ensures differences { result ≡ Status.Violated → (ask : Ask) → AskFor (map string_bytes words.now) ask
+        → KeepsDifferences ask (shelf_change H.Shelf shelf.old shelf.new) (sink_change O.Sink out.old out.new) }
 
-    // The words and the known files decide the reply, and so the answer, byte by byte.
+    // Only rules are a bad text.
+    ensures only_rules { result ≡ Status.BadText → (ask : Ask) → AskFor (map string_bytes words.now) ask → HasRules ask }
+
+    // Without an answer the output is as it was, and with one the error stream is.
+    ensures untouched { result ≢ Status.Done → result ≢ Status.Violated → result ≢ Status.WriteFault → out.new ≡ out.old }
+    ensures silent { (result ≡ Status.Done) ⊎ (result ≡ Status.Violated) → err.new ≡ err.old }
+
+    // The words and the known files decide the reply, and so the answer, byte by byte. The examples of packets in the
+    // answers of `flows` and `changes` may differ.
     ensures complete { IsComplete (map string_bytes words.now) (shelf_change H.Shelf shelf.old shelf.new)
         (sink_change O.Sink out.old out.new) (sink_change E.Sink err.old err.new) result }
 {
@@ -76,7 +88,7 @@ pub fn run<H: Shelf, O: Sink, E: Sink>(
     give(&ending, out, err)
 }
 
-// Returns how the run ends for the words, with their file taken off the shelf.
+// Returns how the run ends for the words, with their files taken off the shelf.
 fn ending_for<'a, H: Shelf>(alloc: Global, words: &'a [String], shelf: &mut H) -> Ending<'a>
     ensures same_files { H.files shelf.new ≡ H.files shelf.old }
     ensures faults_stay { H.faults shelf.old ≤ H.faults shelf.new }

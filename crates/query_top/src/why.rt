@@ -1,6 +1,6 @@
 //! `why FILE FROM TO`: why a flow is permitted, denied or without answers.
 
-ghost use Rattle.std.specs.Prelude.{◌≡◌, ◌≤◌, IfOk, false, length};
+ghost use Rattle.std.specs.Prelude.{◌≡◌, ◌≤◌, IfOk, length, true};
 ghost use Rattle.flow_set.specs.Flow.{IsFlow};
 ghost use Rattle.topos_top.specs.Job.{Answers};
 ghost use Rattle.topos_top.specs.Replies.{MayReply};
@@ -28,7 +28,7 @@ pub fn reply<'a, H: Shelf>(
 ) -> Result<Answer<'a>, Answer<'a>>
     ensures same_files { H.files shelf.new ≡ H.files shelf.old }
     ensures faults_stay { H.faults shelf.old ≤ H.faults shelf.new }
-    ensures reply { MayReply false (course_of (Why file.now from.now to.now))
+    ensures reply { MayReply true (course_of (Why file.now from.now to.now))
         (shelf_change H.Shelf shelf.old shelf.new) (reply_in result) }
 {
     let description = read_description(alloc, file, shelf)?;
@@ -42,7 +42,7 @@ fn answer<'a>(
     from: &str,
     to: &str,
 ) -> Result<Answer<'a>, AllocError>
-    ensures { IfOk result (λ answer. Answers false (why_job description.now from.now to.now) (reply_view answer)) }
+    ensures { IfOk result (λ answer. Answers true (why_job description.now from.now to.now) (reply_view answer)) }
 {
     let hosts = description.hosts();
     let Some(sender) = hosts.find(from.as_bytes()) else {
@@ -70,7 +70,7 @@ fn flow_answer<'a>(
     flow: Flow,
 ) -> Result<Answer<'a>, AllocError>
     requires { IsFlowNamed description.now.hosts from.now to.now flow }
-    ensures { IfOk result (λ answer. Answers false (why_job description.now from.now to.now) (reply_view answer)) }
+    ensures { IfOk result (λ answer. Answers true (why_job description.now from.now to.now) (reply_view answer)) }
 {
     let text = flow_text(alloc, description, flow)?;
     Ok(Answer::done(Text::Bytes(text)))

@@ -1,15 +1,23 @@
 -- The question that the code reads of the words. No promise of `run` depends on it.
 use Rattle.std.specs.Prelude.{ℕ, List, [], ◌∷◌, Option, None, option_map, codes, if◌then◌else◌}
+use Rattle.std.specs.Option.{option_and_then}
 use Rattle.std.specs.Str.{bytes_eq}
-use Rattle.topos_top.specs.inner.Ask.{one_word, three_words}
-use Rattle.query_top.specs.Ask.{Ask, Network, Why}
+use Rattle.topos_top.specs.declared.dialect.Dialect.{Dialect}
+use Rattle.topos_top.specs.inner.Ask.{dialect_named, one_word, three_words, two_words}
+use Rattle.query_top.specs.Ask.{Ask, Changes, Compare, Flows, Network, Why}
 
--- The question of a file, and of a file with two names.
+-- The question of a file, of two files, of a file with two names, and of two files after a dialect.
 abbrev pub of_file : (List ℕ → Ask) → List (List ℕ) → Option Ask
 of_file ask words = option_map ask (one_word words)
 
+abbrev pub of_files : ((old new : List ℕ) → Ask) → List (List ℕ) → Option Ask
+of_files ask words = option_map (λ (both : List ℕ × List ℕ). ask both.0 both.1) (two_words words)
+
 abbrev pub of_file_and_names : ((file from to : List ℕ) → Ask) → List (List ℕ) → Option Ask
 of_file_and_names ask words = option_map (λ (all : List ℕ × List ℕ × List ℕ). ask all.0 all.1 all.2) (three_words words)
+
+abbrev pub of_dialect_and_files : (Dialect → (file rules : List ℕ) → Ask) → List (List ℕ) → Option Ask
+of_dialect_and_files ask words = option_and_then (λ (all : List ℕ × List ℕ × List ℕ). option_map (λ dialect. ask dialect all.1 all.2) (dialect_named all.0)) (three_words words)
 
 -- A form: its first word, and the question of the words after it.
 pub record Form : Type 0 where
@@ -21,7 +29,10 @@ abbrev pub forms : List Form
 forms =
     record { word = codes "why"; asks = of_file_and_names Why }
     ∷ (record { word = codes "network"; asks = of_file Network }
-    ∷ [])
+    ∷ (record { word = codes "flows"; asks = of_dialect_and_files Flows }
+    ∷ (record { word = codes "compare"; asks = of_dialect_and_files Compare }
+    ∷ (record { word = codes "changes"; asks = of_files Changes }
+    ∷ []))))
 
 -- The question by the first of these forms that has the word.
 abbrev pub among : List Form → (word : List ℕ) → (rest : List (List ℕ)) → Option Ask

@@ -1,11 +1,22 @@
 -- The replies that a run may give, by the question that the code read. No promise of `run` depends on it.
-use Rattle.std.specs.Prelude.{◌≡◌, Option, None, Some, false}
+use Rattle.std.specs.Prelude.{◌≡◌, List, [], ◌∷◌, Option, None, Some, true}
+use Rattle.audit_core.specs.declared.difference.Difference.{Difference}
+use Rattle.host_net.specs.Host.{Host}
+use Rattle.query_core.specs.CompareJson.{compare_json}
 use Rattle.topos_top.specs.Replies.{MayReply}
 use Rattle.topos_top.specs.Reply.{Reply}
 use Rattle.topos_top.specs.Shelf.{ShelfChange}
+use Rattle.topos_top.specs.declared.status.Status.TheVariants.{Done, Violated}
+use Rattle.topos_top.specs.declared.status.Stream.TheVariants.{Output}
+use Rattle.topos_top.specs.inner.Views.{reply_on}
 use Rattle.query_top.specs.Ask.{Ask, usage}
 use Rattle.query_top.specs.Commands.{course_of}
 
 abbrev pub MayGiveBy : Option Ask → ShelfChange → Reply → Type 0
 MayGiveBy None shelf given = (given ≡ usage) × (shelf.after ≡ shelf.before)
-MayGiveBy (Some ask) shelf given = MayReply false (course_of ask) shelf given
+MayGiveBy (Some ask) shelf given = MayReply true (course_of ask) shelf given
+
+-- The reply of a comparison with these differences.
+abbrev pub differences_reply : List Host → List Difference → Reply
+differences_reply hosts [] = reply_on Done Output (compare_json hosts [])
+differences_reply hosts (d ∷ ds) = reply_on Violated Output (compare_json hosts (d ∷ ds))

@@ -4,7 +4,7 @@ use Rattle.topos_top.specs.Taken.{sink_change}
 use Rattle.topos_top.specs.declared.status.Status.TheVariants as status
 use Rattle.query_top.specs.Promises.{GaveReply}
 use Rattle.query_top.specs.inner.Views.{ending_view}
-use Rattle.query_top.proofs.AnsweredLaws.{answered_law, other_law}
+use Rattle.query_top.proofs.AnsweredLaws.{answered_law, differences_law, rules_law}
 use Rattle.query_top.proofs.AskLaws.{may_give, not_read}
 use Rattle.query_top.proofs.CompleteLaws.{complete_law}
 use Rattle.query_top.proofs.RunLaws.{usage_law, caused, no_fault, nothing_to_write, something_to_write}
@@ -48,20 +48,33 @@ returns-clause-memory g c = caused _ _ _ _ _ (gave g c) status.Memory (λ e. cc 
 pub returns-clause-done : goal.returns-clause-done
 returns-clause-done g c = caused _ _ _ _ _ (gave g c) status.Done (λ e. cc e)
 
-pub returns-clause-other_statuses : goal.returns-clause-other_statuses
-returns-clause-other_statuses g c = other_law _ _ _ _ _ (gave g c)
+pub returns-clause-violated : goal.returns-clause-violated
+returns-clause-violated g c = caused _ _ _ _ _ (gave g c) status.Violated (λ e. cc e)
+
+pub returns-clause-bad_text : goal.returns-clause-bad_text
+returns-clause-bad_text g c = caused _ _ _ _ _ (gave g c) status.BadText (λ e. cc e)
 
 pub returns-clause-answered : goal.returns-clause-answered
 returns-clause-answered g c = λ is.
     answered_law _ _ _ (sink_change g.E.Sink c.args.err.now c.give.new.err) (caused _ _ _ _ _ (gave g c) status.Done (λ e. cc e) is)
 
+pub returns-clause-differences : goal.returns-clause-differences
+returns-clause-differences g c = λ is.
+    differences_law _ _ _ (sink_change g.E.Sink c.args.err.now c.give.new.err) (caused _ _ _ _ _ (gave g c) status.Violated (λ e. cc e) is)
+
+pub returns-clause-only_rules : goal.returns-clause-only_rules
+returns-clause-only_rules g c = λ is.
+    rules_law _ (shelf_change g.H.Shelf c.args.shelf.now c.ending_for-ending.new.shelf) (sink_change g.O.Sink c.args.out.now c.give.new.out)
+    (sink_change g.E.Sink c.args.err.now c.give.new.err) (caused _ _ _ _ _ (gave g c) status.BadText (λ e. cc e) is)
+
 pub returns-clause-untouched : goal.returns-clause-untouched
 unfolding gave
-returns-clause-untouched g c = λ not_done not_cut. c.give.ensures.untouched (nothing_to_write _ _ _ _ _ (gave g c) not_done not_cut)
+returns-clause-untouched g c = λ not_done not_violated not_cut.
+    c.give.ensures.untouched (nothing_to_write _ _ _ _ _ (gave g c) not_done not_violated not_cut)
 
 pub returns-clause-silent : goal.returns-clause-silent
 unfolding gave
-returns-clause-silent g c = λ done. c.give.ensures.silent (no_fault c.give.result done) (something_to_write _ _ _ _ _ (gave g c) done)
+returns-clause-silent g c = λ answered. c.give.ensures.silent (no_fault c.give.result answered) (something_to_write _ _ _ _ _ (gave g c) answered)
 
 pub returns-clause-complete : goal.returns-clause-complete
 returns-clause-complete g c = complete_law _ _ _ _ _ (gave g c)

@@ -1,0 +1,23 @@
+use Rattle.std.proofs.Common.{inl, subst, true}
+use Rattle.std.proofs.lemmas.Result.{err_from_is_err_and}
+use Rattle.std.specs.Prelude.{IfOk}
+use Rattle.audit_core.specs.Rules.{Rules as AuditedRules}
+use Rattle.topos_top.specs.Audit.{rules_in}
+use Rattle.query_top.specs.Compare.{compare_job}
+use Rattle.topos_top.specs.Job.{Answers}
+use Rattle.topos_top.specs.inner.Views.{reply_in, reply_view}
+use Rattle.topos_top.specs.declared.kind.Kind.TheVariants.{Rules}
+use Rattle.topos_top.proofs.CourseLaws.{went_to_job}
+use Rattle.query_top.proofs.compare.reply_for.Goals as goal
+
+pub returns-in_err-rules-clause-reply : goal.returns-in_err-rules-clause-reply
+returns-in_err-rules-clause-reply g c =
+    let p = err_from_is_err_and c.from_residual.result c.from_residual.ensures.1 in
+    rw (p.1, p.2) (inl c.in_err-rules.ensures.reading)
+
+pub returns-clause-reply : goal.returns-clause-reply
+returns-clause-reply g c =
+    let d = c.args.description.now in
+    let rules = c.in_ok-rules.ensures.reading in
+    went_to_job true (Rules c.args.dialect) c.args.rules.now (λ said. compare_job d (rules_in c.args.dialect said)) _ _ rules.said c.answer.result (reply_in c.of_job.result) rules.read
+    (subst (λ (audited : AuditedRules). IfOk c.answer.result (λ answer. Answers true (compare_job d audited) (reply_view answer))) rules.told c.answer.ensures) c.of_job.ensures

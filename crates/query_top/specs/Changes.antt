@@ -1,0 +1,51 @@
+-- `changes OLD NEW`: the packets that the policies of two descriptions treat differently.
+use Rattle.std.specs.Prelude.{◌≡◌, ◌↔◌, ℕ, Bool, true, false, not, List, [], ◌∷◌}
+use Rattle.change_core.specs.Changes.{AreChanges, IsComplete, Policy as PolicyBetween, TreatAlike, policy_with}
+use Rattle.change_core.specs.declared.change.Change.{Change}
+use Rattle.net_core.specs.Network.{Network, site_of}
+use Rattle.net_core.specs.Policies.{IsPolicyOf, Policy}
+use Rattle.query_core.specs.Json.{is_nothing}
+use Rattle.query_core.specs.ChangesJson.{changes_json}
+use Rattle.query_core.specs.Weakening.{IsWeakening}
+use Rattle.query_core.specs.declared.weakening.Weakening.{Weakening}
+use Rattle.topos_top.specs.Job.{End, Job}
+use Rattle.topos_top.specs.declared.status.Status.{Status}
+use Rattle.topos_top.specs.declared.status.Status.TheVariants.{Done, Violated}
+
+-- The policy between the hosts of a network.
+abbrev pub policy_between : Network → Policy → PolicyBetween
+policy_between d policy = policy_with (site_of d) policy.permitted.flows policy.stateful.flows
+
+-- The list has all changes from one policy to another: one for each kind and pair of owners of which some packet changes, and no other.
+-- It is empty if and only if the policies treat all packets alike.
+pub record AreAllChanges (old new : PolicyBetween) (changes : List Change) : Type 0 where
+  pub are : AreChanges old new changes
+  pub complete : IsComplete old new changes
+  pub exact : (changes ≡ []) ↔ TreatAlike old new
+
+-- The text is the JSON of all changes from the policy of the old network to that of the new one, and of all that the change weakens. There
+-- are weaker flows if and only if `is_weaker` is true.
+pub record IsChangesAnswer (old new : Network) (is_weaker : Bool) (text : List ℕ) : Type 0 where
+  pub before : Policy
+  pub is_before : IsPolicyOf old before
+  pub after : Policy
+  pub is_after : IsPolicyOf new after
+  pub changes : List Change
+  pub all : AreAllChanges (policy_between old before) (policy_between new after) changes
+  pub weakening : Weakening
+  pub is_weakening : IsWeakening old before new after weakening
+  pub some : is_nothing weakening.weaker.items ≡ not is_weaker
+  pub written : text ≡ changes_json new.hosts old.hosts changes weakening
+
+-- The outcome of an answer with weaker flows, or of one without.
+abbrev pub changes_end : Status → (old new : Network) → (is_weaker : Bool) → End
+changes_end ended old new is_weaker = record {
+  status = ended;
+  when = (text : List ℕ) × IsChangesAnswer old new is_weaker text;
+  is = IsChangesAnswer old new is_weaker;
+  tells = IsChangesAnswer old new is_weaker;
+}
+
+-- If the change weakens some flow, this is a violation.
+abbrev pub changes_job : (old new : Network) → Job
+changes_job old new = changes_end Violated old new true ∷ (changes_end Done old new false ∷ [])

@@ -1,0 +1,102 @@
+//! `changes OLD NEW`: the packets that the policies of two descriptions treat differently.
+
+ghost use Rattle.std.specs.Prelude.{◌≡◌, ◌≤◌, Bool, IfOk, length, not, true, if◌then◌else◌};
+ghost use Rattle.net_core.specs.Policies.{IsPolicyOf};
+ghost use Rattle.query_core.specs.Json.{is_nothing};
+ghost use Rattle.query_core.specs.Weakening.{IsWeakening};
+ghost use Rattle.topos_top.specs.Course.{reads, ends};
+ghost use Rattle.topos_top.specs.Job.{Answers};
+ghost use Rattle.topos_top.specs.Replies.{MayReply};
+ghost use Rattle.topos_top.specs.Shelf.{shelf_change};
+ghost use Rattle.topos_top.specs.inner.Views.{reply_in, reply_on, reply_view};
+ghost use Rattle.topos_top.specs.declared.status.Status.TheVariants.{Done, Violated};
+ghost use Rattle.topos_top.specs.declared.status.Stream.TheVariants.{Output};
+ghost use Rattle.topos_top.specs.declared.kind.Kind.TheVariants as kind;
+ghost use Rattle.query_top.specs.Ask.{Changes};
+ghost use Rattle.query_top.specs.Changes.{IsChangesAnswer, changes_job};
+ghost use Rattle.query_top.specs.Commands.{course_of};
+
+use change_core::changes_between;
+use desc_core::Description;
+use edge_io::Shelf;
+use net_core::{Policy, policy_of};
+use query_core::{Weakening, changes_json, weakening_of};
+use std::alloc::{AllocError, Global};
+use topos_top::{Answer, Text, policy_between, read_description};
+
+/// Returns the answer for the networks that the files describe.
+pub fn reply<'a, H: Shelf>(
+    alloc: Global,
+    old: &'a str,
+    new: &'a str,
+    shelf: &mut H,
+) -> Result<Answer<'a>, Answer<'a>>
+    ensures same_files { H.files shelf.new ≡ H.files shelf.old }
+    ensures faults_stay { H.faults shelf.old ≤ H.faults shelf.new }
+    ensures reply { MayReply true (course_of (Changes old.now new.now))
+        (shelf_change H.Shelf shelf.old shelf.new) (reply_in result) }
+{
+    let description = read_description(alloc, old, shelf)?;
+    reply_from(alloc, &description, new, shelf)
+}
+
+// Returns the answer for the old network, and the one that the file describes.
+fn reply_from<'a, H: Shelf>(
+    alloc: Global,
+    old: &Description,
+    new: &'a str,
+    shelf: &mut H,
+) -> Result<Answer<'a>, Answer<'a>>
+    ensures same_files { H.files shelf.new ≡ H.files shelf.old }
+    ensures faults_stay { H.faults shelf.old ≤ H.faults shelf.new }
+    ensures reply { MayReply true (reads kind.Description new.now (λ d. ends (changes_job old.now d)))
+        (shelf_change H.Shelf shelf.old shelf.new) (reply_in result) }
+{
+    let description = read_description(alloc, new, shelf)?;
+    Answer::of_job(answer(alloc, old, &description))
+}
+
+fn answer<'a>(alloc: Global, old: &Description, new: &Description) -> Result<Answer<'a>, AllocError>
+    ensures { IfOk result (λ answer. Answers true (changes_job old.now new.now) (reply_view answer)) }
+{
+    let before = policy_of(alloc, old)?;
+    let after = policy_of(alloc, new)?;
+    let weakening = weakening_of(alloc, old, &before, new, &after)?;
+    let text = changes_text(alloc, old, &before, new, &after, &weakening)?;
+    Ok(changes_answer(text, weakening.weaker.is_empty()))
+}
+
+// The answer is a report of a violation if the change weakens some flow.
+fn changes_answer<'a>(text: Vec<u8>, is_kept: bool) -> Answer<'a>
+    ensures { reply_view result ≡ reply_on (if is_kept then Done else Violated) Output text.items }
+{
+    if is_kept {
+        Answer::done(Text::Bytes(text))
+    } else {
+        Answer::reported(Text::Bytes(text))
+    }
+}
+
+fn changes_text(
+    alloc: Global,
+    old: &Description,
+    before: &Policy,
+    new: &Description,
+    after: &Policy,
+    weakening: &Weakening,
+) -> Result<Vec<u8>, AllocError>
+    requires before { IsPolicyOf old.now before.now }
+    requires after { IsPolicyOf new.now after.now }
+    requires sizes_before { (before.now.permitted.size ≡ length old.now.hosts) × (before.now.stateful.size ≡ length old.now.hosts) }
+    requires sizes_after { (after.now.permitted.size ≡ length new.now.hosts) × (after.now.stateful.size ≡ length new.now.hosts) }
+    requires weakening { IsWeakening old.now before.now new.now after.now weakening.now }
+    ensures { IfOk result (λ text. (is_weaker : Bool) → is_nothing weakening.now.weaker.items ≡ not is_weaker
+        → IsChangesAnswer old.now new.now is_weaker text.items) }
+{
+    let changes = changes_between(
+        alloc,
+        &policy_between(old, before),
+        &policy_between(new, after),
+    )?;
+    changes_json(alloc, new.hosts(), old.hosts(), &changes, weakening)
+}

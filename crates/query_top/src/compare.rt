@@ -1,0 +1,103 @@
+//! `compare iptables|openflow FILE RULES`: whether rules do what the policy of a network says, for each pair of owners.
+
+ghost use Rattle.std.specs.Prelude.{◌≡◌, ◌≤◌, All, IfOk, true};
+ghost use Rattle.audit_core.specs.Rules.{filter_of};
+ghost use Rattle.audit_core.specs.RulesView.{rules_of};
+ghost use Rattle.audit_core.specs.Verdicts.{GivesOne};
+ghost use Rattle.query_core.specs.inner.Fitting.{FitsDifference};
+ghost use Rattle.topos_top.specs.Audit.{rules_in};
+ghost use Rattle.topos_top.specs.Course.{reads, ends};
+ghost use Rattle.topos_top.specs.Job.{Answers};
+ghost use Rattle.topos_top.specs.Replies.{MayReply};
+ghost use Rattle.topos_top.specs.Shelf.{shelf_change};
+ghost use Rattle.topos_top.specs.inner.Views.{reply_in, reply_view, rules_view};
+ghost use Rattle.topos_top.specs.declared.kind.Kind.TheVariants as kind;
+ghost use Rattle.query_top.specs.Ask.{Compare};
+ghost use Rattle.query_top.specs.Commands.{course_of};
+ghost use Rattle.query_top.specs.Compare.{compare_job};
+ghost use Rattle.query_top.specs.inner.Replies.{differences_reply};
+
+use crate::rules::text_of;
+use audit_core::{Difference, compare_pairs};
+use desc_core::Description;
+use edge_io::Shelf;
+use host_net::Hosts;
+use net_core::policy_of;
+use query_core::compare_json;
+use std::alloc::{AllocError, Global};
+use topos_top::{Answer, Dialect, Rules, Text, policy_between, read_description, read_rules};
+
+/// Returns the answer for the network that the file describes and the rules of the other file.
+pub fn reply<'a, H: Shelf>(
+    alloc: Global,
+    dialect: Dialect,
+    file: &'a str,
+    rules: &'a str,
+    shelf: &mut H,
+) -> Result<Answer<'a>, Answer<'a>>
+    ensures same_files { H.files shelf.new ≡ H.files shelf.old }
+    ensures faults_stay { H.faults shelf.old ≤ H.faults shelf.new }
+    ensures reply { MayReply true (course_of (Compare dialect file.now rules.now))
+        (shelf_change H.Shelf shelf.old shelf.new) (reply_in result) }
+{
+    let description = read_description(alloc, file, shelf)?;
+    reply_for(alloc, dialect, &description, rules, shelf)
+}
+
+// Returns the answer for the network of the description.
+fn reply_for<'a, H: Shelf>(
+    alloc: Global,
+    dialect: Dialect,
+    description: &Description,
+    rules: &'a str,
+    shelf: &mut H,
+) -> Result<Answer<'a>, Answer<'a>>
+    ensures same_files { H.files shelf.new ≡ H.files shelf.old }
+    ensures faults_stay { H.faults shelf.old ≤ H.faults shelf.new }
+    ensures reply { MayReply true (reads (kind.Rules dialect) rules.now (λ said. ends (compare_job description.now (rules_in dialect said))))
+        (shelf_change H.Shelf shelf.old shelf.new) (reply_in result) }
+{
+    let rules = read_rules(alloc, dialect, rules, shelf)?;
+    Answer::of_job(answer(alloc, description, &rules))
+}
+
+// Returns the answer for the rules. They have one verdict for every packet in each state.
+fn answer<'a>(
+    alloc: Global,
+    description: &Description,
+    rules: &Rules,
+) -> Result<Answer<'a>, AllocError>
+    requires { GivesOne (filter_of (rules_view rules.now)) }
+    ensures { IfOk result (λ answer. Answers true (compare_job description.now (rules_view rules.now)) (reply_view answer)) }
+{
+    comparison(alloc, description, text_of(rules))
+}
+
+fn comparison<'a>(
+    alloc: Global,
+    description: &Description,
+    rules: audit_core::Text<'_>,
+) -> Result<Answer<'a>, AllocError>
+    requires { GivesOne (filter_of (rules_of rules)) }
+    ensures { IfOk result (λ answer. Answers true (compare_job description.now (rules_of rules.entry)) (reply_view answer)) }
+{
+    let policy = policy_of(alloc, description)?;
+    let differences = compare_pairs(alloc, &policy_between(description, &policy), &rules)?;
+    differences_answer(alloc, description.hosts(), &differences)
+}
+
+// Returns the JSON of the differences, as a report if there is one.
+fn differences_answer<'a>(
+    alloc: Global,
+    hosts: &Hosts,
+    differences: &[Difference],
+) -> Result<Answer<'a>, AllocError>
+    requires { All (FitsDifference hosts.now) differences.now }
+    ensures { IfOk result (λ answer. reply_view answer ≡ differences_reply hosts.now differences.now) }
+{
+    let text = Text::Bytes(compare_json(alloc, hosts, differences)?);
+    match differences {
+        [] => Ok(Answer::done(text)),
+        [_, ..] => Ok(Answer::reported(text)),
+    }
+}

@@ -1,0 +1,75 @@
+//! `flows iptables|openflow FILE RULES`: what rules let pass between the hosts of a network.
+
+ghost use Rattle.std.specs.Prelude.{◌≡◌, ◌≤◌, IfOk, true};
+ghost use Rattle.audit_core.specs.RulesView.{rules_of};
+ghost use Rattle.topos_top.specs.Audit.{rules_in};
+ghost use Rattle.topos_top.specs.Course.{reads, ends};
+ghost use Rattle.topos_top.specs.Job.{Answers};
+ghost use Rattle.topos_top.specs.Replies.{MayReply};
+ghost use Rattle.topos_top.specs.Shelf.{shelf_change};
+ghost use Rattle.topos_top.specs.inner.Views.{reply_in, reply_view, rules_view};
+ghost use Rattle.topos_top.specs.declared.kind.Kind.TheVariants as kind;
+ghost use Rattle.query_top.specs.Ask.{Flows};
+ghost use Rattle.query_top.specs.Commands.{course_of};
+ghost use Rattle.query_top.specs.Flows.{IsFlowsAnswer, flows_job};
+
+use crate::rules::text_of;
+use decide_core::{dead_places, flows_by_pairs};
+use edge_io::Shelf;
+use host_net::Hosts;
+use query_core::flows_json;
+use std::alloc::{AllocError, Global};
+use topos_top::{Answer, Dialect, Rules, Text, read_description, read_rules};
+
+/// Returns the answer for the hosts that the file describes and the rules of the other file.
+pub fn reply<'a, H: Shelf>(
+    alloc: Global,
+    dialect: Dialect,
+    file: &'a str,
+    rules: &'a str,
+    shelf: &mut H,
+) -> Result<Answer<'a>, Answer<'a>>
+    ensures same_files { H.files shelf.new ≡ H.files shelf.old }
+    ensures faults_stay { H.faults shelf.old ≤ H.faults shelf.new }
+    ensures reply { MayReply true (course_of (Flows dialect file.now rules.now))
+        (shelf_change H.Shelf shelf.old shelf.new) (reply_in result) }
+{
+    let description = read_description(alloc, file, shelf)?;
+    reply_for(alloc, dialect, description.hosts(), rules, shelf)
+}
+
+// Returns the answer for the hosts.
+fn reply_for<'a, H: Shelf>(
+    alloc: Global,
+    dialect: Dialect,
+    hosts: &Hosts,
+    rules: &'a str,
+    shelf: &mut H,
+) -> Result<Answer<'a>, Answer<'a>>
+    ensures same_files { H.files shelf.new ≡ H.files shelf.old }
+    ensures faults_stay { H.faults shelf.old ≤ H.faults shelf.new }
+    ensures reply { MayReply true (reads (kind.Rules dialect) rules.now (λ said. ends (flows_job hosts.now (rules_in dialect said))))
+        (shelf_change H.Shelf shelf.old shelf.new) (reply_in result) }
+{
+    let rules = read_rules(alloc, dialect, rules, shelf)?;
+    Answer::of_job(answer(alloc, hosts, &rules))
+}
+
+fn answer<'a>(alloc: Global, hosts: &Hosts, rules: &Rules) -> Result<Answer<'a>, AllocError>
+    ensures { IfOk result (λ answer. Answers true (flows_job hosts.now (rules_view rules.now)) (reply_view answer)) }
+{
+    let text = flows_text(alloc, hosts, text_of(rules))?;
+    Ok(Answer::done(Text::Bytes(text)))
+}
+
+fn flows_text(
+    alloc: Global,
+    hosts: &Hosts,
+    rules: audit_core::Text<'_>,
+) -> Result<Vec<u8>, AllocError>
+    ensures { IfOk result (λ text. IsFlowsAnswer hosts.now (rules_of rules.entry) text.items) }
+{
+    let flows = flows_by_pairs(alloc, &rules, hosts)?;
+    let dead = dead_places(alloc, &rules)?;
+    flows_json(alloc, &rules, hosts, &flows, &dead)
+}
