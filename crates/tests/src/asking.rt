@@ -1,4 +1,4 @@
-//! What rules and invariants answer, asked through their bounds.
+//! The results of rules and invariants, called through their traits.
 
 ghost use Rattle.std.specs.Prelude.{◌≡◌, ◌<◌};
 ghost use Rattle.flow_set.specs.Flow.{IsFlow};
@@ -7,7 +7,7 @@ use flow_set::Flow;
 use inv_law::{EdgeRule, Invariant};
 use std::alloc::{AllocError, Global};
 
-/// For each host as the sender, whether its flows to each other host pass.
+/// Returns, for each host as the sender, whether its flows to each other host pass.
 pub(crate) fn answers_of<R: EdgeRule>(alloc: Global, rule: &R) -> Result<Vec<bool>, AllocError> {
     let mut all = Vec::new(alloc);
     for sender in 0..rule.hosts() {
@@ -16,7 +16,7 @@ pub(crate) fn answers_of<R: EdgeRule>(alloc: Global, rule: &R) -> Result<Vec<boo
     Ok(all)
 }
 
-/// Puts for each other host whether the flow of the sender to it passes.
+/// Appends, for each other host, whether the flow of the sender to it passes.
 fn push_answers<R: EdgeRule>(all: &mut Vec<bool>, rule: &R, sender: u16) -> Result<(), AllocError>
     requires { sender < R.size_of rule.now }
 {
@@ -28,7 +28,7 @@ fn push_answers<R: EdgeRule>(all: &mut Vec<bool>, rule: &R, sender: u16) -> Resu
     Ok(())
 }
 
-/// Whether the flow is admitted, and whether it is after the reset of the host.
+/// Returns whether the flow is admitted, and whether it is after the reset of the host.
 pub(crate) fn before_and_after<I: Invariant + Drop>(
     alloc: Global,
     inv: &I,

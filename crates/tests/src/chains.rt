@@ -1,4 +1,4 @@
-//! Rule sets that are built of chains: the end of a user chain, and a jump that is refused.
+//! Rule sets that are built from chains: the end of a user chain, and a jump that is refused.
 
 ghost use Rattle.std.specs.Prelude.{◌≡◌, ◌+◌, ◌<◌, None, length, IsTrue};
 ghost use Rattle.ipt_rules.specs.ChainTable.{rule_count};
@@ -9,7 +9,7 @@ use ipt_rules::{BuildRefusal, ChainName, Chains, Filter, Policy, Rule, Ruleset, 
 use std::alloc::Global;
 use std::process::Abort;
 
-/// The three built-in chains, of which FORWARD drops.
+/// Returns the three built-in chains, with policy DROP of FORWARD.
 #[tactic(auto, using(ipt_rules::proofs::ChainLaws::length_with_policy, ipt_rules::proofs::ChainLaws::rule_count_with_policy))]
 fn dropping(alloc: Global, rt: &impl Abort) -> Chains
     ensures length { length result ≡ 3 }
@@ -43,7 +43,7 @@ fn push(rt: &impl Abort, chains: &mut Chains, chain: u16, rule: Rule)
     chains.rule(chain, rule).expect(rt, "memory");
 }
 
-/// A rule for all packets.
+/// Returns a rule for all packets.
 fn rule(target: Target) -> Rule
     ensures { IsTrue (is_rule result) }
 {
@@ -66,8 +66,8 @@ const PACKET: Packet = Packet {
     dport: 443,
 };
 
-/// The end of a user chain goes back after the jump, to the policy; and a jump to a built-in
-/// chain is refused.
+/// The end of a user chain returns to the rule after the jump, and finally to the policy; a jump to
+/// a built-in chain is refused.
 #[test]
 fn returns_and_refuses(rt: HostRuntime) {
     let mut chains = dropping(rt.alloc(), &rt);

@@ -1,5 +1,5 @@
-//! That memory suffices for a set of all flows, a copy and a set with reversed flows, at three hosts and
-//! two.
+//! Allocation succeeds for a set of all flows, a copy and a set with reversed flows, with three
+//! hosts and two.
 
 use crate::flows::{A_TO_B, B_TO_A};
 use flow_set::{Flow, FlowSet};

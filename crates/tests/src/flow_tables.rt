@@ -1,4 +1,4 @@
-//! A table of three entries, with frames that no trace has.
+//! A table of three entries, with frames that occur in no trace.
 
 ghost use Rattle.std.specs.Prelude.{IsTrue};
 ghost use Rattle.ofp_rules.specs.Matching.{asks_of_ip};
@@ -38,7 +38,7 @@ fn of(priority: u16, kind: FrameKind, action: Action) -> Entry
     }
 }
 
-// A table of three entries, in this order.
+// Returns a table of three entries, in this order.
 #[tactic(auto, using(std::proofs::lemmas::Bool::and_from))]
 fn three(
     rt: &impl Abort,

@@ -1,5 +1,5 @@
-//! Hosts that are added one by one, which the program does only where nothing speaks against them; and a
-//! prefix that is read.
+//! Hosts that are added one by one, which the program does only if they have no cause to be
+//! refused; and a prefix that is parsed.
 
 ghost use Rattle.std.specs.Prelude.{IsTrue};
 ghost use Rattle.host_net.specs.inner.Hosts.{is_network};

@@ -1,5 +1,5 @@
-//! What another default of a table would let pass, which no command of the program asks, and a table with the
-//! default at a host.
+//! The pairs that another default of a table would let pass, which no command of the program
+//! computes, and a table with the default at a host.
 
 ghost use Rattle.std.specs.Prelude.{◌≡◌, ◌<◌, All, length};
 
@@ -19,7 +19,8 @@ const INSIDE: u8 = 0;
 /// The second kind, which is the default.
 const OUTSIDE: u8 = 1;
 
-// The rule of two hosts and two kinds that denies these pairs to their senders.
+// Returns the rule of two hosts and two kinds that denies these pairs, with the sender as the
+// offending host.
 fn denying(rt: &impl Abort, alloc: Global, denied: &[(u8, u8)]) -> TableRule
     requires { All (λ pair. (pair.0 < 2) × (pair.1 < 2)) denied.now }
     ensures hosts { length result.hosts ≡ 2 }

@@ -1,5 +1,5 @@
-//! Templates that rank hosts: levels and labels on a worked network of three hosts, places of two hosts,
-//! and each template through its bounds.
+//! Templates that rank hosts: levels and labels on an example network of three hosts, positions of
+//! two hosts, and each template through its traits.
 
 ghost use Rattle.std.specs.Prelude.{◌≤◌, IsTrue};
 ghost use Rattle.tmpl_domains.specs.Path.{is_path};
@@ -12,7 +12,7 @@ use std::test::Fail;
 use tmpl_domains::Domains;
 use tmpl_levels::{Blp, Tainting};
 
-// That memory suffices, the answers of a worked network, and the template through its bounds.
+// Allocation succeeds, the results of an example network, and the template through its traits.
 #[test]
 fn levels(rt: HostRuntime) -> Result<(), Fail> {
     let mut rule = Blp::new(rt.alloc(), 3)?;
@@ -30,7 +30,7 @@ fn levels(rt: HostRuntime) -> Result<(), Fail> {
     Ok(())
 }
 
-// That memory suffices, worked answers, and the template through its bounds.
+// Allocation succeeds, example results, and the template through its traits.
 #[test]
 #[tactic(auto, using(tmpl_levels::specs::laws::TaintingLaws::own_by_mask))]
 fn labels(rt: HostRuntime) -> Result<(), Fail> {
@@ -49,14 +49,14 @@ fn labels(rt: HostRuntime) -> Result<(), Fail> {
     Ok(())
 }
 
-// Whether flows between two hosts pass, there and back.
+// Returns whether flows between two hosts pass, in both directions.
 fn both<R: EdgeRule>(rule: &R) -> (bool, bool)
     requires { 2 ≤ R.size_of rule.now }
 {
     (rule.passes(0, 1), rule.passes(1, 0))
 }
 
-// The same for a sender of this path and trust, and a receiver of that path and no trust.
+// The same for a sender with this path and trust, and a receiver with that path and no trust.
 fn between(
     alloc: Global,
     sender: &[u8],
@@ -73,7 +73,7 @@ fn between(
     Ok(both(&rule))
 }
 
-// That memory suffices, and worked answers of two paths.
+// Allocation succeeds, and example results of two paths.
 #[test]
 fn places_of_two_hosts(rt: HostRuntime) -> Result<(), Fail> {
     let alloc = rt.alloc();
@@ -90,7 +90,7 @@ fn places_of_two_hosts(rt: HostRuntime) -> Result<(), Fail> {
     Ok(())
 }
 
-// That a reset finds memory, and the template through its bounds.
+// Allocation succeeds for a reset, and the template through its traits.
 #[test]
 fn hosts_without_a_place(rt: HostRuntime) -> Result<(), Fail> {
     let mut rule = Domains::new(rt.alloc(), 2)?;

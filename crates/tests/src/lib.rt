@@ -1,7 +1,7 @@
-//! The tests of the crates below. The crate has tests alone, a module for each subject: calls by
-//! themselves, most of which the program does not make or makes in another way. They show that memory
-//! suffices, and are compared with answers that were worked out by hand. The cases of the program show all
-//! else.
+//! The tests of the crates below. The crate consists only of tests, with a module for each subject:
+//! single calls, most of which the program does not make or makes in another way. They show that
+//! allocation succeeds, and compare results with values computed by hand. The cases of the program
+//! cover everything else.
 #![tactic(auto)]
 
 #[cfg(test)]

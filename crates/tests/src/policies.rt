@@ -1,4 +1,4 @@
-//! The permitted policy of worked networks, by whole sets and by steps.
+//! The permitted policy of example networks, by whole sets and by steps.
 
 ghost use Rattle.std.specs.Prelude.{◌≡◌, All, IfOk, length};
 
@@ -13,7 +13,7 @@ use tmpl_levels::Blp;
 use tmpl_reach::{Dependability, NoReach, NonInterference};
 use tmpl_zones::{SinkKind, SinkRule};
 
-// The permitted flows, in order, by whole sets and by steps.
+// Returns the permitted flows, in order, by whole sets and by steps.
 fn permitted<I: Stepwise>(
     alloc: Global,
     invs: &[I],
@@ -56,7 +56,7 @@ fn a_limit_denies_a_flow(rt: HostRuntime) -> Result<(), Fail> {
     Ok(())
 }
 
-// Each of the two asked flows breaks one of the invariants beside the other flow.
+// Each of the two asked flows violates one of the invariants together with the other flow.
 #[test]
 fn two_invariants_deny_one_flow(rt: HostRuntime) -> Result<(), Fail> {
     let mut denials = NoReach::new(rt.alloc(), 3)?;

@@ -1,4 +1,4 @@
-//! What passes to and from the system.
+//! Input from and output to the operating system.
 
 use edge_io::{DirShelf, StreamSink, TakeFault, WriteFault, put_all, take_all};
 use std::io::{ErrorKind, Write};
@@ -7,7 +7,7 @@ use std::{fs, io, process};
 
 const TEXT: &[u8] = b"one line of text, and some";
 
-/// A stream that takes one byte at once, six in all, and is broken after them.
+/// A stream that accepts one byte per write, six in total, and fails afterwards.
 #[derive(Drop)]
 struct Narrow {
     taken: Vec<u8>,

@@ -1,5 +1,5 @@
-//! Walks along a round trip, one step that is taken back, and each template on walks: asked of sets, also
-//! with the default at a host, and asked by steps.
+//! Walks along a cycle, one step that is undone, and each template on paths: evaluated on sets,
+//! also with the default at a host, and by steps.
 
 ghost use Rattle.std.specs.Prelude.{◌≡◌, ◌<◌};
 ghost use Rattle.flow_set.specs.Flow.{IsFlow};
@@ -37,7 +37,8 @@ fn one_step_and_back(rt: HostRuntime) -> Result<(), Fail> {
     Ok(())
 }
 
-// What an invariant answers of a set, of it with the default at a host, and of a flow alone.
+// Returns the results of an invariant for a set, for the set with the default at a host, and for a
+// single flow.
 fn answers<I: Invariant + Drop>(
     alloc: Global,
     inv: &I,
@@ -122,7 +123,8 @@ fn a_step_of_a_trial_is_taken_back(rt: HostRuntime) -> Result<(), Fail> {
     assert!(rt; inv.step(&mut tried, A_TO_B));
     assert!(rt; !inv.step(&mut tried, B_TO_C));
     inv.back(&mut tried);
-    // Without the second flow host 1 may reach host 0, and with the first host 0 may not reach host 2.
+    // Without the second flow host 1 reaches host 0; with the first flow host 0 does not reach host
+    // 2.
     assert!(rt; inv.step(&mut tried, B_TO_A));
     inv.back(&mut tried);
     assert!(rt; !inv.step(&mut tried, A_TO_C));

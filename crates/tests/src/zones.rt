@@ -1,5 +1,5 @@
-//! Templates that sort hosts into zones: the tables of all kinds, worked answers, and rules through
-//! their bounds.
+//! Templates that divide hosts into zones: the tables of all kinds, example results, and rules
+//! through their traits.
 
 use crate::asking::{answers_of, before_and_after};
 use crate::flows::A_TO_B;
@@ -41,7 +41,7 @@ impl Kind for NetKind {
     }
 }
 
-// For each kind as the sender, whether its flows to each kind pass.
+// Returns, for each kind as the sender, whether its flows to each kind pass.
 fn table_of<K: Kind>(alloc: Global, kinds: &[K]) -> Result<Vec<bool>, AllocError> {
     let mut all = Vec::new(alloc);
     for sender in kinds {
@@ -50,7 +50,7 @@ fn table_of<K: Kind>(alloc: Global, kinds: &[K]) -> Result<Vec<bool>, AllocError
     Ok(all)
 }
 
-// Puts for each kind whether a flow of the sender to it passes.
+// Appends, for each kind, whether a flow of the sender to it passes.
 fn push_row<K: Kind>(
     alloc: Global,
     all: &mut Vec<bool>,
@@ -118,7 +118,7 @@ fn subnets(rt: HostRuntime) -> Result<(), Fail> {
     Ok(())
 }
 
-// A rule of kinds through its bounds.
+// A rule of kinds through its traits.
 #[test]
 fn a_pool_is_reset(rt: HostRuntime) -> Result<(), Fail> {
     let mut rule = SinkRule::new(rt.alloc(), 2)?;
@@ -129,7 +129,7 @@ fn a_pool_is_reset(rt: HostRuntime) -> Result<(), Fail> {
     Ok(())
 }
 
-// Worked answers of hosts that do not care, that care, and that are masters.
+// Example results of hosts with `DontCare`, with `Care`, and of masters.
 #[test]
 fn partners(rt: HostRuntime) -> Result<(), Fail> {
     let mut rule = Partners::new(rt.alloc(), 3)?;
@@ -145,7 +145,7 @@ fn partners(rt: HostRuntime) -> Result<(), Fail> {
     Ok(())
 }
 
-// The partners through their bounds.
+// The partners through their traits.
 #[test]
 fn a_master_is_reset(rt: HostRuntime) -> Result<(), Fail> {
     let mut rule = Partners::new(rt.alloc(), 2)?;
