@@ -110,7 +110,7 @@ pub fn stream_sink_new<W: Write + Drop>(inner: W) -> StreamSink<W> {
     StreamSink::new(inner)
 }
 
-/// Pins which types are shelves, and which are sinks.
+/// Pins the types that are shelves, and those that are sinks.
 pub fn shelves_and_sinks<'a, R: Files + 'a, W: Write + Drop>() {
     is_shelf::<MemShelf>();
     is_shelf::<DirShelf<'a, R>>();

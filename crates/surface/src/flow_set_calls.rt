@@ -7,17 +7,17 @@ use crate::bounds::is_copy;
 use flow_set::{Flow, FlowSet};
 use std::alloc::{AllocError, Global};
 
-/// Pins which types are `Copy`.
+/// Pins the types that are `Copy`.
 pub fn copies() {
     is_copy::<Flow>();
 }
 
-/// Pins the fields of `Flow`: a flow is made of them.
+/// Pins the fields of `Flow` by construction.
 pub fn flow(from: u16, to: u16) -> Flow {
     Flow { from, to }
 }
 
-/// Pins the fields of `Flow`: a flow has no others.
+/// Pins the fields of `Flow` by destructuring.
 pub fn flow_fields(flow: Flow) -> (u16, u16) {
     let Flow { from, to } = flow;
     (from, to)

@@ -13,7 +13,7 @@ use host_net::{
 };
 use std::alloc::{AllocError, Global};
 
-/// Pins which types are `Copy`.
+/// Pins the types that are `Copy`.
 pub fn copies() {
     is_copy::<Prefix>();
     is_copy::<Packet>();
@@ -56,7 +56,7 @@ pub fn read_prefix_of(text: &[u8]) -> Option<Prefix> {
     read_prefix(text)
 }
 
-/// Pins the fields of `Packet`: a packet is made of them.
+/// Pins the fields of `Packet` by construction.
 pub fn packet(src: u32, dst: u32, proto: u8, sport: u16, dport: u16) -> Packet {
     Packet {
         src,
@@ -67,7 +67,7 @@ pub fn packet(src: u32, dst: u32, proto: u8, sport: u16, dport: u16) -> Packet {
     }
 }
 
-/// Pins the fields of `Packet`: a packet has no others.
+/// Pins the fields of `Packet` by destructuring.
 pub fn packet_fields(packet: Packet) -> (u32, u32, u8, u16, u16) {
     let Packet {
         src,
@@ -112,14 +112,14 @@ pub fn hosts_new(alloc: Global) -> Hosts {
     Hosts::new(alloc)
 }
 
-/// Pins the condition of `Hosts::add` on a prefix: it is exact and of length 1 at least.
+/// Pins the condition of `Hosts::add` on a prefix: it is exact and has a length of at least 1.
 pub fn is_host_prefix(prefix: Prefix)
     requires exact { IsTrue (is_exact prefix) }
     requires length { 1 ≤ prefix.len }
     ensures { IsTrue (is_network prefix) }
 {}
 
-/// Pins `Hosts::add`. The condition is the one on each prefix.
+/// Pins `Hosts::add`. The condition is that of each prefix.
 pub fn hosts_add(
     hosts: &mut Hosts,
     name: &[u8],
@@ -178,12 +178,12 @@ pub fn hosts_owner(hosts: &Hosts, addr: u32) -> Option<u16> {
     hosts.owner(addr)
 }
 
-/// Pins the fields of `Service`: a service is made of them.
+/// Pins the fields of `Service` by construction.
 pub fn service(proto: u8, low: u16, high: u16) -> Service {
     Service { proto, low, high }
 }
 
-/// Pins the fields of `Service`: a service has no others.
+/// Pins the fields of `Service` by destructuring.
 pub fn service_fields(service: Service) -> (u8, u16, u16) {
     let Service { proto, low, high } = service;
     (proto, low, high)
@@ -204,8 +204,8 @@ pub fn services_new(alloc: Global) -> Services {
     Services::new(alloc)
 }
 
-/// Pins the condition of `Services::add` on a service: the ports are in order and the protocol is 1, 6 or 17, and
-/// for protocol 1 the ports are 0 to 65535.
+/// Pins the condition of `Services::add` on a service: the ports are in order, the protocol is 1, 6
+/// or 17, and for protocol 1 the ports are 0 to 65535.
 pub fn is_added(service: Service)
     requires order { service.low ≤ service.high }
     requires protocol { (service.proto ≡ 6) ⊎ (service.proto ≡ 17) ⊎
@@ -213,7 +213,8 @@ pub fn is_added(service: Service)
     ensures { IsTrue (is_service service) }
 {}
 
-/// Pins `Services::add`. Besides the one on the service, the condition is that the flow has fewer than 16 services.
+/// Pins `Services::add`. In addition to the condition on the service, the flow has fewer than 16
+/// services.
 pub fn services_add(
     services: &mut Services,
     from: u16,

@@ -26,7 +26,7 @@ pub fn any_inv(any: &AnyInv) {
     }
 }
 
-/// Pins that an invariant of any template is an invariant, which is tried in steps.
+/// Pins that an invariant of any template implements `Invariant` and `Stepwise`.
 pub fn any_inv_traits() {
     is_invariant::<AnyInv>();
     is_stepwise::<AnyInv, AnyTrial>();

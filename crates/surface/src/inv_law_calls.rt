@@ -98,7 +98,7 @@ pub fn edge_wise_rule<R: EdgeRule>(inv: &EdgeWise<R>) -> &R {
     inv.rule()
 }
 
-/// Pins that each rule is an invariant, which is tried in steps.
+/// Pins that the invariant of a rule implements `Invariant` and `Stepwise`.
 pub fn edge_wise_traits<R: EdgeRule>() {
     is_invariant::<EdgeWise<R>>();
     is_stepwise::<EdgeWise<R>, EdgeTrial>();
@@ -112,7 +112,7 @@ pub fn trial_size<T: Trial>(trial: &T) -> u16 {
 /// Pins that a trial can be dropped.
 pub fn trial_drops<T: Trial>(_trial: T) {}
 
-/// Pins that what is tried in steps is an invariant.
+/// Pins that `Stepwise` implies `Invariant`.
 pub fn stepwise_is_invariant<I: Stepwise>() {
     is_invariant::<I>();
 }
@@ -128,8 +128,8 @@ pub fn stepwise_trial<I: Stepwise<Tried = T>, T: Trial>(
     inv.trial(alloc, e)
 }
 
-/// Pins `Stepwise::step`. The conditions are that the trial fits, that `f` is a flow, and that the invariant holds
-/// on the flows of the trial.
+/// Pins `Stepwise::step`. The conditions are that the trial belongs to the invariant, that `f` is a
+/// flow, and that the invariant holds on the flows of the trial.
 pub fn stepwise_step<I: Stepwise>(inv: &I, tried: &mut I::Tried, f: Flow) -> bool
     requires fits { I.fits inv.now tried.old }
     requires flow { IsFlow (I.size_of inv.now) f }
@@ -138,7 +138,8 @@ pub fn stepwise_step<I: Stepwise>(inv: &I, tried: &mut I::Tried, f: Flow) -> boo
     inv.step(tried, f)
 }
 
-/// Pins `Stepwise::back`. The conditions are that the trial fits, and has a step that was not taken back.
+/// Pins `Stepwise::back`. The conditions are that the trial belongs to the invariant, and has a
+/// step that was not undone.
 pub fn stepwise_back<I: Stepwise>(inv: &I, tried: &mut I::Tried)
     requires fits { I.fits inv.now tried.old }
     requires step { IsSome (I.Tried.tried tried.old).before_step }
@@ -146,8 +147,8 @@ pub fn stepwise_back<I: Stepwise>(inv: &I, tried: &mut I::Tried)
     inv.back(tried);
 }
 
-/// Pins the conditions of `Stepwise::step` and `Stepwise::back`: they hold of each new trial of flows on which the
-/// invariant holds, and after each step.
+/// Pins the conditions of `Stepwise::step` and `Stepwise::back`: they hold for each new trial of
+/// flows on which the invariant holds, and after each step.
 pub fn stepwise_trial_step_and_back<I: Stepwise>(
     inv: &I,
     alloc: Global,

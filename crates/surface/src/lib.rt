@@ -1,6 +1,7 @@
-//! The public types and calls of the crates below, each in the form that was asked for. The crate fails to compile or
-//! to prove if one of these signatures changes or a call asks for more than its condition; nothing calls it. A
-//! difference that is wanted is changed here and recorded in docs/DECISIONS.md.
+//! The public types and calls of the crates below, each with its required signature. The crate
+//! fails to compile or to prove if one of these signatures changes or a call has a stronger
+//! condition; no code calls it. An intended change is made here too, and recorded in
+//! docs/DECISIONS.md.
 #![tactic(auto)]
 
 mod bounds;

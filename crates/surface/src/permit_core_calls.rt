@@ -52,8 +52,8 @@ pub fn offending_by_steps_of<I: Stepwise>(
     offending_by_steps(alloc, inv, e)
 }
 
-/// Pins `blame`. Beside the sizes, the conditions are that `f` is a flow, and that there are at most 65,536
-/// invariants.
+/// Pins `blame`. In addition to the sizes, the conditions are that `f` is a flow, and that there
+/// are at most 65,536 invariants.
 pub fn blame_of<I: Invariant>(
     alloc: Global,
     invs: &[I],

@@ -1,11 +1,11 @@
-//! Pins the crate `pkt_core`: events, and the tracking of connections.
+//! Pins the crate `pkt_core`: events, and connection tracking.
 
 use crate::bounds::{is_copy, is_error};
 use host_net::{CtState, Packet};
 use pkt_core::{Event, EventFault, EventWhy, Track, read_events};
 use std::alloc::{AllocError, Global};
 
-/// Pins which types are `Copy`.
+/// Pins the types that are `Copy`.
 pub fn copies() {
     is_copy::<Event>();
 }

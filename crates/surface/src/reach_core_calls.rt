@@ -42,7 +42,7 @@ pub fn closure_try_add(closure: &mut Closure, f: Flow)
     closure.try_add(f);
 }
 
-/// Pins `Closure::undo`. The condition is that a flow was added by `try_add` and not taken back.
+/// Pins `Closure::undo`. The condition is that a flow was added by `try_add` and not undone.
 pub fn closure_undo(closure: &mut Closure)
     requires { IsSome closure.old.before_step }
 {

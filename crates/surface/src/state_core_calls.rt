@@ -8,7 +8,7 @@ use permit_core::permit;
 use state_core::{refine, refine_by_steps, with_answers};
 use std::alloc::{AllocError, Global};
 
-/// Pins `refine`. The conditions are that all sizes agree, and that every invariant holds of `p`.
+/// Pins `refine`. The conditions are that all sizes agree, and that every invariant holds for `p`.
 pub fn refine_of<I: Invariant>(
     alloc: Global,
     invs: &[I],
@@ -32,7 +32,7 @@ pub fn refine_by_steps_of<I: Stepwise>(
     refine_by_steps(alloc, invs, p)
 }
 
-/// Pins the condition of `refine` on `p`: it holds of what `permit` returns.
+/// Pins the condition of `refine` on `p`: it holds for the result of `permit`.
 pub fn permit_and_refine<I: Invariant>(
     alloc: Global,
     invs: &[I],

@@ -6,7 +6,7 @@ use crate::bounds::{is_invariant, is_stepwise};
 use std::alloc::{AllocError, Global};
 use tmpl_reach::{Dependability, NoReach, NonInterference, ReachTrial};
 
-/// Pins that the three templates are invariants, which are tried in steps.
+/// Pins that the three templates implement `Invariant` and `Stepwise`.
 pub fn invariants() {
     is_invariant::<Dependability>();
     is_invariant::<NonInterference>();

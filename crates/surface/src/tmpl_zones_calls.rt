@@ -60,7 +60,7 @@ pub fn gateway_set(gateway: &mut Gateway, host: u16, kind: GateKind)
     gateway.set(host, kind);
 }
 
-/// Pins the variants of `NetKind`, and the number of a subnet or a border.
+/// Pins the variants of `NetKind`, with the number of a subnet or a border.
 pub fn net_kind(kind: NetKind) -> (u8, u16) {
     match kind {
         NetKind::Subnet(number) => (0, number),
@@ -100,7 +100,7 @@ pub fn partners_set_master(partners: &mut Partners, host: u16)
     partners.set_master(host);
 }
 
-/// Pins `Partners::allow`. The conditions are that the hosts differ and the second is a master.
+/// Pins `Partners::allow`. The conditions are that the hosts differ and that `master` is a master.
 pub fn partners_allow(partners: &mut Partners, sender: u16, master: u16)
     requires hosts { (sender < length partners.old) × (master < length partners.old) }
     requires differ { sender ≢ master }
