@@ -1,4 +1,4 @@
-//! Pins `audit_core`: the comparison of rules with a policy, and what it finds.
+//! Pins `audit_core`: the comparison of rules with a policy, and its findings.
 
 ghost use Rattle.std.specs.Prelude.{◌≡◌, length};
 ghost use Rattle.flow_set.specs.FlowSet.{IsSubset};
@@ -26,12 +26,12 @@ pub fn audit(
     audit_core::audit(alloc, hosts, services, p, s, text)
 }
 
-/// Pins the case of chains of `Text`.
+/// Pins the variant of `Text` for chains.
 pub fn text_of_chains<'a>(rules: &'a Ruleset) -> Text<'a> {
     Text::Ipt(rules)
 }
 
-/// Pins the case of a flow table of `Text`.
+/// Pins the variant of `Text` for a flow table.
 pub fn text_of_table<'a>(table: &'a Table) -> Text<'a> {
     Text::Ofp(table)
 }
@@ -67,7 +67,7 @@ pub fn trace(
     }
 }
 
-/// Pins that `Trace` is taken apart into its fields.
+/// Pins the fields of `Trace` by destructuring.
 pub fn trace_fields(trace: Trace) -> (Packet, Option<Packet>, Option<Packet>, bool) {
     let Trace {
         first,

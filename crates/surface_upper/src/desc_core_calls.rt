@@ -1,4 +1,4 @@
-//! Pins `desc_core`: descriptions, the refusals of which `desc_form` has the types, and migration.
+//! Pins `desc_core`: descriptions, their refusals with the types of `desc_form`, and migration.
 
 use desc_core::{DescFault, Description, Place, Refusal, Why};
 use flow_set::FlowSet;
@@ -71,7 +71,7 @@ pub fn refusal(why: Why, place: Place, item: u64, other: u64, name: Name) -> Ref
     }
 }
 
-/// Pins that `Refusal` is taken apart into its fields.
+/// Pins the fields of `Refusal` by destructuring.
 pub fn refusal_fields(refusal: Refusal) -> (Why, Place, u64, u64, Name) {
     let Refusal {
         why,
@@ -83,7 +83,7 @@ pub fn refusal_fields(refusal: Refusal) -> (Why, Place, u64, u64, Name) {
     (why, place, item, other, name)
 }
 
-/// Pins the variants of `Place`, and the numbers that they have.
+/// Pins the variants of `Place`, and their numbers.
 pub fn place_variants(place: Place) -> (u8, u64, u64) {
     match place {
         Place::Document => (0, 0, 0),

@@ -1,4 +1,4 @@
-//! Pins `edit_core`: the reader of edits, and sessions that apply them.
+//! Pins `edit_core`: the parser of edits, and sessions that apply them.
 
 use desc_core::{DescFault, Description, Why};
 use edit_core::{Edit, EditFault, EditsFault, EditsWhy, Session, Summary};
@@ -43,7 +43,7 @@ pub fn session_apply(session: &mut Session, edit: &Edit) -> Result<Summary, Edit
     session.apply(edit)
 }
 
-/// Pins the variants of `EditFault`, and the cause for which the edited description is refused.
+/// Pins the variants of `EditFault`, and the cause of a refusal of the edited description.
 pub fn edit_fault_variants(fault: EditFault) -> (u8, Option<Why>) {
     match fault {
         EditFault::NoPolicy => (0, None),
@@ -63,7 +63,7 @@ pub fn summary(asked: u32, permitted: u32, stateful: u32, failing: u16) -> Summa
     }
 }
 
-/// Pins that `Summary` is taken apart into its fields.
+/// Pins the fields of `Summary` by destructuring.
 pub fn summary_fields(summary: Summary) -> (u32, u32, u32, u16) {
     let Summary {
         asked,

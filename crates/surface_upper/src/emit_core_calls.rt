@@ -1,4 +1,4 @@
-//! Pins `emit_core`: the layouts of a policy, and why one is refused.
+//! Pins `emit_core`: the layouts of a policy, and their refusals.
 
 ghost use Rattle.std.specs.Prelude.{◌≡◌, length};
 ghost use Rattle.flow_set.specs.FlowSet.{IsSubset};
@@ -37,7 +37,7 @@ pub fn emit_openflow(
     emit_core::emit_openflow(alloc, hosts, services, p)
 }
 
-/// Pins the variants of `EmitRefusal`, and the flow and the number that they have.
+/// Pins the variants of `EmitRefusal`, with the flow and the number.
 pub fn emit_refusal_variants(refusal: EmitRefusal) -> (Option<Flow>, Option<u32>) {
     match refusal {
         EmitRefusal::RangeOfPorts { flow } => (Some(flow), None),

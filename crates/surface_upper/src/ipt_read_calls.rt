@@ -1,4 +1,4 @@
-//! Pins `ipt_read`: the reader of rules texts, and why it refuses one.
+//! Pins `ipt_read`: the parser of rulesets, and its errors.
 
 use ipt_read::{IptFault, IptWhy};
 use ipt_rules::Ruleset;

@@ -1,4 +1,4 @@
-//! Pins `ipt_rules`: the parts of a rule, chains, and rule sets with their verdicts and texts.
+//! Pins `ipt_rules`: the matches of a rule, chains, and rule sets with their verdicts and texts.
 
 ghost use Rattle.std.specs.Prelude.{◌<◌, ◌≤◌, length, IsNone, IsTrue};
 ghost use Rattle.ipt_rules.specs.Chain.{number_of};
@@ -34,7 +34,7 @@ pub fn addr_match(prefix: Prefix, negated: bool) -> AddrMatch {
     AddrMatch { prefix, negated }
 }
 
-/// Pins that `AddrMatch` is taken apart into its fields.
+/// Pins the fields of `AddrMatch` by destructuring.
 pub fn addr_match_fields(part: AddrMatch) -> (Prefix, bool) {
     let AddrMatch { prefix, negated } = part;
     (prefix, negated)
@@ -45,7 +45,7 @@ pub fn proto_match(proto: u8, negated: bool) -> ProtoMatch {
     ProtoMatch { proto, negated }
 }
 
-/// Pins that `ProtoMatch` is taken apart into its fields.
+/// Pins the fields of `ProtoMatch` by destructuring.
 pub fn proto_match_fields(part: ProtoMatch) -> (u8, bool) {
     let ProtoMatch { proto, negated } = part;
     (proto, negated)
@@ -56,7 +56,7 @@ pub fn port_match(low: u16, high: u16, negated: bool) -> PortMatch {
     PortMatch { low, high, negated }
 }
 
-/// Pins that `PortMatch` is taken apart into its fields.
+/// Pins the fields of `PortMatch` by destructuring.
 pub fn port_match_fields(part: PortMatch) -> (u16, u16, bool) {
     let PortMatch { low, high, negated } = part;
     (low, high, negated)
@@ -71,7 +71,7 @@ pub fn state_match(new: bool, established: bool, negated: bool) -> StateMatch {
     }
 }
 
-/// Pins that `StateMatch` is taken apart into its fields.
+/// Pins the fields of `StateMatch` by destructuring.
 pub fn state_match_fields(part: StateMatch) -> (bool, bool, bool) {
     let StateMatch {
         new,
@@ -114,7 +114,8 @@ pub fn rule(
     }
 }
 
-/// Pins that `Rule` is taken apart into its fields: the addresses, the protocol, the ports, the state and the target.
+/// Pins the fields of `Rule` by destructuring: the addresses, the protocol, the ports, the state
+/// and the target.
 pub fn rule_fields(
     rule: Rule,
 ) -> (
@@ -191,7 +192,7 @@ pub fn chains_rule(chains: &mut Chains, chain: u16, rule: Rule) -> Result<(), Al
     chains.rule(chain, rule)
 }
 
-/// Pins that a rule may ask for addresses and a state alone.
+/// Pins that a rule may match only on addresses and a state.
 pub fn rule_of_addresses(
     src: Option<AddrMatch>,
     dst: Option<AddrMatch>,
@@ -211,7 +212,7 @@ pub fn rule_of_addresses(
     }
 }
 
-/// Pins that a rule may ask for each protocol but 0, or for any other protocol than it.
+/// Pins that a rule may match on each protocol except 0, or on the negation of each.
 pub fn rule_of_protocol(proto: u8, negated: bool, target: Target) -> Rule
     requires { 0 < proto }
     ensures { IsTrue (is_rule result) }
@@ -227,7 +228,7 @@ pub fn rule_of_protocol(proto: u8, negated: bool, target: Target) -> Rule
     }
 }
 
-/// Pins that a rule may ask for ports in order beside the protocol 6.
+/// Pins that a rule may match on ports in order together with protocol 6.
 pub fn rule_of_tcp(sport: PortMatch, dport: PortMatch, target: Target) -> Rule
     requires sport { sport.low ≤ sport.high }
     requires dport { dport.low ≤ dport.high }
@@ -247,7 +248,7 @@ pub fn rule_of_tcp(sport: PortMatch, dport: PortMatch, target: Target) -> Rule
     }
 }
 
-/// Pins that a rule may ask for ports in order beside the protocol 17.
+/// Pins that a rule may match on ports in order together with protocol 17.
 pub fn rule_of_udp(sport: PortMatch, dport: PortMatch, target: Target) -> Rule
     requires sport { sport.low ≤ sport.high }
     requires dport { dport.low ≤ dport.high }
@@ -272,7 +273,7 @@ pub fn ruleset_build(alloc: Global, chains: Chains) -> Result<Ruleset, BuildRefu
     Ruleset::build(alloc, chains)
 }
 
-/// Pins the variants of `BuildRefusal`, and the number, the chain and the rule that they have.
+/// Pins the variants of `BuildRefusal`, with the number, the chain and the rule.
 pub fn build_refusal_variants(refusal: BuildRefusal) -> (u8, u32, u16, u32) {
     match refusal {
         BuildRefusal::TooMany { count } => (0, count, 0, 0),
@@ -318,7 +319,7 @@ pub fn ruleset_rule_at(rules: &Ruleset, k: u32) -> Rule
     rules.rule_at(k)
 }
 
-/// Pins that each line below `lines` may be written, as the two calls count them.
+/// Pins that each line below `lines` may be written: the two calls use the same count.
 pub fn ruleset_line_below(rules: &Ruleset, i: u32, buffer: &mut [u8; 320]) -> Option<usize> {
     if i < rules.lines() {
         return Some(rules.write_line(i, buffer));
@@ -326,7 +327,7 @@ pub fn ruleset_line_below(rules: &Ruleset, i: u32, buffer: &mut [u8; 320]) -> Op
     None
 }
 
-/// Pins that each rule below `rules` may be asked for, as the two calls count them.
+/// Pins that each rule below `rules` may be requested: the two calls use the same count.
 pub fn ruleset_rule_below(rules: &Ruleset, k: u32) -> Option<Rule> {
     if k < rules.rules() {
         return Some(rules.rule_at(k));

@@ -1,7 +1,7 @@
-//! The public interface of the upper crates, from rule sets to the program: each asked type with its fields or variants,
-//! and each asked call with its signature and its condition. The crate fails to compile or to prove if one of these
-//! changes, and nothing calls it. A change of the interface that is wanted is made here too, and recorded in
-//! `docs/DECISIONS.md`.
+//! The public interface of the upper crates, from rule sets to the program: each required type with
+//! its fields or variants, and each required call with its signature and its condition. The crate
+//! fails to compile or to prove if one of these changes, and no code calls it. An intended change
+//! of the interface is made here too, and recorded in `docs/DECISIONS.md`.
 #![tactic(auto)]
 
 pub mod audit_core_calls;

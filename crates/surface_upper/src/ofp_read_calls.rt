@@ -1,4 +1,4 @@
-//! Pins `ofp_read`: the reader of flow tables, and why it refuses one.
+//! Pins `ofp_read`: the parser of flow tables, and its errors.
 
 use ofp_read::{OfpFault, OfpWhy};
 use ofp_rules::Table;

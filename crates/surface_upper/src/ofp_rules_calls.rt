@@ -20,7 +20,7 @@ pub fn copy_types() {
     is_copy::<Entry>();
 }
 
-/// Pins the variants of `Frame`, and the packet of an IPv4 frame.
+/// Pins the variants of `Frame`, with the packet of an IPv4 frame.
 pub fn frame_variants(frame: Frame) -> (u8, Option<Packet>) {
     match frame {
         Frame::Arp => (0, None),
@@ -69,8 +69,8 @@ pub fn entry(
     }
 }
 
-/// Pins that `Entry` is taken apart into its fields: the priority, the kind, the addresses, the protocol, the ports and
-/// the action.
+/// Pins the fields of `Entry` by destructuring: the priority, the kind, the addresses, the
+/// protocol, the ports and the action.
 pub fn entry_fields(
     entry: Entry,
 ) -> (
@@ -94,7 +94,7 @@ pub fn entry_fields(
     (priority, kind, (src, dst), proto, (tp_src, tp_dst), action)
 }
 
-/// Pins that an entry of each kind may ask for nothing else.
+/// Pins that an entry of each kind may match on nothing else.
 pub fn entry_of_kind(priority: u16, kind: FrameKind, action: Action) -> Entry
     ensures { IsTrue (asks_of_ip result) }
 {
@@ -110,7 +110,7 @@ pub fn entry_of_kind(priority: u16, kind: FrameKind, action: Action) -> Entry
     }
 }
 
-/// Pins that an entry for IPv4 frames may ask for addresses and any protocol.
+/// Pins that an entry for IPv4 frames may match on addresses and any protocol.
 pub fn entry_of_ip(
     priority: u16,
     src: Option<Prefix>,
@@ -132,7 +132,7 @@ pub fn entry_of_ip(
     }
 }
 
-/// Pins that an entry for IPv4 frames may ask for ports beside the protocol 6.
+/// Pins that an entry for IPv4 frames may match on ports together with protocol 6.
 pub fn entry_of_tcp(
     priority: u16,
     tp_src: Option<u16>,
@@ -153,7 +153,7 @@ pub fn entry_of_tcp(
     }
 }
 
-/// Pins that an entry for IPv4 frames may ask for ports beside the protocol 17.
+/// Pins that an entry for IPv4 frames may match on ports together with protocol 17.
 pub fn entry_of_udp(
     priority: u16,
     tp_src: Option<u16>,
@@ -182,7 +182,7 @@ pub fn table_build(alloc: Global, entries: Vec<Entry>) -> Result<Table, TableRef
     Table::build(alloc, entries)
 }
 
-/// Pins the variants of `TableRefusal`, and the number and the two entries that they have.
+/// Pins the variants of `TableRefusal`, with the number and the two entries.
 pub fn table_refusal_variants(refusal: TableRefusal) -> (u8, u32, u32, u32) {
     match refusal {
         TableRefusal::TooMany { count } => (0, count, 0, 0),
@@ -220,7 +220,7 @@ pub fn table_entry(table: &Table, k: u32) -> Entry
     table.entry(k)
 }
 
-/// Pins that each line below `lines` may be written, as the two calls count them.
+/// Pins that each line below `lines` may be written: the two calls use the same count.
 pub fn table_line_below(table: &Table, i: u32, buffer: &mut [u8; 256]) -> Option<usize> {
     if i < table.lines() {
         return Some(table.write_line(i, buffer));
@@ -228,7 +228,7 @@ pub fn table_line_below(table: &Table, i: u32, buffer: &mut [u8; 256]) -> Option
     None
 }
 
-/// Pins that each entry below `len` may be asked for, as the two calls count them.
+/// Pins that each entry below `len` may be requested: the two calls use the same count.
 pub fn table_entry_below(table: &Table, k: u32) -> Option<Entry> {
     if k < table.len() {
         return Some(table.entry(k));

@@ -1,4 +1,4 @@
-//! Pins `topos_top`: the whole program, over any shelf and any two sinks, and its status.
+//! Pins `topos_top`: the entire program, generic over the shelf and the two sinks, and its status.
 
 use edge_io::{Shelf, Sink};
 use std::alloc::Global;
