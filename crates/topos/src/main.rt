@@ -1,4 +1,4 @@
-//! The program: the words of its command line, the files of the system, and both streams.
+//! The program: its command-line arguments, the files of the operating system, and both streams.
 #![tactic(auto)]
 
 use edge_io::{DirShelf, StreamSink};
@@ -13,7 +13,8 @@ fn main(rt: HostRuntime) -> ExitCode {
         Err(error) if error.kind() == io::ErrorKind::OutOfMemory => {
             return ExitCode::from(Status::Memory.number());
         }
-        // A word that is no text: the command line is faulty, as one without words is.
+        // If an argument is not valid UTF-8, the command line is invalid, like one without
+        // arguments.
         Err(_) => Vec::new(rt.alloc()),
     };
     let mut shelf = DirShelf::new(&rt);
@@ -23,7 +24,7 @@ fn main(rt: HostRuntime) -> ExitCode {
     ExitCode::from(status.number())
 }
 
-/// The words after the program's own name.
+/// Returns the arguments after the program name.
 fn words_after_name<R: Env + AllocGlobal>(rt: &R) -> io::Result<Vec<String>> {
     let words = env::args(rt)?.skip(1).collect(rt.alloc())?;
     Ok(words)
