@@ -1,11 +1,11 @@
-//! One case: the words, the files and the faults of one run in memory.
+//! One case: the arguments, the files and the faults of one run in memory.
 
 use anyhow::{Context, Result, bail};
 use edge_io::{MemShelf, MemSink};
 use std::alloc::Global;
 use topos_top::Status;
 
-/// What a run gave.
+/// The result of a run.
 #[derive(Drop)]
 pub struct Ending {
     pub status: Status,
@@ -19,7 +19,7 @@ struct File {
     bytes: Vec<u8>,
 }
 
-/// A case as far as its lines are read, or none, which has no name.
+/// A case after some of its lines are parsed; or no case, which has no name.
 #[derive(Drop)]
 pub struct Case {
     name: Option<String>,
@@ -33,11 +33,11 @@ pub struct Case {
     grain: usize,
 }
 
-/// The room of a sink, and the bytes that it takes by one write, where a case says nothing of them.
+/// The default capacity of a sink, and the default size of one write.
 const AMPLE: usize = 1 << 20;
 
 impl Case {
-    /// A case without words and files, in which nothing fails.
+    /// Returns a case without arguments and files, in which nothing fails.
     pub fn new(alloc: Global, name: &str) -> Result<Case> {
         Ok(Case {
             name: Some(name.to_string(alloc)?),
@@ -45,7 +45,7 @@ impl Case {
         })
     }
 
-    /// No case.
+    /// Returns the value for no case.
     pub fn none(alloc: Global) -> Case {
         Case {
             name: None,
@@ -60,12 +60,12 @@ impl Case {
         }
     }
 
-    /// The name, if it is a case.
+    /// Returns the name, if it is a case.
     pub fn name(&self) -> Option<&str> {
         self.name.as_ref().map(|name| name.as_str())
     }
 
-    /// Reads one line of the case.
+    /// Parses one line of the case.
     pub fn read(&mut self, alloc: Global, line: &str) -> Result<()> {
         if let Some(text) = line.strip_prefix("|") {
             self.add(text.as_bytes())?;
@@ -114,7 +114,7 @@ impl Case {
         Ok(())
     }
 
-    // Adds the text, each time with `end` after it.
+    // Appends the text a number of times, each time followed by `end`.
     fn fill(&mut self, value: &str, end: &[u8]) -> Result<()> {
         let (count, text) = value.split_once(" ").context("a count and a text")?;
         for _ in 0..count.parse::<u32>().context("a count")? {
@@ -124,7 +124,7 @@ impl Case {
         Ok(())
     }
 
-    // Adds a line for each number between the two, both included.
+    // Appends a line for each number between the two, inclusive.
     fn add_each(&mut self, alloc: Global, value: &str) -> Result<()> {
         let (first, rest) = value.split_once(" ").context("two numbers and a text")?;
         let (last, text) = rest.split_once(" ").context("two numbers and a text")?;
@@ -136,7 +136,8 @@ impl Case {
         Ok(())
     }
 
-    // Adds the text as a line, with the number for each `{}`, and the one after it for each `{+}`.
+    // Appends the text as a line, with the number in place of each `{}`, and the next number in
+    // place of each `{+}`.
     fn add_numbered(&mut self, alloc: Global, text: &str, number: u32) -> Result<()> {
         for part in text.split_inclusive("}") {
             if let Some(before) = part.strip_suffix("{}") {
@@ -157,7 +158,7 @@ impl Case {
         Ok(())
     }
 
-    /// Whether no line has said anything of the case but its name.
+    /// Whether only the name of the case is known so far.
     pub fn is_empty(&self) -> bool {
         !self.asks
             && self.words.is_empty()
@@ -169,7 +170,8 @@ impl Case {
             && self.grain == AMPLE
     }
 
-    /// The case with the words and files of another one, of which nothing fails.
+    /// Returns the case with the program, the arguments and the files of another one, in which
+    /// nothing fails.
     pub fn again(self, alloc: Global, before: Case) -> Case {
         Case {
             name: self.name,

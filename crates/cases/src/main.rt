@@ -1,23 +1,24 @@
-//! Runs many cases of the two programs in memory. The input lists the cases by subject; what each gives is
-//! printed in the same form, so that an expected output is written by hand from the rules of the formats.
+//! Runs many cases of the two programs in memory. The input lists the cases by subject. The results
+//! are printed in the same form, so an expected output is written by hand from the rules of the
+//! formats.
 //!
-//! | Line | What it says |
+//! | Line | Meaning |
 //! |---|---|
-//! | `section TITLE` | the cases below are about this |
-//! | `case NAME` | a case begins, of which the lines below tell |
-//! | `# ..`, an empty line | nothing |
-//! | `query` | the program is `topos-query`, and without this line `topos` |
-//! | `again` | its program, words and files are those of the case before; the first line of a case |
-//! | `word TEXT` | the next word of its command line |
-//! | `file NAME` | a file, with the bytes of the lines below |
-//! | `\|TEXT`, `>TEXT` | bytes of the file, with and without the end of a line |
-//! | `fill COUNT TEXT`, `lines COUNT TEXT` | the text that many times, without and with the end of a line |
-//! | `each FIRST LAST TEXT` | the text as a line for each of these numbers, which stands for `{}` in it, and the one after it for `{+}` |
+//! | `section TITLE` | the subject of the following cases |
+//! | `case NAME` | the start of a case, which the following lines define |
+//! | `# ..`, an empty line | none |
+//! | `query` | the program is `topos-query`; without this line it is `topos` |
+//! | `again` | program, arguments and files are those of the previous case; the first line of a case |
+//! | `word TEXT` | the next argument of its command line |
+//! | `file NAME` | a file, with the bytes of the following lines |
+//! | `\|TEXT`, `>TEXT` | bytes of the file, with and without a line end |
+//! | `fill COUNT TEXT`, `lines COUNT TEXT` | the text that many times, without and with a line end |
+//! | `each FIRST LAST TEXT` | the text as a line for each number, which replaces `{}`; the next one replaces `{+}` |
 //! | `byte NUMBER` | one byte |
 //! | `shelf CALL`, `out CALL`, `err CALL` | this call of the shelf or of the sink fails |
-//! | `room COUNT`, `grain COUNT` | how many bytes `out` takes at all, and at most by one write |
+//! | `room COUNT`, `grain COUNT` | the number of bytes that `out` accepts in total, and at most in one write |
 //!
-//! A case ends where the next one or a section begins, and with the input. It is run then.
+//! A case ends at the next case or section, and at the end of the input. Then it is run.
 #![tactic(auto)]
 
 mod case;
@@ -58,7 +59,7 @@ fn main(rt: HostRuntime) -> Result<()> {
     end(&rt, alloc, &case)
 }
 
-// Runs the case, if one has begun, and prints what it gives.
+// Runs the case, if there is one, and prints its result.
 fn end(rt: &impl Print, alloc: Global, case: &Case) -> Result<()> {
     match case.name() {
         Some(name) => show::ending(rt, alloc, name, &case.run(alloc)?),

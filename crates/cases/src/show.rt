@@ -1,4 +1,4 @@
-//! What a case gave, line by line.
+//! The printed result of a case, line by line.
 
 use crate::case::Ending;
 use anyhow::Result;
@@ -11,7 +11,7 @@ pub fn ending(rt: &impl Print, alloc: Global, name: &str, ended: &Ending) -> Res
     stream(rt, alloc, "err", ended.err.bytes())
 }
 
-// Each line after the stream's name and a bar; a last one without an end after `>`.
+// Prints each line after the stream's name and a bar; a last line without a line end after `>`.
 fn stream(rt: &impl Print, alloc: Global, name: &str, bytes: &[u8]) -> Result<()> {
     let text = String::from_utf8_lossy(alloc, bytes)?;
     for line in text.as_str().split_inclusive("\n") {
