@@ -39,6 +39,7 @@ class Browser:
         self.session = self.send('Target.attachToTarget', targetId=target, flatten=True)['sessionId']
         for domain in ('Page', 'Runtime', 'Network'):
             self.send(f'{domain}.enable')
+        self.send('Performance.enable', timeDomain='threadTicks')
 
     def __enter__(self) -> 'Browser':
         return self
@@ -85,6 +86,11 @@ class Browser:
         self.send('Page.navigate', url='file://' + path)
         self.value("new Promise(done => document.readyState === 'complete' && location.protocol === 'file:' ? "
                    "done(1) : addEventListener('load', () => done(1)))")
+
+    def processor_seconds(self) -> float:
+        """Returns the processor time that the main thread of the page took for its tasks."""
+        metrics = self.send('Performance.getMetrics')['metrics']
+        return float(next(each['value'] for each in metrics if each['name'] == 'TaskDuration'))
 
     def value(self, script: str) -> Any:
         """Returns the value of an expression in the page, after its promise."""

@@ -1,23 +1,20 @@
 """The text of a description with its places: lines of hosts, flows, invariants and entries, and the comments above.
 
-`tomllib` keeps no lines. `Page` reads as much of TOML as finds the elements of arrays, and compares what it finds with
-the table of the same description. If the two differ, the page has no places: no line is better than a wrong one.
+`tomllib` keeps no lines. `Document` reads the text with places, and the result is compared with the table of the same
+description. If the two differ, the page has no places: no line is better than a wrong one.
 
 A comment directly above an element that begins its line belongs to the element. A comment line `# topos: title ..`
 gives the element a title, and lines `# topos: why ..` give it a reason.
 """
+import bisect
 import re
 from dataclasses import dataclass, field
 from typing import Any
 
-TOKEN = re.compile(r'''(?P<space>[ \t\r]+)|(?P<line>\n)|(?P<comment>\#[^\n]*)
-    |(?P<string>"""(?:\\.|(?!""").)*"{3,5}|\'\'\'(?:(?!\'\'\').)*\'{3,5}|"(?:\\.|[^"\\\n])*"|'[^'\n]*')
-    |(?P<mark>[\[\]{},=])|(?P<word>[^\s\[\]{},="'\#]+)''', re.VERBOSE | re.DOTALL)
+from .toml_places import BLANK, Fault, Node, Scanner
+
+COMMENT = re.compile(r'#([^\n]*)')
 NOTE = re.compile(r'topos: (title|why) (.*)')
-
-
-class Unread(Exception):
-    """The text has a form that this reader does not know."""
 
 
 @dataclass(frozen=True)
@@ -32,144 +29,42 @@ class Place:
 NOWHERE = Place()
 
 
-@dataclass(frozen=True)
-class Token:
-    kind: str
-    text: str
-    line: int
-    is_first: bool  # of its line
-
-
-@dataclass(frozen=True)
-class Node:
-    """A value, the line on which it begins, and whether it begins the line."""
-    value: Any
-    line: int
-    is_first: bool
-
-    def get(self, key: str) -> Any:
-        found = self.value[key]
-        return found.value
-
-    def items(self, key: str) -> list['Node']:
-        """Returns the elements of the array that a key has, or none if the key is absent."""
-        found = self.value.get(key)
-        nodes: list[Node] = found.value if found else []
-        return nodes
-
-
-class Tokens:
-    """The tokens of a text, and its comment lines."""
+class Document(Scanner):
+    """The tree of a TOML text, and its comment lines."""
 
     def __init__(self, text: str) -> None:
+        super().__init__(text)
+        self.starts = [0] + [found.end() for found in re.finditer('\n', text)]
         self.comments: dict[int, str] = {}
-        self.tokens: list[Token] = []
-        self.at = 0
-        place, line, is_first = 0, 1, True
-        while place < len(text):
-            found = TOKEN.match(text, place)
-            if not found:
-                raise Unread
-            kind, said = str(found.lastgroup), found.group()
-            if kind == 'comment' and is_first:
-                self.comments[line] = said.lstrip('#').strip()
-            elif kind not in ('space', 'comment'):
-                self.tokens.append(Token(kind, said, line, is_first))
-            if kind != 'space':
-                is_first = kind == 'line'
-            line += said.count('\n')
-            place = found.end()
-        self.tokens.append(Token('end', '', line, True))
+        self.root = self.document()
 
-    def peek(self) -> Token:
-        return self.tokens[self.at]
+    def take(self, pattern: re.Pattern[str]) -> str:
+        start = self.at
+        taken = super().take(pattern)
+        for found in COMMENT.finditer(taken) if pattern is BLANK else []:
+            if self.is_first(start + found.start()):
+                self.comments[self.line(start + found.start())] = found[1].lstrip('#').strip()
+        return taken
 
-    def take(self, *expected: str) -> Token:
-        token = self.tokens[self.at]
-        if expected and token.text not in expected:
-            raise Unread
-        self.at += 1
-        return token
+    def line(self, at: int) -> int:
+        return bisect.bisect_right(self.starts, at)
 
-    def skip_lines(self) -> None:
-        while self.peek().kind == 'line':
-            self.at += 1
+    def is_first(self, at: int) -> bool:
+        """Whether only blanks stand before a place on its line."""
+        return not self.text[self.starts[self.line(at) - 1]:at].strip(' \t\r')
 
-
-class Document:
-    """The tree of a TOML text."""
-
-    def __init__(self, text: str) -> None:
-        self.tokens = Tokens(text)
-        self.root = Node({}, 1, True)
-        table = self.root
-        self.tokens.skip_lines()
-        while self.tokens.peek().kind != 'end':
-            if self.tokens.peek().text == '[':
-                table = self._header()
-            else:
-                key, node = self._pair()
-                table.value[key] = node
-            if self.tokens.peek().kind not in ('line', 'end'):
-                raise Unread
-            self.tokens.skip_lines()
-
-    def _header(self) -> Node:
-        first = self.tokens.take('[')
-        is_array = self.tokens.peek().text == '['
-        if is_array:
-            self.tokens.take('[')
-        path = self.tokens.take().text.split('.')
-        for _ in range(2 if is_array else 1):
-            self.tokens.take(']')
-        table = self.root
-        for key in path[:-1]:
-            table = table.value[key]
-            table = table.value[-1] if isinstance(table.value, list) else table
-        made = Node({}, first.line, True)
-        if is_array:
-            table.value.setdefault(path[-1], Node([], first.line, False)).value.append(made)
-        else:
-            table.value[path[-1]] = made
-        return made
-
-    def _pair(self) -> tuple[str, Node]:
-        key = self.tokens.take().text.strip('"\'')
-        self.tokens.take('=')
-        return key, self._value()
-
-    def _value(self) -> Node:
-        token = self.tokens.take()
-        value: Any = token.text
-        if token.text == '[':
-            value = self._elements(']', self._value)
-        elif token.text == '{':
-            value = dict(self._elements('}', self._pair))
-        elif token.kind == 'string':
-            value = token.text[1:-1]
-        elif token.kind != 'word':
-            raise Unread
-        return Node(value, token.line, token.is_first)
-
-    def _elements(self, closing: str, element: Any) -> list[Any]:
-        found = []
-        self.tokens.skip_lines()
-        while self.tokens.peek().text != closing:
-            found.append(element())
-            self.tokens.skip_lines()
-            if self.tokens.peek().text != closing:
-                self.tokens.take(',')
-                self.tokens.skip_lines()
-        self.tokens.take(closing)
-        return found
+    def items(self, key: str) -> list[Node]:
+        """Returns the elements of an array of the file, or none if the file lacks it."""
+        node = self.root.get(key)
+        return node.items() if node else []
 
     def place(self, node: Node) -> Place:
         """Returns the place of a node, with the comment that ends on the line above."""
         lines: list[str] = []
-        above = node.line - 1
-        while node.is_first and above in self.tokens.comments:
-            lines.insert(0, self.tokens.comments[above])
+        own = above = self.line(node.start)
+        while self.is_first(node.start) and above - 1 in self.comments:
             above -= 1
+            lines.insert(0, self.comments[above])
         notes: dict[str, list[str]] = {'title': [], 'why': []}
         plain = []
         for line in lines:
@@ -179,7 +74,7 @@ class Document:
             else:
                 plain.append(line)
         title, why = (' '.join(notes[key]) for key in ('title', 'why'))
-        return Place(node.line, title, why, ' '.join(plain).strip())
+        return Place(own, title, why, ' '.join(plain).strip())
 
 
 @dataclass
@@ -210,19 +105,33 @@ def read_page(data: bytes, table: dict[str, Any]) -> Page:
     """Reads the places of a description, whose table is given."""
     try:
         document = Document(data.decode())
-        if _shape(document.root) != _shape_of_table(table):
+        if _shape(document) != _shape_of_table(table):
             return Page()
         return _places(document)
-    except (Unread, UnicodeError, AttributeError, KeyError, IndexError, TypeError, RecursionError):
+    except (Fault, ValueError, AttributeError, KeyError, IndexError, TypeError, RecursionError):
         return Page()
 
 
-def _shape(root: Node) -> list[Any]:
+def _text(node: Node, key: str) -> str:
+    text: str = node.need(key).value
+    return text
+
+
+def _entries(invariant: Node) -> list[Node]:
+    assigned = invariant.get('assign')
+    return assigned.items() if assigned else []
+
+
+def _flow(node: Node) -> list[str]:
+    return [word.value for word in node.items()[:2]]
+
+
+def _shape(document: Document) -> list[Any]:
     """Returns the names that stand in a description, in its order."""
-    return [[each.get('name') for each in root.items('host')],
-            [[word.value for word in each.value[:2]] for each in root.items('flow')],
-            [each.get('template') for each in root.items('invariant')],
-            [[entry.get('host') for entry in each.items('assign')] for each in root.items('invariant')]]
+    invariants = document.items('invariant')
+    return [[_text(each, 'name') for each in document.items('host')], list(map(_flow, document.items('flow'))),
+            [_text(each, 'template') for each in invariants],
+            [[_text(entry, 'host') for entry in _entries(each)] for each in invariants]]
 
 
 def _shape_of_table(table: dict[str, Any]) -> list[Any]:
@@ -233,14 +142,13 @@ def _shape_of_table(table: dict[str, Any]) -> list[Any]:
 
 
 def _places(document: Document) -> Page:
-    root, place = document.root, document.place
+    place, invariants = document.place, document.items('invariant')
     page = Page(is_known=True)
-    page.hosts = {each.get('name'): place(each) for each in root.items('host')}
-    for each in root.items('flow'):
-        sender, receiver = (word.value for word in each.value[:2])
+    page.hosts = {_text(each, 'name'): place(each) for each in document.items('host')}
+    for each in document.items('flow'):
+        sender, receiver = _flow(each)
         page.flows[sender, receiver] = place(each)
-    page.invariants = [place(each) for each in root.items('invariant')]
-    page.entries = [{entry.get('host'): place(entry) for entry in each.items('assign')}
-                    for each in root.items('invariant')]
-    page.templates = {each.get('name'): place(each) for each in root.items('template')}
+    page.invariants = list(map(place, invariants))
+    page.entries = [{_text(entry, 'host'): place(entry) for entry in _entries(each)} for each in invariants]
+    page.templates = {_text(each, 'name'): place(each) for each in document.items('template')}
     return page

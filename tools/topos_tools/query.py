@@ -12,7 +12,7 @@ import signal
 import stat
 import subprocess
 import sys
-from collections.abc import Callable, Iterable
+from collections.abc import Callable, Iterable, Sequence
 from dataclasses import dataclass
 from typing import Any, BinaryIO
 
@@ -22,9 +22,10 @@ except ModuleNotFoundError:
     sys.stderr.write(f'{os.path.basename(sys.argv[0])}: Python 3.11 or newer is needed, for tomllib\n')
     sys.exit(69)
 
-USAGE, UNAVAILABLE = 64, 69  # exit statuses of sysexits.h, beside those of the programs
+USAGE, NO_REFUSAL, UNAVAILABLE = 64, 65, 69  # exit statuses of sysexits.h, beside those of the programs
 NO_FILE, NO_OUTPUT = 6, 7  # statuses that `topos` uses for the same causes
 REFUSED = 3  # the status of the programs for a description that they refuse
+DIFFERS = 2  # the status of `topos-query` for an answer that lists differences
 LONGEST = 1_048_576  # bytes of a description
 MEMORY = 2 << 30  # bytes that a tool may use
 SECONDS = 600  # that a tool may take
@@ -83,7 +84,26 @@ class Programs:
 
     def ask(self, text: bytes, form: str, *names: str) -> dict[str, Any]:
         """Returns the answer of `topos-query` to a question on a description."""
-        answer: dict[str, Any] = json.loads(answered([self.query, form, '/dev/stdin', *names], text))
+        return self._read(answered([self.query, form, '/dev/stdin', *names], text))
+
+    def ask_changes(self, old: bytes, new: bytes) -> dict[str, Any]:
+        """Returns the answer of `topos-query changes` on two descriptions."""
+        with _memory_file(new) as file:
+            words = [self.query, 'changes', '/dev/stdin', f'/dev/fd/{file.fileno()}']
+            return self._read(answered(words, old, (0, DIFFERS), (file.fileno(),)))
+
+    def rules(self, text: bytes) -> bytes:
+        """Returns the rules of the permitted flows of a description."""
+        return answered([self.topos, 'repair', 'iptables', '/dev/stdin'], text).encode()
+
+    def trace(self, rules: bytes, events: str) -> list[str]:
+        """Returns what rules do with each event: `forward`, `drop` or `forgotten`."""
+        with _memory_file(rules) as file:
+            words = [self.topos, 'trace', 'iptables', f'/dev/fd/{file.fileno()}', '/dev/stdin']
+            return [line.split()[1] for line in answered(words, events.encode(), (0,), (file.fileno(),)).splitlines()]
+
+    def _read(self, output: str) -> dict[str, Any]:
+        answer: dict[str, Any] = json.loads(output)
         if answer['version'] != VERSION:
             raise Stopped(f'{self.query} answers in version {answer["version"]} of its format: '
                           f'version {VERSION} is read')
@@ -130,7 +150,7 @@ class _Question:
         self.output = _memory_file(b'')
         with _memory_file(text) as given:
             self.process = subprocess.Popen(words, stdin=given, stdout=self.output, stderr=subprocess.PIPE,
-                                            preexec_fn=_unlimited)
+                                            preexec_fn=unlimited)
 
     def answer(self) -> dict[str, Any] | None:
         """Waits for the end, and returns the answer, or None if the program refuses the text."""
@@ -152,14 +172,14 @@ def _memory_file(text: bytes) -> BinaryIO:
     return file
 
 
-def answered(words: list[str], text: bytes) -> str:
-    """Returns the output of a program for a text on its standard input."""
+def answered(words: list[str], text: bytes, statuses: Sequence[int] = (0,), files: Sequence[int] = ()) -> str:
+    """Returns the output of a program for a text on its standard input, and for open files."""
     try:
         ended = subprocess.run(words, input=text, capture_output=True, check=False, timeout=SECONDS,
-                               preexec_fn=_unlimited)
+                               preexec_fn=unlimited, pass_fds=files)
     except (OSError, subprocess.TimeoutExpired) as error:
         raise Stopped(f'{words[0]} does not run: {error}') from None
-    if ended.returncode != 0:
+    if ended.returncode not in statuses:
         line = ended.stderr.decode().strip()
         raise Stopped(line or f'{" ".join(words[:2])} ends with status {ended.returncode}', ended.returncode)
     return ended.stdout.decode()
@@ -179,14 +199,14 @@ def text_of(table: dict[str, Any]) -> bytes:
     return '\n'.join(f'{key} = {toml(value)}' for key, value in table.items()).encode()
 
 
-def read_bytes(path: str) -> bytes:
-    """Returns the bytes of a plain file, at most one more than a description may have."""
+def read_bytes(path: str, longest: int = LONGEST) -> bytes:
+    """Returns the bytes of a plain file, at most one more than the longest text that is read."""
     try:
         opened = os.open(path, os.O_RDONLY | os.O_NONBLOCK)
         with open(opened, 'rb') as file:
             if not stat.S_ISREG(os.fstat(opened).st_mode):
                 raise Stopped(f'{path} is no plain file', NO_FILE)
-            return file.read(LONGEST + 1)
+            return file.read(longest + 1)
     except OSError:
         raise Stopped(f'cannot read {path}', NO_FILE) from None
 
@@ -226,16 +246,26 @@ def read_words(given: list[str], valued: set[str], plain: set[str]) -> tuple[dic
     return values, options, others
 
 
-def _limit() -> None:
+def limit(seconds: int = SECONDS) -> None:
     """Bounds the memory and the time of this process."""
     def end(*_: object) -> None:
-        raise Stopped(f'this took longer than {SECONDS} seconds')
+        raise Stopped(f'this took longer than {seconds} seconds')
     resource.setrlimit(resource.RLIMIT_AS, (MEMORY, resource.RLIM_INFINITY))
     signal.signal(signal.SIGALRM, end)
-    signal.alarm(SECONDS)
+    signal.alarm(seconds)
 
 
-def _unlimited() -> None:
+def tell_when_slow(name: str) -> None:
+    """Says on a terminal, a second after the start of a tool, that it is still at work."""
+    def tell(*_: object) -> None:
+        sys.stderr.write(f'{name}: asking topos and topos-query ..\n')
+        limit(SECONDS - 1)
+    if sys.stderr.isatty():
+        signal.signal(signal.SIGALRM, tell)
+        signal.alarm(1)
+
+
+def unlimited() -> None:
     """Removes the bound of the memory from a program that is started: it has bounds of its own."""
     resource.setrlimit(resource.RLIMIT_AS, (resource.RLIM_INFINITY, resource.RLIM_INFINITY))
 
@@ -243,7 +273,8 @@ def _unlimited() -> None:
 def run(name: str, usage: str, main: Callable[[list[str]], int]) -> None:
     """Runs a tool on the words of the command line, and ends the process with its status."""
     try:
-        _limit()
+        limit()
+        tell_when_slow(name)
         status = main(sys.argv[1:])
         sys.stdout.flush()
         sys.exit(status)

@@ -1,0 +1,68 @@
+"""Lists the flows that only the list of flows prevents: pairs of hosts that no invariant separates.
+
+These are the flows that `topos-query network` marks as gaps: not asked for, and each beside all flows that are allowed
+breaks no invariant.
+"""
+import json
+from collections.abc import Iterator
+from typing import Any
+
+from .query import USAGE, VERSION, Programs, Stopped, read_bytes, read_words, toml, write_text
+
+USAGE_TEXT = '''usage: topos-gaps [--program TOPOS] [--json] FILE
+           prints a line for each receiver: its name, the number of hosts that only the list of flows denies, and their
+           names
+       topos-gaps [--program TOPOS] --open FILE
+           prints the description without its key `flow`: for `topos policy`, never to load
+       --json   prints the receivers as JSON
+       the program topos-query is that of TOPOS_QUERY, else the one beside topos, else that of the path
+'''
+SCHEMA = 'topos-gaps 1'
+
+
+def gaps(answer: dict[str, Any]) -> list[list[str]]:
+    """Returns the flows that are marked as gaps, in the order of the answer."""
+    return [each['flow'] for each in answer['flows'] if each['gap']]
+
+
+def senders(answer: dict[str, Any]) -> dict[str, list[str]]:
+    """Returns for each host, in the order of the file, the senders that only the list of flows denies."""
+    found: dict[str, list[str]] = {host['name']: [] for host in answer['hosts']}
+    for sender, receiver in gaps(answer):
+        found[receiver].append(sender)
+    return {receiver: names for receiver, names in found.items() if names}
+
+
+def open_lines(table: dict[str, Any]) -> Iterator[str]:
+    """Returns the lines of the description without its key `flow`."""
+    for key in ('topos', 'answers'):
+        if key in table:
+            yield f'{key} = {toml(table[key])}'
+    for key in ('host', 'template', 'invariant'):
+        if key in table:
+            yield from (f'{key} = [', *(f'  {toml(each)},' for each in table[key]), ']')
+
+
+def main(given: list[str]) -> int:
+    values, options, words = read_words(given, {'--program'}, {'--open', '--json', '--help', '--version'})
+    if '--help' in options:
+        write_text(None, USAGE_TEXT)
+        return 0
+    if '--version' in options:
+        write_text(None, f'{SCHEMA}, reads answers of topos-query in version {VERSION}\n')
+        return 0
+    if len(words) != 1:
+        raise Stopped('missing argument: file' if not words else f'{words[1]}: unexpected argument', USAGE)
+    if {'--open', '--json'} <= options:
+        raise Stopped('--json and --open exclude each other', USAGE)
+    programs, text = Programs.find(values.get('--program')), read_bytes(words[0])
+    if '--open' in options:
+        lines = list(open_lines(programs.table(text)))
+    else:
+        found = senders(programs.ask(text, 'network'))
+        lines = [f'{receiver} {len(names)} from {" ".join(names)}' for receiver, names in found.items()]
+        if '--json' in options:
+            receivers = [{'to': receiver, 'from': names} for receiver, names in found.items()]
+            lines = [json.dumps({'schema': SCHEMA, 'receivers': receivers}, indent=1)]
+    write_text(None, ''.join(f'{line}\n' for line in lines))
+    return 0

@@ -1,0 +1,237 @@
+"""Shows the lines of a file that a refusal of topos is about, the wrong words, and the remedy.
+
+The wrong words of a line are found in two steps: by the forms that docs/FORMATS.md gives, and then by asking the
+program about copies in which exactly these words are mended, removed, or the last of the line. A reason that the
+answers do not confirm is not shown. The file itself is never changed.
+"""
+import io
+import json
+import re
+import sys
+import tempfile
+
+from .query import NO_REFUSAL, UNAVAILABLE, USAGE, Stopped, find_program, read_bytes, read_words, write_text
+from .toml_places import Fault
+from .where_copy import plural
+from .where_description import Description, Finder
+from .where_edits import EditsText, EventsText
+from .where_entries import bad_attribute
+from .where_flows import FlowsText
+from .where_forms import GENERAL
+from .where_hosts import bad_name, bad_prefix, duplicate_host, host_bits, no_address, overlap, two_rests
+from .where_lines import LineText, words_of
+from .where_page import Finding, Mark, Page
+from .where_refusals import Program, Refusal, refusals_in
+from .where_rules import RulesText
+from .where_tables import bad_version, missing_keys, too_many, unknown_keys, wrong_types
+from .where_templates import bad_template, not_lawful
+from .where_toml import Edited, NoToml
+from .where_uses import (
+    bad_service, duplicate_assign, duplicate_flow, many_services, self_flow, undeclared_host, unknown_template)
+
+USAGE_TEXT = '''usage: topos-where [--all] [--json] [--program TOPOS] FILE [DESCRIPTION]
+  FILE            the description, rules, flows, events or edits that topos refused; the refusal stands on the
+                  standard input
+  DESCRIPTION     what the edits in FILE are for
+options
+  --all           go on past each fault in a copy of FILE; without a refusal on the standard input FILE is asked about
+  --json          print the places as JSON
+  --program TOPOS the program topos; else $TOPOS, the one beside this script, the one that is built, or `topos`
+  --help, --version
+exit status
+  0 shown; with --all: topos accepts FILE
+  1 with --all: all places are shown, and without them topos accepts the rest
+  2 with --all: places are shown, and there may be more
+  6 FILE cannot be read, 64 usage, 65 no refusal of FILE, 69 no program
+'''
+SCHEMA = 'topos-where 1'
+ROUNDS, LINE_ROUNDS = 50, 1000  # faults that are looked for, in a description and in another text
+LONGEST = 67_108_864  # bytes of the longest text that topos reads
+MORE = ', and there may be more: topos has not read the rest'
+
+
+FINDERS: dict[int, Finder] = {
+    1: lambda description, refusal: [], 2: lambda description, refusal: [],
+    3: unknown_keys, 4: missing_keys, 5: wrong_types, 6: bad_version, 7: too_many, 8: bad_name, 9: duplicate_host,
+    10: bad_prefix, 11: host_bits, 12: no_address, 13: two_rests, 14: overlap, 15: unknown_template,
+    16: undeclared_host, 17: duplicate_assign, 18: bad_attribute, 19: self_flow, 20: duplicate_flow, 21: bad_service,
+    22: many_services, 23: bad_template, 24: not_lawful}
+
+
+def kind_of(text: str) -> str:
+    """Returns the kind of a text without a refusal, by its first line that is no comment."""
+    for line in text.splitlines():
+        words = [word for word, _, _ in words_of(line)]
+        if words and not words[0].startswith('#'):
+            if words[0].startswith('*') or words[0] in ('-A', 'COMMIT', 'iptables') or re.match(r':\S', words[0]):
+                return 'rules'
+            if words[0] in ('packet', 'forget'):
+                return 'events'
+            if words[0] in EditsText.VERBS and not re.match(r'\s*=', line.split(words[0], 1)[1]):
+                return 'edits'
+            return 'flows' if 'actions=' in line else 'description'
+    return 'description'
+
+
+class Search:
+    """A file, and whether all its faults are searched for or only that of a refusal."""
+
+    def __init__(self, program: Program, page: Page, is_whole: bool) -> None:
+        self.program, self.page, self.is_whole = program, page, is_whole
+
+    def other_answer(self, now: Refusal | None) -> Stopped:
+        said = 'accepts it'
+        if now is not None:
+            where = f'{now.number} {now.name}' if now.what == 'description' else f'line {now.line}: {now.name}'
+            said = f'refuses it as {where}'
+        return Stopped(f'the refusal is none of {self.page.name}: topos {said} now', NO_REFUSAL)
+
+    def status(self, accepted: bool) -> int:
+        """Adds the number of places, and returns the exit status."""
+        if not self.is_whole:
+            return 0
+        count = len(self.page.findings)
+        self.page.end(plural(count, 'place') + ('' if accepted else MORE))
+        return 2 if not accepted else 1 if count else 0
+
+    # Texts that are read line by line.
+
+    def line_text(self, what: str, refusal: Refusal | None, description: bytes | None) -> LineText:
+        """Returns the text of the kind that the refusal is of."""
+        if what == 'events':
+            return EventsText(self.program, self.page)
+        if what == 'edits':
+            return EditsText(self.program, self.page, description)
+        rules, flows = RulesText(self.program, self.page), FlowsText(self.program, self.page)
+        if what == 'flows':
+            return flows
+        # of two that are refused alike it is a flow text: a rules text has no line of fields
+        texts = [text for text in (flows, rules) if refusal is not None and refusal.is_like(text.ask())]
+        return texts[0] if texts else rules
+
+    def lines(self, text: LineText, refusal: Refusal | None) -> int:
+        now = text.ask()
+        if refusal is not None and not refusal.is_like(now):
+            if text.what == 'edits' and text.description is None:
+                raise Stopped(f'line {refusal.line}: {refusal.name}: name the description behind the edits, '
+                              f'topos-where {self.page.name} DESCRIPTION', NO_REFUSAL)
+            raise self.other_answer(now)
+        if refusal is not None and not self.is_whole:
+            self.page.show(text.shown(refusal)[0])
+            return 0
+        while now is not None and len(self.page.findings) < LINE_ROUNDS:
+            finding, drop = text.shown(now)
+            self.page.show(finding, again=False)
+            if not text.go_on(now, drop):
+                break
+            now = text.ask()
+        for sentence in text.summary(now is None):
+            self.page.say(sentence)
+        return self.status(now is None)
+
+    # Descriptions.
+
+    def description(self, data: bytes, refusal: Refusal | None) -> int:
+        now, edited = self.program.description(data), Edited(self.page.text)
+        if refusal is not None and not refusal.is_like(now):
+            raise self.other_answer(now)
+        if now is not None and now.number == 1:
+            self.page.show(Finding('1 TooLong at document', [],
+                                   [f'{self.page.name} has {len(data):,} bytes. ' + GENERAL[1]]))
+        while now is not None and now.number == 2:
+            finding, edited_on = self.no_toml(edited)
+            finding.title = '2 NotToml at document'
+            self.page.show(finding)
+            if edited_on is None or not self.is_whole or len(self.page.findings) == ROUNDS:
+                return self.status(False)
+            edited, data = edited_on, edited_on.text.encode(errors='surrogateescape')
+            now = self.program.description(data)
+        if now is None or now.number == 1 and not self.is_whole:
+            return self.status(now is None)
+        return self.go_through(edited, now)
+
+    def no_toml(self, edited: Edited) -> tuple[Finding, Edited | None]:
+        """Returns the finding of a text that is no TOML, and the text to go on with."""
+        found = re.search('[\udc80-\udcff]', edited.text)
+        if not found:
+            return NoToml(self.program, edited).find()
+        byte, at = ord(found[0]) - 0xdc00, edited.original(found.start())
+        on = Edited(re.sub('[\udc80-\udcff]', '?', edited.text))
+        on.changes = edited.changes
+        return Finding('', [Mark(at, at + 1)], [f'The byte 0x{byte:02X} here is no UTF-8: save the file as UTF-8.']), on
+
+    def go_through(self, edited: Edited, now: Refusal) -> int:
+        """Shows the refusals of a text that is TOML."""
+        try:
+            text = Description(self.program, edited, self.page, FINDERS)
+        except Fault:
+            text = None
+        if text is None or now.number != 1 and not now.is_like(text.ask()):
+            self.page.show(Finding(f'{now.number} {now.name} at {now.place}', [], [GENERAL[now.number]]))
+            return self.status(False)
+        findings, accepted = self.findings(text, edited)
+        for finding in sorted(findings, key=lambda finding: finding.marks[0].start if finding.marks else 0):
+            self.page.show(finding)
+        return self.status(accepted)
+
+    def findings(self, text: Description, edited: Edited) -> tuple[list[Finding], bool]:
+        """Returns the findings of a description, and whether the copy without the faults is accepted."""
+        findings: list[Finding] = []
+        seen: set[tuple[int, int | None, str]] = set()
+        now, earlier = text.ask(), len(self.page.findings)
+        while now is not None:
+            finding, changes = text.find(now)
+            where = (now.number, finding.marks[0].start if finding.marks else None, finding.title)
+            if where in seen:
+                break
+            seen.add(where)
+            finding.marks = [Mark(edited.original(one.start), edited.original(one.end), one.note)
+                             for one in finding.marks]
+            findings.append(finding)
+            if not self.is_whole or changes is None or earlier + len(findings) >= ROUNDS:
+                break
+            number = now.number
+            for change in changes:
+                change()
+            now = text.ask()
+            if now is not None and now.number < number:
+                break
+        return findings, now is None
+
+
+def search(words: list[str], program: Program, page: Page, data: bytes, is_whole: bool) -> int:
+    found = []
+    if sys.stdin and not (is_whole and sys.stdin.isatty()):
+        found = refusals_in(sys.stdin.buffer.read(LONGEST).decode(errors='replace'))
+    if not found and not is_whole:
+        raise Stopped('no refusal of topos on the standard input: topos check FILE 2>&1 | topos-where FILE', NO_REFUSAL)
+    refusal = found[0] if found else None
+    what, task = refusal.what if refusal else kind_of(page.text), Search(program, page, is_whole)
+    if what == 'description':
+        return task.description(data, refusal)
+    description = read_bytes(words[1], LONGEST) if len(words) > 1 else None
+    return task.lines(task.line_text(what, refusal, description), refusal)
+
+
+def main(given: list[str]) -> int:
+    if isinstance(sys.stdout, io.TextIOWrapper):
+        sys.stdout.reconfigure(errors='replace')
+    values, options, words = read_words(given, {'--program'}, {'--all', '--json', '--help', '--version'})
+    if '--help' in options:
+        write_text(None, USAGE_TEXT)
+        return 0
+    if '--version' in options:
+        write_text(None, f'{SCHEMA}\n')
+        return 0
+    if not 0 < len(words) < 3:
+        raise Stopped(f'{words[2]}: unexpected argument' if words else 'a file is missing', USAGE)
+    path, data = find_program(values.get('--program')), read_bytes(words[0], LONGEST)
+    page = Page(words[0], data.decode(errors='surrogateescape'), '--json' not in options)
+    try:
+        with tempfile.TemporaryDirectory(prefix='topos-where-') as folder:
+            status = search(words, Program(path, folder), page, data, '--all' in options)
+    except ValueError as error:
+        raise Stopped(f'the file cannot be read here ({type(error).__name__})', UNAVAILABLE) from None
+    if '--json' in options:
+        write_text(None, json.dumps({'schema': SCHEMA, **page.tree()}, indent=1) + '\n')
+    return status

@@ -1,0 +1,115 @@
+"""A text by its lines, on which parts are marked."""
+import re
+import textwrap
+import unicodedata
+from typing import Any
+
+WIDTH = 110  # longer lines are cut around what is marked
+
+
+class Mark:
+    """A part of the text, and a word on it."""
+
+    def __init__(self, start: int, end: int, note: str = '') -> None:
+        self.start, self.end, self.note = start, max(end, start + 1), note
+
+
+class Finding:
+    """What a refusal is about: its title, the parts of the text, and sentences."""
+
+    def __init__(self, title: str, marks: list[Mark], sentences: list[str]) -> None:
+        self.title, self.marks, self.sentences = title, marks, sentences
+
+
+def say(sentence: str) -> None:
+    print(textwrap.fill(sentence, WIDTH, break_long_words=False, break_on_hyphens=False))
+
+
+def columns(text: str) -> int:
+    return sum(2 if unicodedata.east_asian_width(char) in 'WF' else 1 for char in text)
+
+
+class Page:
+    """A text by its lines, on which parts are marked."""
+
+    def __init__(self, name: str, text: str, is_shown: bool = True) -> None:
+        self.name, self.text, self.is_shown = name, text, is_shown
+        self.findings: list[Finding] = []
+        self.sentences: list[str] = []  # at the end
+        self.starts = [0] + [found.end() for found in re.finditer('\n', text)]
+        self.said: set[str] = set()
+
+    def line_of(self, at: int) -> int:
+        low, high = 0, len(self.starts)
+        while high - low > 1:
+            middle = (low + high) // 2
+            low, high = (middle, high) if self.starts[middle] <= at else (low, middle)
+        return low + 1
+
+    def line(self, number: int) -> str:
+        if number > len(self.starts):
+            return ''
+        end = self.starts[number] if number < len(self.starts) else len(self.text)
+        return self.text[self.starts[number - 1]:end].rstrip('\r\n')
+
+    def say(self, sentence: str) -> None:
+        """Adds a sentence on all findings."""
+        self.sentences.append(sentence)
+        if self.is_shown:
+            say(sentence)
+
+    def end(self, line: str) -> None:
+        """Adds the last line, which is printed as it is."""
+        self.sentences.append(line)
+        if self.is_shown:
+            print(line)
+
+    def show(self, finding: Finding, again: bool = True) -> None:
+        """Adds a finding, and prints it; unless `again`, without the sentences that were printed before."""
+        self.findings.append(finding)
+        if self.is_shown:
+            self.print(finding, again)
+
+    def print(self, finding: Finding, again: bool) -> None:
+        by_line: dict[int, list[Mark]] = {}
+        for mark in finding.marks:
+            by_line.setdefault(self.line_of(mark.start), []).append(mark)
+        first = next(iter(by_line), 0)
+        print(f'{self.name}:{first}: {finding.title}' if first else f'{self.name}: {finding.title}')
+        wide = len(str(max(by_line, default=0)))
+        for number, marks in by_line.items():
+            self.show_line(number, marks, wide)
+        for sentence in finding.sentences:
+            if again or sentence not in self.said:
+                say(sentence)
+            self.said.add(sentence)
+
+    def show_line(self, number: int, marks: list[Mark], wide: int) -> None:
+        begin, text = self.starts[number - 1], self.line(number)
+        low, high = 0, len(text)
+        if len(text) > WIDTH:
+            low = min(max(0, marks[0].start - begin - WIDTH // 3), len(text) - WIDTH)
+            high = low + WIDTH
+        before, behind = '.. ' if low else '', ' ..' if high < len(text) else ''
+        shown = ''.join(char if char.isprintable() or char == '\t' else '?' for char in text[low:high])
+        print(f'{number:>{wide}} | {before}{shown}{behind}'.rstrip())
+        plain = [mark for mark in marks if not mark.note]
+        rows = [plain] if plain else []
+        for row in rows + [[mark] for mark in marks if mark.note]:
+            under = ' ' * len(before)
+            for char_at in range(low, high + (high == len(text))):
+                hit = any(mark.start - begin <= char_at < mark.end - begin for mark in row)
+                char = text[char_at] if char_at < len(text) else ' '
+                under += '\t' if char == '\t' and not hit else ('^' if hit else ' ') * columns(char)
+            print(f'{"":>{wide}} | {under.rstrip()} {row[0].note}'.rstrip())
+
+    def tree(self) -> dict[str, Any]:
+        """Returns the findings as data, with lines and columns counted from 1."""
+        def place(mark: Mark) -> dict[str, Any]:
+            line = self.line_of(mark.start)
+            column = mark.start - self.starts[line - 1] + 1
+            return {'line': line, 'column': column, 'length': mark.end - mark.start, 'note': mark.note}
+
+        return {'file': self.name, 'sentences': self.sentences, 'places': [
+            {'title': each.title, 'marks': list(map(place, each.marks)), 'sentences': each.sentences}
+            for each in self.findings]}
