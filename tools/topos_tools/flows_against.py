@@ -1,0 +1,46 @@
+"""Compares what rules let pass with what a description permits, by pairs of hosts."""
+from collections.abc import Iterator
+
+from .flows_answer import Pair
+from .flows_list import Listing, lines_text
+from .flows_services import MOST_SERVICE, of_words, told_services
+from .import_sets import Numbers, complement, intersection
+from .query import Programs
+
+
+def permitted(programs: Programs, description: bytes) -> dict[Pair, Numbers]:
+    """Returns the services of each permitted flow."""
+    found: dict[Pair, Numbers] = {}
+    for each in programs.ask(description, 'network')['flows']:
+        if each['permitted']:
+            found[each['flow'][0], each['flow'][1]] = of_words(each['services'])
+    return found
+
+
+def size(numbers: Numbers) -> int:
+    return sum(high - low + 1 for low, high in numbers)
+
+
+def differences(listing: Listing, flows: dict[Pair, Numbers], owned: dict[str, Numbers]) -> list[str]:
+    """Returns a line for each pair that differs: most services first, then most senders, on either side."""
+    found: list[tuple[bool, int, int, str]] = []
+    for pair in listing.pairs():
+        for services, line in lines_of(listing, pair, flows.get(pair, ())):
+            found.append((line.startswith('description'), -size(services), -size(owned[pair[0]]), line))
+    return [each[-1] for each in sorted(found, key=lambda each: each[:-1])]
+
+
+def lines_of(listing: Listing, pair: tuple[str, str], services: Numbers) -> Iterator[tuple[Numbers, str]]:
+    """Yields what the rules may let pass and the description does not permit, and the other way round."""
+    arrow = f'{pair[0]} -> {pair[1]}'
+    open_ = intersection(listing.upper.any(pair), complement(services, MOST_SERVICE))
+    if open_:
+        parts = [part for part in listing.upper.pairs[pair] if intersection(part.services, open_)]
+        whole = listing.lower.whole(pair)
+        doubt = '' if not intersection(open_, complement(whole, MOST_SERVICE)) else ', in part or in doubt'
+        lines = lines_text({line for part in parts for line in part.lines})
+        yield open_, f'rules alone: {arrow}: {told_services(open_)}{doubt} ({lines}), as {parts[0].passes}'
+    closed = intersection(services, complement(listing.lower.whole(pair), MOST_SERVICE))
+    if closed:
+        doubt = ', in part or in doubt' if intersection(closed, listing.upper.any(pair)) else ''
+        yield closed, f'description alone: {arrow}: {told_services(closed)}{doubt}'

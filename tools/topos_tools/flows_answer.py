@@ -1,0 +1,103 @@
+"""Asks `topos-query flows` what rules let pass, and leads its rules back to the lines of the save."""
+import json
+import re
+import tempfile
+from dataclasses import dataclass
+from typing import Any
+
+from .flows_services import number_of
+from .import_bounds import Bound
+from .import_save import MARK, Save
+from .import_sets import Numbers, joined
+from .query import VERSION, Programs, Stopped, answered
+
+Pair = tuple[str | None, str | None]  # None is for the addresses of no host
+POLICY = 0  # in place of a line
+COMMENT = re.compile(r'-m comment --comment "line (\d+)')
+PROTOCOLS = {1: 'icmp', 6: 'tcp', 17: 'udp'}
+
+
+@dataclass
+class Range:
+    """A range of services that pass, wholly or in part."""
+    services: Numbers
+    passes: str
+    drops: str | None  # if some packets of the services do not pass
+    lines: tuple[int, ...]
+
+
+@dataclass
+class Flows:
+    """What one text lets pass, by pairs, and the lines of the save of which no rule is ever met."""
+    pairs: dict[Pair, list[Range]]
+    lines: set[int]
+    dead: set[int]
+
+    def whole(self, pair: Pair) -> Numbers:
+        return joined(each for part in self.pairs.get(pair, ()) if part.drops is None for each in part.services)
+
+    def any(self, pair: Pair) -> Numbers:
+        return joined(each for part in self.pairs.get(pair, ()) for each in part.services)
+
+
+Places = dict[tuple[str, int], int]  # the line of the save by chain and number of the rule
+
+
+def texts_of(text: str, save: Save | None) -> list[str]:
+    """Returns the texts that are asked about: both bounds of a save, or one if they are the same."""
+    if save is None:
+        return [text]
+    bounds = [Bound(save, True).text, Bound(save, False).text]
+    different = bounds if bounds[0].chains != bounds[1].chains else bounds[:1]
+    return [bound.written(['topos-flows']) for bound in different]
+
+
+def is_imported(text: str) -> bool:
+    return text.startswith(MARK)
+
+
+def places_of(text: str) -> Places:
+    """Returns the line of the save for each rule, which its comment has; the line itself without a comment."""
+    places: Places = {}
+    counts: dict[str, int] = {}
+    for number, line in enumerate(text.split('\n'), 1):
+        words = line.split(maxsplit=2)
+        if words[:1] == ['-A']:
+            counts[words[1]] = counts.get(words[1], 0) + 1
+            comment = COMMENT.search(line)
+            places[words[1], counts[words[1]]] = int(comment[1]) if comment else number
+    return places
+
+
+def ask_flows(programs: Programs, description: bytes, text: str) -> Flows:
+    """Returns what `topos-query flows` answers on one text."""
+    with tempfile.NamedTemporaryFile('w', encoding='utf-8', errors='surrogateescape') as file:
+        file.write(text)
+        file.flush()
+        words = [programs.query, 'flows', 'iptables', '/dev/stdin', file.name]
+        answer: dict[str, Any] = json.loads(answered(words, description))
+    if answer['version'] != VERSION:
+        raise Stopped(f'{programs.query} answers in version {answer["version"]} of its format: '
+                      f'version {VERSION} is read')
+    places = places_of(text)
+    pairs = {(each['from'], each['to']): [range_of(part, places) for part in each['services']]
+             for each in answer['pairs']}
+    dead = {(each['chain'], each['rule']) for each in answer.get('dead', [])}
+    met = {line for place, line in places.items() if place not in dead}
+    return Flows(pairs, set(places.values()), set(places.values()) - met)
+
+
+def range_of(part: dict[str, Any], places: Places) -> Range:
+    rules = [(each['chain'], each['rule']) for each in part.get('rules', [])]
+    if not places.keys() >= set(rules):
+        raise Stopped('the answer of topos-query names a rule that the text does not have')
+    lines = {places[place] for place in rules} | ({POLICY} if part.get('default') else set())
+    drops = None if part['drops'] is None else event_of(part['drops'])
+    return Range(((number_of(part['low']), number_of(part['high'])),), event_of(part['passes']), drops,
+                 tuple(sorted(lines)))
+
+
+def event_of(packet: dict[str, Any]) -> str:
+    """Returns a packet as the line of an events file."""
+    protocol = PROTOCOLS.get(packet['proto'], packet['proto'])
+    return f'packet {packet["src"]} {packet["dst"]} {protocol} {packet["sport"]} {packet["dport"]}'

@@ -1,0 +1,140 @@
+"""Writes the flows that rules let pass as a list for a description."""
+import json
+from collections.abc import Iterator
+from dataclasses import dataclass
+
+from .flows_answer import POLICY, Flows, Pair, Range
+from .flows_services import ALL_SERVICES, MOST_OF_FLOW, MOST_SERVICE, other_words, told_services, words_of_services
+from .import_sets import Numbers, complement, intersection, joined
+
+MOST_LINES = 8  # that are shown behind a flow
+
+
+@dataclass
+class Listing:
+    """What passes between hosts: in `upper`, and surely, in `lower`."""
+    hosts: list[str]
+    upper: Flows
+    lower: Flows
+    has_parts: bool = False  # whether services that pass in part are listed too
+
+    def pairs(self) -> Iterator[tuple[str, str]]:
+        for sender in self.hosts:
+            for receiver in self.hosts:
+                if sender != receiver:
+                    yield sender, receiver
+
+    def doubtful(self, pair: Pair, services: Numbers) -> Numbers:
+        """Returns the services that only `upper` lets pass."""
+        return intersection(services, complement(self.lower.whole(pair), MOST_SERVICE))
+
+    def dead(self) -> list[int]:
+        """Lists the lines of which no rule of either text is met."""
+        met = (self.upper.lines - self.upper.dead) | (self.lower.lines - self.lower.dead)
+        return sorted((self.upper.lines | self.lower.lines) - met)
+
+    # The text.
+
+    def text(self, rules: str, description: str, notes: list[str]) -> str:
+        counts = [sum(bool(found) for found in map(kind, self.pairs())) for kind in (self.upper.whole, self.parts)]
+        lines = [f'# New connections that {rules} lets pass between the hosts of {description}: {counts[0]} flows,',
+                 f'# {counts[1]} in part. Behind a flow are the lines of {rules} that let it pass.', 'flow = [']
+        for pair in self.pairs():
+            lines += self.entries(pair)
+        return '\n'.join([*lines, ']', *self.inner_lines(), *self.nobody_lines(), *self.dead_lines(), *notes, ''])
+
+    def parts(self, pair: Pair) -> list[Range]:
+        return [part for part in self.upper.pairs.get(pair, ()) if part.drops is not None]
+
+    def entries(self, pair: Pair) -> Iterator[str]:
+        """Yields the entry of a pair, and comments on what passes in part."""
+        listed = self.upper.any(pair) if self.has_parts else self.upper.whole(pair)
+        if listed:
+            yield f'  {"" if is_flow(listed) else "# "}{entry(pair, listed)}  # {"; ".join(self.notes(pair, listed))}'
+        for lines, ranges in grouped(self.parts(pair)).items():
+            services = joined(each for part in ranges for each in part.services)
+            if self.has_parts:
+                yield f'  #   in part: {told_services(services)} ({lines_text(lines)})'
+            else:
+                doubt = '' if intersection(services, self.lower.any(pair)) else '; in doubt'
+                yield f'  # in part: {entry(pair, services)}  # {lines_text(lines)}{doubt}'
+            yield f'  #   {ranges[0].passes} passes, {ranges[0].drops} does not'
+
+    def notes(self, pair: Pair, listed: Numbers) -> Iterator[str]:
+        """Yields the notes behind an entry."""
+        yield lines_text({line for part in self.upper.pairs[pair] if self.has_parts or part.drops is None
+                          for line in part.lines})
+        doubtful = intersection(listed, complement(self.lower.any(pair), MOST_SERVICE)) if self.has_parts else \
+            self.doubtful(pair, listed)
+        if doubtful:
+            yield 'in doubt: ' + told_services(doubtful)
+        if other_words(listed):
+            yield 'also ' + ', '.join(other_words(listed))
+        if len(words_of_services(listed)) > MOST_OF_FLOW:
+            yield f'{len(words_of_services(listed))} services: a flow has at most {MOST_OF_FLOW}'
+
+    def inner_lines(self) -> Iterator[str]:
+        for host in self.hosts:
+            services = self.upper.any((host, host))
+            if services:
+                yield f'# within {host}: {self.told((host, host))}'
+
+    def nobody_lines(self) -> Iterator[str]:
+        """Yields lines on addresses of no host."""
+        for pair in self.upper.pairs:
+            if None in pair:
+                ends = [host or 'no host' for host in pair]
+                yield f'# from {ends[0]} to {ends[1]}: {self.told(pair)}, as {self.upper.pairs[pair][0].passes}'
+
+    def told(self, pair: Pair) -> str:
+        lines = {line for part in self.upper.pairs[pair] for line in part.lines}
+        in_part = ', in part' if self.parts(pair) else ''
+        return f'{told_services(self.upper.any(pair))}{in_part} ({lines_text(lines)})'
+
+    def dead_lines(self) -> Iterator[str]:
+        dead = self.dead()
+        if dead:
+            yield '# no forwarded packet meets the rules of ' + lines_text(dead, len(dead))
+
+    # The data.
+
+    def tree(self) -> dict[str, object]:
+        return {'version': 1, 'pairs': [self.pair_tree(pair) for pair in self.upper.pairs], 'dead': self.dead()}
+
+    def pair_tree(self, pair: Pair) -> dict[str, object]:
+        whole = self.upper.whole(pair)
+        return {'from': pair[0], 'to': pair[1],
+                'services': ['everything'] if whole == ALL_SERVICES else words_of_services(whole),
+                'other': other_words(whole), 'in_doubt': words_of_services(self.doubtful(pair, whole)),
+                'lines': sorted({line for part in self.upper.pairs[pair] for line in part.lines}),
+                'parts': [{'services': told_services(part.services), 'passes': part.passes, 'drops': part.drops,
+                           'lines': list(part.lines)} for part in self.parts(pair)]}
+
+
+def is_flow(services: Numbers) -> bool:
+    """Whether a description can have the flow, perhaps without other protocols."""
+    words = words_of_services(services)
+    return services == ALL_SERVICES or 0 < len(words) <= MOST_OF_FLOW
+
+
+def entry(pair: Pair, services: Numbers) -> str:
+    """Returns a flow as a description has it, or in words if it has no service that a description can have."""
+    words = words_of_services(services)
+    if not words and services != ALL_SERVICES:
+        return f'{pair[0]} -> {pair[1]}: {told_services(services)}'
+    return json.dumps([*pair, *words]) + ','
+
+
+def grouped(ranges: list[Range]) -> dict[tuple[int, ...], list[Range]]:
+    """Groups ranges by the lines that let them pass."""
+    found: dict[tuple[int, ...], list[Range]] = {}
+    for each in ranges:
+        found.setdefault(each.lines, []).append(each)
+    return found
+
+
+def lines_text(given: set[int] | tuple[int, ...] | list[int], most: int = MOST_LINES) -> str:
+    lines = sorted(each for each in given if each != POLICY)
+    shown = ' '.join(map(str, lines[:most])) + (f' and {len(lines) - most} more' if len(lines) > most else '')
+    told = [('lines ' if len(lines) > 1 else 'line ') + shown] if lines else []
+    return ' and '.join(told + (['the policy'] if POLICY in given else []))
