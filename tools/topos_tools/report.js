@@ -8,7 +8,7 @@
   const names = data.names, count = names.length;
   const SAID = {
     A: 'permitted with answers', a: 'permitted without answers', D: 'asked for and denied',
-    G: 'not asked for, and no invariant denies it (a gap)', h: 'not asked for, and an invariant denies it',
+    G: 'not asked for, and no invariant denies it (a gap)', f: 'not asked for, and an invariant denies it',
     '': 'no such host',
   };
   document.documentElement.classList.add('js');
@@ -38,7 +38,7 @@
   function words(from, to) {
     const by = deniedBy(from, to).join(', ');
     const more = {
-      D: ` by ${by}, ${services(from, to)}`, h: ` (${by})`, G: '',
+      D: ` by ${by}, ${services(from, to)}`, f: ` (${by})`, G: '',
     }[state(from, to)] ?? `, ${services(from, to)}`;
     return `${names[from]} → ${names[to]}: ${SAID[state(from, to)]}${more}`;
   }
@@ -86,7 +86,7 @@
   // The matrix: a chosen cell, by mouse or by keys.
   const table = byId('cells'), body = table.tBodies[0], head = table.tHead.rows[0];
   const rows = [...body.rows], tops = [...head.cells].slice(1), grid = [], placeOf = new Map();
-  const isLarge = !!table.querySelector('.line');
+  const isLarge = !!table.querySelector('.line'), ROWS_AT_ONCE = 8;
   let order = data.orders.file, selected = null, hot = [], starts = new Set();
 
   function madeCell(from, to) {
@@ -113,13 +113,24 @@
     return grid[from];
   }
   const column = to => [tops[to], ...grid.filter(Boolean).map(cells => cells[to])];
-  if (isLarge) {
-    const rowOf = new Map(rows.map((row, from) => [row, from]));
-    const seen = new IntersectionObserver(entries => entries.filter(each => each.isIntersecting).forEach(each => {
-      seen.unobserve(each.target);
-      cellsOf(rowOf.get(each.target));
-    }), { root: table.parentNode, rootMargin: '300px' });
+  // Makes the rows that the frame shows, a few at a time between two frames of the browser: the last seen first.
+  function makeSeenRows() {
+    const rowOf = new Map(rows.map((row, from) => [row, from])), waiting = [];
+    const idle = window.requestIdleCallback || (run => setTimeout(run, 20));
+    const makeSome = () => {
+      waiting.splice(-ROWS_AT_ONCE).reverse().forEach(cellsOf);
+      if (waiting.length) idle(makeSome, { timeout: 100 });
+    };
+    const seen = new IntersectionObserver(entries => {
+      const found = entries.filter(each => each.isIntersecting).map(each => each.target);
+      found.forEach(row => seen.unobserve(row));
+      if (found.length && !waiting.length) idle(makeSome, { timeout: 100 });
+      waiting.push(...found.map(row => rowOf.get(row)).reverse());
+    }, { root: table.parentNode, rootMargin: '300px' });
     rows.forEach(row => seen.observe(row));
+  }
+  if (isLarge) {
+    makeSeenRows();
     addEventListener('beforeprint', () => rows.forEach((_, from) => cellsOf(from)));
   } else {
     rows.forEach((_, from) => cellsOf(from));

@@ -39,7 +39,8 @@ def card(view: View, one: Invariant) -> str:
     square = classes(view, one)
     parts = [guards(view, one), exceptions(view, one), entries(view, one), square]
     columns = ''.join(f'<div>{part}</div>' for part in parts if part)
-    return f'''<article class="card" id="invariant-{one.number}" aria-labelledby="invariant-{one.number}-title">
+    style = 'card' if view.is_small else 'card lazy'
+    return f'''<article class="{style}" id="invariant-{one.number}" aria-labelledby="invariant-{one.number}-title">
 <h3 id="invariant-{one.number}-title">Invariant {one.number}: {esc(one.template)}{title} {pill}
 <span class="soft">{at_line(one.place)}</span></h3>
 {reasons_above(one)}<p>{esc(template_words(one.template, one.own))}</p>

@@ -1,7 +1,7 @@
 """The matrix of the page: rows open connections to columns, and the state of a flow has a shape and a colour."""
 from .report_summary import changed_flows
 from .report_view import View
-from .report_words import BARRED, COUNT_KEYS, DENIED, GAP, PERMITTED, SELF, STATES, esc
+from .report_words import COUNT_KEYS, DENIED, FORBIDDEN, GAP, PERMITTED, SELF, STATES, esc
 
 SIDES = ((16, 34), (40, 24), (64, 18), (128, 13))  # the largest number of hosts, and the pixels of a cell
 ROLES = ('cell', 'row', 'columnheader', 'rowheader', 'rowgroup', 'table')
@@ -87,7 +87,7 @@ def cell_title(view: View, flow: tuple[str, str]) -> str:
     """Returns the words on a flow: its state, its services, and the invariants that deny it."""
     state = view.network.states[flow]
     denied = ', '.join(map(str, view.network.denied_by(flow)))
-    more = {DENIED: f' by {denied}, {view.services(flow)}', GAP: '', BARRED: f' ({denied})'}
+    more = {DENIED: f' by {denied}, {view.services(flow)}', GAP: '', FORBIDDEN: f' ({denied})'}
     title = view.report.source.page.flow(*flow).title if state in PERMITTED + DENIED else ''
     return (f'{flow[0]} → {flow[1]}: {STATES[state]}' + more.get(state, f', {view.services(flow)}')
             + (f'. {title}' if title else ''))

@@ -12,7 +12,7 @@ from typing import Any
 
 from .page import Page, Place, read_page
 from .query import Programs, read_bytes
-from .report_words import (ANSWERED, BARRED, COUNT_KEYS, DEFAULTS, DENIED, GAP, ONE_WAY, PERMITTED, SELF,
+from .report_words import (ANSWERED, COUNT_KEYS, DEFAULTS, DENIED, FORBIDDEN, GAP, ONE_WAY, PERMITTED, SELF,
                            attribute_words)
 
 SCHEMA = 'topos-report 1'
@@ -32,7 +32,7 @@ def state_of(answer: dict[str, Any]) -> str:
         return ANSWERED if answer['answered'] else ONE_WAY
     if answer['asked']:
         return DENIED
-    return GAP if answer['gap'] else BARRED
+    return GAP if answer['gap'] else FORBIDDEN
 
 
 class Network:

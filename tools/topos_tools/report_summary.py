@@ -4,7 +4,7 @@ from collections.abc import Iterator
 from .report_changes import FlowChange
 from .report_model import Flow
 from .report_view import FEW, View, table
-from .report_words import BARRED, GAP, PERMITTED, STATES, counted, esc, verb
+from .report_words import FORBIDDEN, GAP, PERMITTED, STATES, counted, esc, verb
 
 MOST_CHANGES = 400
 
@@ -46,7 +46,7 @@ def tiles(view: View) -> str:
               ('holding', 'invariant holds', 'invariants hold', ''),
               ('failing', 'invariant fails', 'invariants fail', 'alarm' if counts['failing'] else ''),
               ('gaps', 'gap: not asked for, not denied', 'gaps: not asked for, not denied', care),
-              ('barred', 'not asked for, denied', 'not asked for, denied', '')]
+              ('forbidden', 'not asked for, denied', 'not asked for, denied', '')]
     return ''.join(f'<li class="{style}"><b data-count="{key}">{counts[key]:,}</b>'
                    f'<span>{one if counts[key] == 1 else many}</span></li>' for key, one, many, style in listed)
 
@@ -153,7 +153,7 @@ def changes(view: View) -> str:
 def change_row(view: View, change: FlowChange) -> str:
     style = f'{mark(change.before)}-{mark(change.after)}'
     def said(services: list[str], state: str) -> str:
-        return esc(' '.join(services)) or ('all traffic' if state and state not in GAP + BARRED else '')
+        return esc(' '.join(services)) or ('all traffic' if state and state not in GAP + FORBIDDEN else '')
     return (f'<tr class="change {style}"><th scope="row">{view.arrow(change.flow)}</th>'
             f'<td>{esc(STATES.get(change.before, "no such host"))}</td>'
             f'<td>{esc(STATES.get(change.after, "no such host"))}</td>'

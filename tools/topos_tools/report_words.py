@@ -2,17 +2,18 @@
 import html
 from typing import Any
 
-ANSWERED, ONE_WAY, DENIED, GAP, BARRED, SELF = 'A', 'a', 'D', 'G', 'h', '-'
+ANSWERED, ONE_WAY, DENIED, GAP, FORBIDDEN, SELF = 'A', 'a', 'D', 'G', 'f', '-'
 PERMITTED = ANSWERED + ONE_WAY
-COUNT_KEYS = {ANSWERED: 'with_answers', ONE_WAY: 'without_answers', DENIED: 'denied', GAP: 'gaps', BARRED: 'barred'}
+COUNT_KEYS = {ANSWERED: 'with_answers', ONE_WAY: 'without_answers', DENIED: 'denied', GAP: 'gaps',
+              FORBIDDEN: 'forbidden'}
 STATES = {
     ANSWERED: 'permitted with answers',
     ONE_WAY: 'permitted without answers',
     DENIED: 'asked for and denied',
     GAP: 'not asked for, and no invariant denies it (a gap)',
-    BARRED: 'not asked for, and an invariant denies it',
+    FORBIDDEN: 'not asked for, and an invariant denies it',
 }
-SHORT = {ANSWERED: 'answered', ONE_WAY: 'unanswered', DENIED: 'denied', GAP: 'gap', BARRED: 'barred'}
+SHORT = {ANSWERED: 'answered', ONE_WAY: 'unanswered', DENIED: 'denied', GAP: 'gap', FORBIDDEN: 'forbidden'}
 
 # A sentence on each template, after docs/FORMATS.md.
 TEMPLATES = {
