@@ -134,6 +134,15 @@ class Policy:
             return joined('or', [covered(field, prefix) for prefix in self.at[host]])
         return f'(not {joined("or", [covered(field, prefix) for at in self.at.values() for prefix in at])})'
 
+    def pair(self, one, other):
+        """That a packet goes from one owner to another. None owns the addresses of no host."""
+        return f'(and {self.owner("source", one)} {self.owner("target", other)})'
+
+    def owner(self, field, host):
+        if host is not None:
+            return self.owned(field, host)
+        return f'(not {joined("or", [self.owned(field, each) for each in self.at])})'
+
     def received(self, one, other):
         services = [self.served(*spelled(text)) for text in self.services.get((one, other), [])]
         return joined('and', [self.owned('target', other)] + [joined('or', services)] * bool(services))
@@ -143,13 +152,33 @@ class Policy:
         return joined('and', [f'(= kind {number(NUMBERS[name], 8)})', between('dport', low, high, 16)])
 
 
-def question(description, policy, rules):
-    """Satisfiable exactly where the rules and the policy differ."""
-    constants = [f'(declare-const {field} (_ BitVec {bits}))' for field, bits in OPTIONS.values()]
-    alone = f'(passes {FIELDS} false)'
-    answers = f'(passes {SWAPPED} false)'
+def differences():
+    """For each kind of list, whether the rules forward its last packet, and what the policy expects."""
+    alone, answers = f'(passes {FIELDS} false)', f'(passes {SWAPPED} false)'
     expected = f'(or (permitted {FIELDS}) (stateful {SWAPPED}))'
-    behind = [f'(passes {FIELDS} {answers})', f'(passes {FIELDS} (or {alone} {answers}))']
-    differences = [f'(distinct {alone} (permitted {FIELDS}))', *(f'(distinct {each} {expected})' for each in behind)]
-    return '\n'.join([*Policy(description, policy).functions(), *Rules(rules).functions(), *constants,
-                      f'(assert {joined("or", differences)})', '(check-sat)', ''])
+    return {'new': (alone, f'(permitted {FIELDS})'),
+            'answer': (f'(passes {FIELDS} {answers})', expected),
+            'later': (f'(passes {FIELDS} (or {alone} {answers}))', expected)}
+
+
+def of(policy, rules, asserted):
+    constants = [f'(declare-const {field} (_ BitVec {bits}))' for field, bits in OPTIONS.values()]
+    return '\n'.join([*policy.functions(), *Rules(rules).functions(), *constants, f'(assert {asserted})', '(check-sat)', ''])
+
+
+def question(description, policy, rules):
+    """Satisfiable exactly if the rules and the policy differ."""
+    return of(Policy(description, policy), rules,
+              joined('or', [f'(distinct {passes} {expected})' for passes, expected in differences().values()]))
+
+
+def question_of_pairs(description, policy, rules, listed):
+    """Satisfiable exactly if a packet differs in a kind of list and a direction that are not listed for its owners.
+    What is listed are the owners of source and destination, the kind, and whether the rules forward or drop."""
+    policy, parts = Policy(description, policy), []
+    for kind, (passes, expected) in differences().items():
+        for direction, differs in (('forward', f'(and {passes} (not {expected}))'),
+                                   ('drop', f'(and (not {passes}) {expected})')):
+            pairs = [policy.pair(one, other) for one, other, *case in listed if case == [kind, direction]]
+            parts.append(joined('and', [differs, *[f'(not {pair})' for pair in pairs]]))
+    return of(policy, rules, joined('or', parts))

@@ -1,0 +1,91 @@
+"""What the rules of an iptables-save text do with a packet: an interpreter of its own, by iptables(8)."""
+import ipaddress
+
+from packets import NUMBERS
+
+FIELDS = ('source', 'destination', 'protocol', 'sport', 'dport')
+ENDS = {'ACCEPT': True, 'DROP': False, 'REJECT': False}
+
+
+def packet_of(event):
+    """The numbers of a packet."""
+    ends = int(ipaddress.ip_address(event.source)), int(ipaddress.ip_address(event.destination))
+    return dict(zip(FIELDS, (*ends, event.protocol, *event.ports)))
+
+
+class Rule:
+    """The parts of a line `-A CHAIN ..`: a field with a range and whether it is negated, states, and a target."""
+
+    def __init__(self, words):
+        self.parts, self.states, self.target, negated = [], [], '', False
+        words = iter(words)
+        for word in words:
+            if word == '!':
+                negated = True
+                continue
+            value = next(words)
+            if word == '-j':
+                self.target = value
+            elif word == '--ctstate':
+                self.states.append((set(value.split(',')), negated))
+            elif word not in ('-m', '--reject-with'):
+                self.parts.append((*self.part(word, value), negated))
+            negated = False
+
+    @staticmethod
+    def part(option, value):
+        if option in ('-s', '-d'):
+            network = ipaddress.ip_network(value, strict=False)
+            return {'-s': 'source', '-d': 'destination'}[option], int(network[0]), int(network[-1])
+        if option == '-p':
+            number = NUMBERS.get(value) or int(value)
+            return 'protocol', number, number
+        low, _, high = value.partition(':')
+        return {'--sport': 'sport', '--dport': 'dport'}[option], int(low), int(high or low)
+
+    def matches(self, packet, state):
+        return all((low <= packet[field] <= high) != negated for field, low, high, negated in self.parts) and all(
+            (state in states) != negated for states, negated in self.states)
+
+
+class Chains:
+    """The chains of a text, with the numbers of their rules as `iptables -L --line-numbers` prints them."""
+
+    def __init__(self, text):
+        self.policy, self.rules = {}, {}
+        for line in text.splitlines():
+            if line.startswith(':'):
+                name, policy = line[1:].split()[:2]
+                self.policy[name], self.rules[name] = policy, []
+            elif line.startswith('-A'):
+                _, chain, *words = line.split()
+                self.rules[chain].append(Rule(words))
+
+    def walk(self, chain, packet, state, met):
+        """The verdict and the rule that decides; nothing if the chain returns. Adds the rules that fit to `met`."""
+        for number, rule in enumerate(self.rules[chain], start=1):
+            if not rule.matches(packet, state):
+                continue
+            met.add((chain, number))
+            if rule.target in ENDS:
+                return ENDS[rule.target], (chain, number)
+            if rule.target == 'RETURN':
+                return None
+            if rule.target in self.rules:
+                ended = self.walk(rule.target, packet, state, met)
+                if ended is not None:
+                    return ended
+        return None
+
+    def decide(self, packet, state, met):
+        """Whether a forwarded packet passes, and the rule that decides; None for the policy of FORWARD."""
+        return self.walk('FORWARD', packet, state, met) or (self.policy['FORWARD'] == 'ACCEPT', None)
+
+    def named_protocols(self):
+        return {low for rules in self.rules.values() for rule in rules for field, low, _, _ in rule.parts
+                if field == 'protocol'}
+
+    def cuts(self, *fields):
+        """The first numbers of ranges, and the first ones after them."""
+        return {end for rules in self.rules.values() for rule in rules for field, low, high, _ in rule.parts
+                if field in fields for end in (low, high + 1)}
