@@ -29,13 +29,14 @@ text_short (e ∷ es) range =
 
 -- 2. Its lines.
 
-lines_of : (entries : List Entry) → AreInRange entries → lines (text entries) ≡ map bare_line entries
-lines_of [] range = refl
-lines_of (e ∷ es) range =
+lines_of : (entries : List Entry) → AreInRange entries → IsTrue (list_all asks_of_ip entries) → lines (text entries) ≡ map bare_line entries
+lines_of [] range asks = refl
+lines_of (e ∷ es) range asks =
     let parts = and_parts (in_range e) (list_all in_range es) range in
+    let ask = and_parts (asks_of_ip e) (list_all asks_of_ip es) asks in
     ap (λ bs. lines (bs ++ text es)) (line_is e) ∙ ap lines (append_assoc (bare_line e) (10 ∷ []) (text es)) ∙ lines_ended (bare_line e)
-    (text es) (bare_lacks e parts.0)
-    ∙ ap (λ ls. bare_line e ∷ ls) (lines_of es parts.1)
+    (text es) (bare_lacks e parts.0 ask.0)
+    ∙ ap (λ ls. bare_line e ∷ ls) (lines_of es parts.1 ask.1)
 
 -- If the entries of a list are free of conflicts, so are the entries of a prefix.
 clear_front : (xs ys : List Entry) → IsUnambiguous (xs ++ ys) → IsUnambiguous xs
@@ -81,7 +82,7 @@ text_read_again entries table =
     let few = table.accepted.0 in
     record {
       short = omega (arith, text_short entries table.in_range);
-      told = subst (λ (ls : List (List ℕ)). Follows AddsEntry 1 [] ls entries) (sym (lines_of entries table.in_range))
+      told = subst (λ (ls : List (List ℕ)). Follows AddsEntry 1 [] ls entries) (sym (lines_of entries table.in_range table.asks))
           (entries_follow 1 [] entries table.accepted table.asks table.in_range);
       ends = tt;
     }

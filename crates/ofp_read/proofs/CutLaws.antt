@@ -1,40 +1,35 @@
--- Lemmas on the split before the action.
-use Rattle.std.proofs.Common.{◌≡◌, ℕ, suc, ◌+◌, ◌<◌, Bool, true, false, ◌&&◌, cond, List, [], ◌∷◌, ◌++◌, Option, Some, None, length, take, drop, get_or, refl, sym, ap, ◌∙◌, arith, append_assoc}
-use Rattle.std.specs.Option.{option_map}
-use Rattle.std.proofs.Math.Seq.{take-suc}
-use Rattle.std.proofs.lemmas.List.{drop_more}
+-- A text is cut at its first separator.
+use Rattle.std.proofs.Common.{◌≡◌, inl, inr, ℕ, ◌+◌, ◌<◌, ◌≤◌, ◌-◌, false, List, [], ◌∷◌, ◌++◌, Some, None, length, take, drop, get_or, position, length-drop, refl, sym, ap, ◌∙◌, arith}
+use Rattle.std.specs.List.{position_or_len}
+use Rattle.std.proofs.lemmas.Bool.Decides.{nat_tests}
+use Rattle.std.proofs.lemmas.List.{drop_more, get_or-take, length-take-le, take_all, take-append-drop}
+use Rattle.std.proofs.lemmas.List.Elements.{All-from_get_or}
+use Rattle.std.proofs.lemmas.List.Quantifiers.{position-Some}
+use Rattle.std.proofs.lemmas.List.Sums.{fails_before_first}
 use Rattle.ofp_read.specs.Grammar.{is_separator}
-use Rattle.ofp_read.specs.inner.Cut.{begins_action, cut_action}
+use Rattle.ofp_read.specs.inner.Cut.{IsCut}
 
--- The same split of a text with more bytes at the front.
-abbrev pub shifted : List ℕ → Option (List ℕ × List ℕ) → Option (List ℕ × List ℕ)
-shifted front parts = option_map (λ (p : List ℕ × List ℕ). (front ++ p.0, p.1)) parts
+-- In terms of the code.
+pub cut_found : (text : List ℕ) (at : ℕ) → position is_separator text ≡ Some at
+    → IsCut text (take at text) (take (length text - (at + 1)) (drop (at + 1) text))
+cut_found text at is =
+    let found = position-Some is_separator text at 0 is in
+    let rest : take (length text - (at + 1)) (drop (at + 1) text) ≡ drop (at + 1) text = take_all (length text - (at + 1)) (drop (at + 1) text)
+    (omega (arith, length-drop (at + 1) text)) in
+    record {
+      whole = All-from_get_or (λ b. is_separator b ≡ false) (take at text) 0
+          (λ k within. let below : k < at = omega (arith, within, length-take-le at text (omega (arith, found.0))) in ap is_separator (get_or-take at text k 0 below) ∙ found.2 k below);
+      cut = inr (
+        get_or text at 0,
+        found.1,
+        sym (take-append-drop at text) ∙ ap (λ bs. take at text ++ bs) (drop_more text at 0 found.0 ∙ ap (λ bs. get_or text at 0 ∷ bs) (sym rest)),
+      );
+    }
 
-shifted_once : (front : List ℕ) (b : ℕ) (o : Option (List ℕ × List ℕ)) → shifted front (shifted (b ∷ []) o) ≡ shifted (front ++ b ∷ []) o
-shifted_once front b None = refl
-shifted_once front b (Some p) = ap (λ bs. Some (bs, p.1)) (sym (append_assoc front (b ∷ []) p.0))
-
--- If no action begins here.
-pub cut_past : (begins : Bool) (b : ℕ) (bs : List ℕ) → (begins && begins_action (b ∷ bs)) ≡ false
-    → cut_action begins (b ∷ bs) ≡ shifted (b ∷ []) (cut_action (is_separator b) bs)
-cut_past begins b bs none = ap (λ t. cond t (Some ([], b ∷ bs)) (shifted (b ∷ []) (cut_action (is_separator b) bs))) none
-
-pub cut_here : (b : ℕ) (bs : List ℕ) → begins_action (b ∷ bs) ≡ true → cut_action true (b ∷ bs) ≡ Some ([], b ∷ bs)
-cut_here b bs begins = ap (λ t. cond t (Some ([], b ∷ bs)) (shifted (b ∷ []) (cut_action (is_separator b) bs))) begins
-
--- One byte further.
-pub cut_next : (line : List ℕ) (place : ℕ) (begins next : Bool) → place < length line
-    → (begins && begins_action (drop place line)) ≡ false → next ≡ is_separator (get_or line place 0)
-    → shifted (take place line) (cut_action begins (drop place line)) ≡ shifted (take (place + 1) line)
-    (cut_action next (drop (place + 1) line))
-cut_next line place begins next within none is =
-    let here = drop_more line place 0 within in
-    let one : suc place ≡ place + 1 = omega arith in
-    let front : take (place + 1) line ≡ take place line ++ (get_or line place 0 ∷ []) = ap (λ n. take n line) (sym one)
-    ∙ take-suc line place 0 within in
-    ap (λ bs. shifted (take place line) (cut_action begins bs)) here
-    ∙ ap (shifted (take place line)) (cut_past begins (get_or line place 0) (drop (place + 1) line)
-    (ap (λ bs. begins && begins_action bs) (sym here) ∙ none))
-    ∙ shifted_once (take place line) (get_or line place 0) (cut_action (is_separator (get_or line place 0)) (drop (place + 1) line))
-    ∙ ap (λ bs. shifted bs (cut_action (is_separator (get_or line place 0)) (drop (place + 1) line))) (sym front)
-    ∙ ap (λ t. shifted (take (place + 1) line) (cut_action t (drop (place + 1) line))) (sym is)
+pub cut_nowhere : (text : List ℕ) → position is_separator text ≡ None → IsCut text text []
+cut_nowhere text is =
+    let past : length text ≤ position_or_len is_separator text = grind (arith, nat_tests) in
+    record {
+      whole = All-from_get_or (λ b. is_separator b ≡ false) text 0 (λ k within. fails_before_first is_separator text k 0 (omega (arith, within, past)));
+      cut = inl (refl, refl);
+    }

@@ -1,6 +1,5 @@
 -- A file has at most one parse result and at most one first error, and not both; its parse result is a table.
 use Rattle.std.proofs.Common.{◌≡◌, inl, inr, ℕ, ◌+◌, List, [], ◌∷◌, ◌++◌, refl, sym, ap, subst, ◌∙◌, arith}
-use Rattle.std.specs.Prelude.{Result, Ok, Err}
 use Rattle.text_core.specs.Lines.{lines}
 use Rattle.text_core.specs.Reading.{Follows}
 use Rattle.text_core.proofs.TextByLinesLaws.{IsSettled, one_reading as reading_once, one_fault as fault_once, no_reading_with_fault as reading_or_fault_alone}
@@ -9,43 +8,31 @@ use Rattle.ofp_rules.specs.Ambiguity.{Contradict}
 use Rattle.ofp_rules.specs.inner.Build.{IsTable}
 use Rattle.ofp_rules.proofs.TableLaws.{table_more, empty_table}
 use Rattle.ofp_read.specs.declared.fault.OfpWhy.{OfpWhy}
-use Rattle.ofp_read.specs.inner.FlowLine.{flow_of}
-use Rattle.ofp_read.specs.Grammar.{Writes, AddsEntry}
-use Rattle.ofp_read.proofs.LineLaws.{flow_of_written}
+use Rattle.ofp_read.specs.Grammar.{AddsEntry}
 use Rattle.ofp_read.proofs.RangeLaws.{written_in_range}
-use Rattle.ofp_read.proofs.UnwrittenLaws.{refused_by_steps}
+use Rattle.ofp_read.proofs.OnceLaws.{one_flow, one_reason, written_or_not}
 use Rattle.ofp_read.specs.TextLines.{IsBad, unwritten, too_many, ambiguous, flows_text, IsReading, HasFault}
 
 -- 1. One line.
 
-one_entry : (line : List ℕ) (e f : Entry) → Writes line e → Writes line f → e ≡ f
-one_entry line e f a b =
-    let ok : ◌≡◌ {A = Result Entry OfpWhy} (Ok e) (Ok f) = sym (flow_of_written line e a) ∙ flow_of_written line f b in cc
-
 adds_one : (n : ℕ) (before now other : List Entry) (l : List ℕ) → AddsEntry n before l now → AddsEntry n before l other → now ≡ other
 adds_one n before now other l a b =
-    a.4 ∙ ap (λ e. before ++ e ∷ []) (one_entry l a.0 b.0 a.1 b.1) ∙ sym b.4
-
-written_or_not : (line : List ℕ) (e : Entry) (why : OfpWhy) → flow_of line ≡ Err why → Writes line e → ⊥
-written_or_not line e why refused writes = let read = flow_of_written line e writes in cc
+    a.4 ∙ ap (λ e. before ++ e ∷ []) (one_flow l a.0 b.0 a.1.0 b.1.0) ∙ sym b.4
 
 adds_not_bad : (n : ℕ) (before now : List Entry) (l : List ℕ) (why : OfpWhy) → AddsEntry n before l now → IsBad before l why → ⊥
-adds_not_bad n before now l why a (unwritten refused) = written_or_not l a.0 why (refused_by_steps l why refused) a.1
+adds_not_bad n before now l why a (unwritten refused) = written_or_not l a.0 why a.1 refused
 adds_not_bad n before now l why a (too_many e writes many) = let few = a.2 in omega arith
 adds_not_bad n before now l why a (ambiguous e f place writes few there clash) =
-    a.3 place f there (subst (Contradict f) (one_entry l e a.0 writes a.1) clash)
-
-same_why : (w v : OfpWhy) → ◌≡◌ {A = Result Entry OfpWhy} (Err w) (Err v) → w ≡ v
-same_why w v h = cc
+    a.3 place f there (subst (Contradict f) (one_flow l e a.0 writes.0 a.1.0) clash)
 
 one_why : (before : List Entry) (l : List ℕ) (w v : OfpWhy) → IsBad before l w → IsBad before l v → w ≡ v
-one_why before l w v (unwritten a) (unwritten b) = same_why w v (sym (refused_by_steps l w a) ∙ refused_by_steps l v b)
-one_why before l w v (unwritten a) (too_many e writes many) = absurd (written_or_not l e w (refused_by_steps l w a) writes)
-one_why before l w v (unwritten a) (ambiguous e f place writes few there clash) = absurd (written_or_not l e w (refused_by_steps l w a) writes)
-one_why before l w v (too_many e writes many) (unwritten b) = absurd (written_or_not l e v (refused_by_steps l v b) writes)
+one_why before l w v (unwritten a) (unwritten b) = one_reason l w v a b
+one_why before l w v (unwritten a) (too_many e writes many) = absurd (written_or_not l e w writes a)
+one_why before l w v (unwritten a) (ambiguous e f place writes few there clash) = absurd (written_or_not l e w writes a)
+one_why before l w v (too_many e writes many) (unwritten b) = absurd (written_or_not l e v writes b)
 one_why before l w v (too_many e writes many) (too_many f other more) = refl
 one_why before l w v (too_many e writes many) (ambiguous d f place other few there clash) = absurd (omega (arith, many, few))
-one_why before l w v (ambiguous d f place other few there clash) (unwritten b) = absurd (written_or_not l d v (refused_by_steps l v b) other)
+one_why before l w v (ambiguous d f place other few there clash) (unwritten b) = absurd (written_or_not l d v other b)
 one_why before l w v (ambiguous d f place other few there clash) (too_many e writes many) = absurd (omega (arith, many, few))
 one_why before l w v (ambiguous d f place other few there clash) (ambiguous e g k writes less at_k contra) = refl
 

@@ -1,158 +1,114 @@
--- Fields are parsed from left to right if and only if they are those of an entry.
-use Rattle.std.proofs.Common.{◌≡◌, ◌⊎◌, inl, inr, ℕ, List, [], ◌∷◌, ◌++◌, refl, sym, ap, subst, ◌∙◌}
-use Rattle.std.specs.Prelude.{Option, Result, Ok, Err, unwrap_or}
+-- The partial entry of some fields: the entry that it makes has them, and a field that it rejects cannot follow them.
+use Rattle.std.proofs.Common.{◌≡◌, inl, inr, ℕ, List, [], ◌∷◌, ◌++◌, Option, Some, None, sym, subst, ◌∙◌}
+use Rattle.std.specs.Prelude.{Result, Ok, Err}
+use Rattle.std.specs.Option.{ok_or}
+use Rattle.text_core.proofs.StepsLaws.{if_parts}
 use Rattle.ofp_rules.specs.declared.entry.Action.{Action}
-use Rattle.ofp_rules.specs.declared.entry.FrameKind.{FrameKind}
-use Rattle.ofp_rules.specs.declared.entry.FrameKind.TheVariants.{Any}
 use Rattle.ofp_rules.specs.declared.entry.Entry.{Entry}
 use Rattle.ofp_read.specs.declared.fault.OfpWhy.{OfpWhy}
+use Rattle.ofp_read.specs.declared.fault.OfpWhy.TheVariants.{BadLine, UnknownField, BadValue}
 use Rattle.ofp_read.specs.declared.given.Given.{Given}
 use Rattle.ofp_read.specs.inner.FieldTable.{with_field}
-use Rattle.ofp_read.specs.inner.FlowLine.{goes_on, nothing_given, with_fields, entry_of}
-use Rattle.ofp_read.specs.Grammar.{Part, priority, kind, source, destination, protocol, source_port, destination_port, EachSays, no_field, one_part, two_parts, IsNoneOf, AreDistinct, AreFieldsOf}
-use Rattle.ofp_read.proofs.PartLaws.{Lacks, Has, Same, OfEach, of_each, IsGiven, Gives, gives_none, gives_more, still_given, with_part, same_but, one_or_not, has_own, has_with, unsaid_own}
-use Rattle.ofp_read.proofs.FieldLaws.{IsStep, step_of_read, read_of_says, read_protocol}
+use Rattle.ofp_read.specs.inner.FlowLine.{nothing_given, entry_of}
+use Rattle.ofp_read.specs.Grammar.{Part, kind, protocol, EachSays, no_field, one_part, two_parts, IsNoneOf, AreDistinct, AreFieldsOf}
+use Rattle.ofp_read.specs.Unwritten.{AreNew, IsBadField, unknown, twice, valueless}
+use Rattle.ofp_read.proofs.KeyLaws.{parts_about, one_about, each_about}
+use Rattle.ofp_read.proofs.PartLaws.{Lacks, Has, Same, OfEach, of_each, of_both, IsGiven, same_given, nothing_lacks, none_of_first, none_of_second, distinct_both, not_both, is_said, none_said, said_none, given_is_none, lacking_is_none, has_own, unsaid_own}
+use Rattle.ofp_read.proofs.FieldLaws.{IsStep, Told, told_or_unknown, step_of_read, read_of_each}
 
-pub goes_on_parts : {A B : Type 0} (r : Result A OfpWhy) (f : A → Result B OfpWhy) (y : B) → goes_on r f ≡ Ok y
-    → (x : A) × (r ≡ Ok x) × (f x ≡ Ok y)
-goes_on_parts (Ok x) f y h = (x, refl, h)
-goes_on_parts (Err why) f y h = cc
+pub each_both : (e : Entry) (ps qs : List Part) (ts us : List (List ℕ)) → EachSays e ps ts → EachSays e qs us
+    → EachSays e (ps ++ qs) (ts ++ us)
+each_both e [] qs [] us no_field b = b
+each_both e [] qs (t ∷ ts) us a b = elim a [ ]
+each_both e (p ∷ ps) qs [] us a b = elim a [ ]
+each_both e (p ∷ ps) qs (t ∷ ts) us (one_part says rest) b = one_part says (each_both e ps qs ts us rest b)
+each_both e (kind ∷ protocol ∷ ps) qs (t ∷ ts) us (two_parts n ip its says rest) b = two_parts n ip its says (each_both e ps qs ts us rest b)
 
--- 1. Fields that are parsed.
+-- 1. Fields that are read.
 
--- The entry agrees with the partial entry.
-abbrev Fits : Entry → Given → Type 0
-Fits e h = (p : Part) → IsGiven h p → Has p e h
+-- The partial entry of these fields, and the parts that they specify.
+pub record Reads (g : Given) (texts : List (List ℕ)) : Type 0 where
+  pub parts : List Part
+  pub once : AreDistinct parts
+  pub given : OfEach (IsGiven g) parts
+  pub others : (p : Part) → IsNoneOf p parts → Lacks p g
+  pub each : (e : Entry) → ((p : Part) → IsGiven g p → Has p e g) → EachSays e parts texts
 
-record IsSteps (g h : Given) (texts : List (List ℕ)) : Type 0 where
-  parts : List Part
-  gives : Gives g h parts
-  each : (e : Entry) → Fits e h → EachSays e parts texts
+pub reads_none : Reads nothing_given []
+reads_none = record { parts = []; once = tt; given = tt; others = λ p none. nothing_lacks p; each = λ e fits. no_field }
 
-more_steps : (g f h : Given) (text : List ℕ) (texts : List (List ℕ)) → IsStep g f text → IsSteps f h texts → IsSteps g h (text ∷ texts)
-more_steps g f h text texts one rest = record {
-  parts = one.parts ++ rest.parts;
-  gives = gives_more g f h one.parts rest.parts one.gives rest.gives;
-  each = λ e fits. one.says e (of_each (IsGiven f) (λ p. Has p e f) one.parts (has_first e fits) one.gives.given) rest.parts texts (rest.each e fits);
-}
-  where
-    has_first : (e : Entry) → Fits e h → (p : Part) → IsGiven f p → Has p e f
-    has_first e fits p given =
-        let same = still_given p f h rest.parts rest.gives given in
-        same ∙ fits p (λ lacks. given (same ∙ lacks))
+still_same : (g h : Given) (text : List ℕ) → (step : IsStep g h text) → (p : Part) → IsGiven g p → Same p g h
+still_same g h text step p given = step.others p (given_is_none p step.parts g given step.free)
 
-steps_of_read : (texts : List (List ℕ)) (g h : Given) → with_fields g texts ≡ Ok h → IsSteps g h texts
-steps_of_read [] g h read =
-    let same : g ≡ h = cc in
-    record { parts = []; gives = subst (λ (x : Given). Gives g x []) same (gives_none g); each = λ e fits. no_field }
-steps_of_read (text ∷ texts) g h read =
-    let parts = goes_on_parts (with_field g text) (λ now. with_fields now texts) h read in
-    more_steps g parts.0 h text texts (step_of_read g parts.0 text parts.1) (steps_of_read texts parts.0 h parts.2)
+still_given : (g h : Given) (text : List ℕ) → (step : IsStep g h text) → (p : Part) → IsGiven g p → IsGiven h p
+still_given g h text step p given = sym (same_given p g h (still_same g h text step p given)) ∙ given
 
-pub fields_of_read : (texts : List (List ℕ)) (h : Given) (a : Action) → with_fields nothing_given texts ≡ Ok h
-    → AreFieldsOf (entry_of h a) texts
-fields_of_read texts h a read =
-    let steps = steps_of_read texts nothing_given h read in
+pub reads_more : (g h : Given) (texts : List (List ℕ)) (text : List ℕ) → Reads g texts → with_field g text ≡ Ok h
+    → Reads h (texts ++ text ∷ [])
+reads_more g h texts text reads read =
+    let step = step_of_read g h text read in
     record {
-      parts = steps.parts;
-      each = steps.each (entry_of h a) (λ p given. has_own p h a given);
-      once = steps.gives.once;
-      others = λ p none. unsaid_own p h a (sym (steps.gives.others p none));
+      parts = reads.parts ++ step.parts;
+      once = distinct_both reads.parts step.parts reads.once step.once
+          (of_each (IsGiven g) (λ p. IsNoneOf p step.parts) reads.parts (λ p given. given_is_none p step.parts g given step.free) reads.given);
+      given = of_both (IsGiven h) reads.parts step.parts
+          (of_each (IsGiven g) (IsGiven h) reads.parts (still_given g h text step) reads.given) step.given;
+      others = λ p none.
+          sym (same_given p g h (step.others p (none_of_second p reads.parts step.parts none)))
+          ∙ reads.others p (none_of_first p reads.parts step.parts none);
+      each = λ e fits.
+          each_both e reads.parts step.parts texts (text ∷ [])
+          (reads.each e (λ p given. still_same g h text step p given ∙ fits p (still_given g h text step p given)))
+          (step.says e (of_each (IsGiven h) (λ p. Has p e h) step.parts fits step.given));
     }
 
--- 2. Fields of the grammar.
+unfoldable pub fields_of_reads : (g : Given) (texts : List (List ℕ)) (a : Action) → Reads g texts → AreFieldsOf (entry_of g a) texts
+fields_of_reads g texts a reads = record {
+  parts = reads.parts;
+  each = reads.each (entry_of g a) (λ p given. has_own p g a given);
+  once = reads.once;
+  others = λ p none. unsaid_own p g a (reads.others p none);
+}
 
-abbrev pub with_parts : List Part → Entry → Given → Given
-with_parts [] e g = g
-with_parts (p ∷ ps) e g = with_parts ps e (with_part p e g)
+-- 2. A field that is rejected.
 
-lack_with : (ps : List Part) (p : Part) (e : Entry) (g : Given) → IsNoneOf p ps → OfEach (λ q. Lacks q g) ps
-    → OfEach (λ q. Lacks q (with_part p e g)) ps
-lack_with [] p e g none lack = tt
-lack_with (q ∷ ps) p e g none lack =
-    (sym (same_but p q e g (λ is. none.0 (sym is))) ∙ lack.0, lack_with ps p e g none.1 lack.1)
+lack_new : (g : Given) (texts : List (List ℕ)) (reads : Reads g texts) (ps : List Part) → OfEach (λ p. Lacks p g) ps → AreNew ps reads.parts
+lack_new g texts reads [] lack = tt
+lack_new g texts reads (p ∷ ps) lack = (lacking_is_none p reads.parts g lack.0 reads.given, lack_new g texts reads ps lack.1)
 
-pub read_of_each : (e : Entry) (parts : List Part) (texts : List (List ℕ)) (g : Given) → EachSays e parts texts → AreDistinct parts
-    → OfEach (λ p. Lacks p g) parts → with_fields g texts ≡ Ok (with_parts parts e g)
-read_of_each e [] [] g no_field once lack = refl
-read_of_each e [] (text ∷ texts) g says once lack = elim says [ ]
-read_of_each e (p ∷ ps) [] g says once lack = elim says [ ]
-read_of_each e (p ∷ ps) (text ∷ texts) g (one_part says rest) once lack =
-    ap (λ r. goes_on r (λ now. with_fields now texts)) (read_of_says p e g text says lack.0)
-    ∙ read_of_each e ps texts (with_part p e g) rest once.1 (lack_with ps p e g once.0 lack.1)
-read_of_each e (kind ∷ protocol ∷ ps) (text ∷ texts) g (two_parts n ip its says rest) once lack =
-    let first = lack_with (protocol ∷ ps) kind e g once.0 lack.1 in
-    ap (λ r. goes_on r (λ now. with_fields now texts)) (read_protocol n e.kind e.proto g text ip its says lack.0 lack.1.0)
-    ∙ read_of_each e ps texts (with_part protocol e (with_part kind e g)) rest once.1.1
-    (lack_with ps protocol e (with_part kind e g) once.1.0 first.1)
+new_lack : (g : Given) (texts : List (List ℕ)) (reads : Reads g texts) (ps : List Part) → AreNew ps reads.parts → OfEach (λ p. Lacks p g) ps
+new_lack g texts reads [] new = tt
+new_lack g texts reads (p ∷ ps) new = (reads.others p new.0, new_lack g texts reads ps new.1)
 
--- A part was specified, or it is unchanged.
-pub part_now : (p : Part) (e : Entry) (parts : List Part) (g : Given)
-    → Has p e (with_parts parts e g) ⊎ (IsNoneOf p parts × Same p g (with_parts parts e g))
-part_now p e [] g = inr (tt, refl)
-part_now p e (q ∷ ps) g = elim (part_now p e ps (with_part q e g)) [
-  | inl has ↦ inl has
-  | inr left ↦ elim (one_or_not p q) [
-    | inl is ↦ inl (sym left.1 ∙ subst (λ (x : Part). Has p e (with_part x e g)) is (has_with p e g))
-    | inr apart ↦ inr ((apart, left.0), same_but q p e g apart ∙ left.1)
-  ]
+err_same : (w v : OfpWhy) → ◌≡◌ {A = Result Given OfpWhy} (Err w) (Err v) → w ≡ v
+err_same w v h = cc
+
+not_valued : (o : Option Given) (why : OfpWhy) → ok_or o BadValue ≡ Err why → BadValue ≡ why
+not_valued None why h = err_same BadValue why h
+not_valued (Some g) why h = cc
+
+-- A field that some entry has, and whose parts are new, is not rejected.
+no_entry : (g : Given) (text : List ℕ) (why : OfpWhy) (tells : Told g text) → OfEach (λ p. Lacks p g) tells.parts
+    → with_field g text ≡ Err why → (e : Entry) (ps : List Part) → EachSays e ps (text ∷ []) → ⊥
+no_entry g text why tells lack refused e ps says =
+    let same = one_about tells.parts ps text tells.about (each_about e ps text says) in
+    let read = read_of_each e ps g text says (subst (OfEach (λ p. Lacks p g)) same lack) in
+    let clash = sym refused ∙ read.1 in cc
+
+pub bad_of_reads : (g : Given) (texts : List (List ℕ)) (text : List ℕ) (why : OfpWhy) (reads : Reads g texts)
+    → with_field g text ≡ Err why → IsBadField reads.parts text why
+bad_of_reads g texts text why reads refused = elim (told_or_unknown g text) [
+  | inr none ↦
+      subst (IsBadField reads.parts text) (err_same UnknownField why (sym none.0 ∙ refused))
+      (unknown (λ parts about. let clash = sym none.1 ∙ parts_about parts text about in cc))
+  | inl tells ↦
+      elim (if_parts (is_said g tells.parts) (Err BadLine) (ok_or tells.now BadValue) (Err why) (sym tells.told ∙ refused)) [
+        | inl old ↦
+            subst (IsBadField reads.parts text) (err_same BadLine why old.1)
+            (twice tells.parts tells.about (λ new. not_both (said_none g tells.parts (new_lack g texts reads tells.parts new)) old.0))
+        | inr new ↦
+            let lack = none_said g tells.parts new.0 in
+            subst (IsBadField reads.parts text) (not_valued tells.now why new.1)
+            (valueless tells.parts tells.about (lack_new g texts reads tells.parts lack) (no_entry g text why tells lack refused))
+      ]
 ]
-
--- Initially no part is specified.
-pub all_free : (parts : List Part) → OfEach (λ p. Lacks p nothing_given) parts
-all_free [] = tt
-all_free (p ∷ ps) = (refl, all_free ps)
-
-entry_is : (e : Entry) (texts : List (List ℕ)) (fields : AreFieldsOf e texts)
-    → entry_of (with_parts fields.parts e nothing_given) e.action ≡ e
-entry_is e texts fields =
-    let first : unwrap_or (with_parts fields.parts e nothing_given).priority 32768 ≡ e.priority = elim
-    (part_now priority e fields.parts nothing_given) [
-      | inl has ↦ ap (λ (o : Option ℕ). unwrap_or o 32768) has
-      | inr left ↦ ap (λ (o : Option ℕ). unwrap_or o 32768) (sym left.1) ∙ sym (fields.others priority left.0)
-    ] in
-    let second : unwrap_or (with_parts fields.parts e nothing_given).kind Any ≡ e.kind = elim (part_now kind e fields.parts nothing_given) [
-      | inl has ↦ ap (λ (o : Option FrameKind). unwrap_or o Any) has
-      | inr left ↦ ap (λ (o : Option FrameKind). unwrap_or o Any) (sym left.1) ∙ sym (fields.others kind left.0)
-    ] in
-    let src : (with_parts fields.parts e nothing_given).src ≡ e.src = elim (part_now source e fields.parts nothing_given) [
-      | inl has ↦ has
-      | inr left ↦ sym left.1 ∙ sym (fields.others source left.0)
-    ] in
-    let dst : (with_parts fields.parts e nothing_given).dst ≡ e.dst = elim (part_now destination e fields.parts nothing_given) [
-      | inl has ↦ has
-      | inr left ↦ sym left.1 ∙ sym (fields.others destination left.0)
-    ] in
-    let proto : (with_parts fields.parts e nothing_given).proto ≡ e.proto = elim (part_now protocol e fields.parts nothing_given) [
-      | inl has ↦ has
-      | inr left ↦ sym left.1 ∙ sym (fields.others protocol left.0)
-    ] in
-    let tp_src : (with_parts fields.parts e nothing_given).tp_src ≡ e.tp_src = elim
-    (part_now source_port e fields.parts nothing_given) [
-      | inl has ↦ has
-      | inr left ↦ sym left.1 ∙ sym (fields.others source_port left.0)
-    ] in
-    let tp_dst : (with_parts fields.parts e nothing_given).tp_dst ≡ e.tp_dst = elim
-    (part_now destination_port e fields.parts nothing_given) [
-      | inl has ↦ has
-      | inr left ↦ sym left.1 ∙ sym (fields.others destination_port left.0)
-    ] in
-    λ i. record {
-      priority = first i;
-      kind = second i;
-      src = src i;
-      dst = dst i;
-      proto = proto i;
-      tp_src = tp_src i;
-      tp_dst = tp_dst i;
-      action = e.action;
-    }
-
-pub read_of_fields : (e : Entry) (texts : List (List ℕ)) → AreFieldsOf e texts
-    → (h : Given) × (with_fields nothing_given texts ≡ Ok h) × (entry_of h e.action ≡ e)
-read_of_fields e texts fields = (
-  with_parts fields.parts e nothing_given,
-  read_of_each e fields.parts texts nothing_given fields.each fields.once
-      (all_free fields.parts),
-  entry_is e texts fields,
-)

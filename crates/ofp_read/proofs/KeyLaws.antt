@@ -1,104 +1,107 @@
--- The name of a field, and how it is split off.
-use Rattle.std.proofs.Common.{◌≡◌, ℕ, Bool, true, false, List, [], ◌∷◌, ◌++◌, Option, Some, None, refl, sym, ap, ◌∙◌, append-nil}
-use Rattle.std.specs.Prelude.{codes}
+-- The names of fields: the parts that a text specifies, regardless of its value.
+use Rattle.std.proofs.Common.{◌≡◌, ◌⊎◌, inl, inr, ℕ, List, [], ◌∷◌, ◌++◌, Option, Some, None, refl, sym, ap, ◌∙◌, append_assoc, IsTrue}
+use Rattle.std.specs.Prelude.{codes, decimal}
+use Rattle.std.specs.Option.{option_map}
 use Rattle.text_core.specs.inner.Pieces.{split_once}
 use Rattle.text_core.proofs.PiecesLaws.{split_once_joined}
-use Rattle.text_core.proofs.StepsLaws.{map_parts}
+use Rattle.host_net.specs.Service.{has_name}
+use Rattle.host_net.specs.ServiceText.{protocol_text}
+use Rattle.ofp_rules.specs.declared.entry.FrameKind.{FrameKind}
+use Rattle.ofp_rules.specs.declared.entry.FrameKind.TheVariants as frames
+use Rattle.ofp_rules.specs.declared.entry.Entry.{Entry}
 use Rattle.ofp_read.specs.declared.given.Key.{Key}
-use Rattle.ofp_read.specs.declared.given.Key.TheVariants as key
-use Rattle.ofp_read.specs.inner.FieldTable.{keys_with_value, keys_alone, key_with_value, key_alone, key_by, key_of}
-use Rattle.ofp_read.specs.Grammar.{Part, priority, table, kind, source, destination, protocol, source_port, destination_port, about}
-use Rattle.ofp_read.proofs.NamedLaws.{named_is}
+use Rattle.ofp_read.specs.inner.FieldTable.{keys, key_named, kinds, kind_named, part_of}
+use Rattle.ofp_read.specs.Grammar.{Part, priority, table, kind, source, destination, protocol, source_port, destination_port, IsKindText, EachSays, one_part, two_parts}
+use Rattle.ofp_read.specs.Unwritten.{IsAbout, by_name, kind_alone, protocol_alone}
+use Rattle.ofp_read.proofs.PartWords.{Says, name_of, IsNamed, named_one}
+use Rattle.ofp_read.proofs.NamedLaws.{named_is, some_same}
 
--- A field is its name and its value.
-abbrev pub front_of : Key → List ℕ
-front_of key.Priority = codes "priority="
-front_of key.Table = codes "table="
-front_of key.Ip = codes "ip"
-front_of key.Arp = codes "arp"
-front_of key.Icmp = codes "icmp"
-front_of key.Tcp = codes "tcp"
-front_of key.Udp = codes "udp"
-front_of key.FrameType = codes "dl_type="
-front_of key.Source = codes "nw_src="
-front_of key.Destination = codes "nw_dst="
-front_of key.Protocol = codes "nw_proto="
-front_of key.SourcePort = codes "tp_src="
-front_of key.DestinationPort = codes "tp_dst="
+-- 1. A text specifies at most one list of parts.
 
--- Some keys have no value.
-abbrev is_alone : Key → Bool
-is_alone key.Ip = true
-is_alone key.Arp = true
-is_alone key.Icmp = true
-is_alone key.Tcp = true
-is_alone key.Udp = true
-is_alone _ = false
+abbrev pub parts_alone : FrameKind × Option ℕ → List Part
+parts_alone (k, None) = kind ∷ []
+parts_alone (k, Some n) = kind ∷ protocol ∷ []
 
--- A text is one field: the key's name, followed by the value if the key has values.
-pub record IsField (text : List ℕ) (k : Key) (value : List ℕ) : Type 0 where
-  pub written : text ≡ front_of k ++ value
-  pub alone : is_alone k ≡ true → value ≡ []
+abbrev pub parts_by : List ℕ → Option (List ℕ × List ℕ) → Option (List Part)
+parts_by text None = option_map parts_alone (kind_named text)
+parts_by text (Some parts) = option_map (λ k. part_of k ∷ []) (key_named parts.0)
 
-abbrev IsNameOf : List ℕ → Key → Type 0
-IsNameOf name k = (name ++ 61 ∷ [] ≡ front_of k) × (is_alone k ≡ false)
+abbrev pub parts_in : List ℕ → Option (List Part)
+parts_in text = parts_by text (split_once 61 text)
 
-name_of : (name : List ℕ) (k : Key) → key_with_value name ≡ Some k → IsNameOf name k
-unfolding key_with_value
-name_of name k h = named_is IsNameOf name keys_with_value k h
-    ((refl, refl), ((refl, refl), ((refl, refl), ((refl, refl), ((refl, refl), ((refl, refl), ((refl, refl), ((refl, refl), tt))))))))
+in_named : (part : Part) (value : List ℕ) → parts_in (name_of part ++ value) ≡ Some (part ∷ [])
+unfolding key_named
+in_named priority value = refl
+in_named table value = refl
+in_named kind value = refl
+in_named protocol value = refl
+in_named source value = refl
+in_named destination value = refl
+in_named source_port value = refl
+in_named destination_port value = refl
 
-name_alone : (name : List ℕ) (k : Key) → key_alone name ≡ Some k → name ≡ front_of k
-unfolding key_alone
-name_alone name k h = named_is (λ n k. n ≡ front_of k) name keys_alone k h (refl, (refl, (refl, (refl, (refl, tt)))))
+in_protocol : (n : ℕ) (text : List ℕ) → IsNamed n text → parts_in text ≡ Some (kind ∷ protocol ∷ [])
+unfolding kind_named
+in_protocol n text (inl is) = ap parts_in is.1
+in_protocol n text (inr (inl is)) = ap parts_in is.1
+in_protocol n text (inr (inr is)) = ap parts_in is.1
 
-joined : (name value : List ℕ) → name ++ 61 ∷ value ≡ (name ++ 61 ∷ []) ++ value
-joined [] value = refl
-joined (b ∷ bs) value = ap (λ xs. b ∷ xs) (joined bs value)
+pub parts_about : (parts : List Part) (text : List ℕ) → IsAbout parts text → parts_in text ≡ Some parts
+unfolding kind_named
+parts_about parts text (by_name part value is) = ap parts_in is ∙ in_named part value
+parts_about parts text (kind_alone (inl is)) = ap parts_in is
+parts_about parts text (kind_alone (inr is)) = ap parts_in is
+parts_about parts text (protocol_alone n is) = in_protocol n text (named_one n text is)
 
-field_by : (text : List ℕ) (cut : Option (List ℕ × List ℕ)) (k : Key) (value : List ℕ) → split_once 61 text ≡ cut
-    → key_by text cut ≡ Some (k, value) → IsField text k value
-field_by text None k value is h =
-    let parts = map_parts (λ (j : Key). (j, [])) (key_alone text) (k, value) h in
-    let name : parts.0 ≡ k = ap (λ (p : Key × List ℕ). p.0) parts.2 in
-    let none : [] ≡ value = ap (λ (p : Key × List ℕ). p.1) parts.2 in
-    record {
-      written = name_alone text parts.0 parts.1 ∙ ap front_of name ∙ sym (append-nil (front_of k)) ∙ ap (λ bs. front_of k ++ bs) none;
-      alone = λ alone. sym none;
-    }
-field_by text (Some (name, rest)) k value is h =
-    let parts = map_parts (λ (j : Key). (j, rest)) (key_with_value name) (k, value) h in
-    let same : parts.0 ≡ k = ap (λ (p : Key × List ℕ). p.0) parts.2 in
-    let value_is : rest ≡ value = ap (λ (p : Key × List ℕ). p.1) parts.2 in
-    let named = name_of name parts.0 parts.1 in
-    record {
-      written = split_once_joined 61 text name rest is ∙ joined name rest ∙ ap (λ bs. bs ++ rest) (named.0 ∙ ap front_of same) ∙ ap
-          (λ bs. front_of k ++ bs) value_is;
-      alone = λ alone. let clash : is_alone k ≡ false = ap is_alone (sym same) ∙ named.1 in cc;
-    }
+pub one_about : (parts others : List Part) (text : List ℕ) → IsAbout parts text → IsAbout others text → parts ≡ others
+one_about parts others text a b = some_same parts others (sym (parts_about parts text a) ∙ parts_about others text b)
 
-pub field_of_key : (text : List ℕ) (k : Key) (value : List ℕ) → key_of text ≡ Some (k, value) → IsField text k value
-unfolding key_of
-field_of_key text k value h = field_by text (split_once 61 text) k value refl h
+-- 2. What a field says is about its parts.
 
--- The key of the fields with a value for a part, which is found before every value.
-abbrev pub key_about : Part → Key
-key_about priority = key.Priority
-key_about table = key.Table
-key_about kind = key.FrameType
-key_about protocol = key.Protocol
-key_about source = key.Source
-key_about destination = key.Destination
-key_about source_port = key.SourcePort
-key_about destination_port = key.DestinationPort
+kind_about : (k : FrameKind) (text : List ℕ) → IsKindText k text → IsAbout (kind ∷ []) text
+kind_about frames.Any text is = absurd is
+kind_about frames.Arp text (inl is) = kind_alone (inr is)
+kind_about frames.Arp text (inr (inl is)) = by_name kind (codes "0x0806") is
+kind_about frames.Arp text (inr (inr is)) = by_name kind (codes "0x806") is
+kind_about frames.Ip text (inl is) = kind_alone (inl is)
+kind_about frames.Ip text (inr (inl is)) = by_name kind (codes "0x0800") is
+kind_about frames.Ip text (inr (inr is)) = by_name kind (codes "0x800") is
 
-pub key_found : (p : Part) (value : List ℕ) → key_of ((about p).name ++ value) ≡ Some (key_about p, value)
-unfolding key_of key_with_value
-key_found priority value = refl
-key_found table value = refl
-key_found kind value = refl
-key_found protocol value = refl
-key_found source value = refl
-key_found destination value = refl
-key_found source_port value = refl
-key_found destination_port value = refl
+pub says_about : (p : Part) (e : Entry) (text : List ℕ) → Says p e text → IsAbout (p ∷ []) text
+says_about priority e text says = by_name priority (decimal says.0) says.3
+says_about table e text says = by_name table (codes "0") says
+says_about kind e text says = kind_about e.kind text says
+says_about source e text says = by_name source says.1 says.5
+says_about destination e text says = by_name destination says.1 says.5
+says_about protocol e text says = by_name protocol (decimal says.0) says.3
+says_about source_port e text says = by_name source_port (decimal says.0) says.3
+says_about destination_port e text says = by_name destination_port (decimal says.0) says.3
+
+pub each_about : (e : Entry) (ps : List Part) (text : List ℕ) → EachSays e ps (text ∷ []) → IsAbout ps text
+each_about e [] text says = elim says [ ]
+each_about e (p ∷ []) text (one_part says rest) = says_about p e text says
+each_about e (p ∷ q ∷ ps) text (one_part says rest) = elim rest [ ]
+each_about e (kind ∷ protocol ∷ []) text (two_parts n ip its says rest) = protocol_alone n says
+each_about e (kind ∷ protocol ∷ p ∷ ps) text (two_parts n ip its says rest) = elim rest [ ]
+
+-- 3. The names of the table.
+
+name_is : (name : List ℕ) (k : Key) → key_named name ≡ Some k → name ++ 61 ∷ [] ≡ name_of (part_of k)
+unfolding key_named
+name_is name k found = named_is (λ n j. n ++ 61 ∷ [] ≡ name_of (part_of j)) name keys k found
+    (refl, (refl, (refl, (refl, (refl, (refl, (refl, (refl, tt))))))))
+
+pub key_written : (text name value : List ℕ) (k : Key) → split_once 61 text ≡ Some (name, value) → key_named name ≡ Some k
+    → text ≡ name_of (part_of k) ++ value
+key_written text name value k is found =
+    split_once_joined 61 text name value is ∙ sym (append_assoc name (61 ∷ []) value) ∙ ap (λ bs. bs ++ value) (name_is name k found)
+
+-- A text that is the name of a frame kind, or of a protocol of IPv4 frames.
+abbrev pub Names : List ℕ → FrameKind × Option ℕ → Type 0
+Names text (k, None) = ((text ≡ codes "ip") ⊎ (text ≡ codes "arp")) × IsKindText k text
+Names text (k, Some n) = (k ≡ frames.Ip) × (IsTrue (has_name n) × (text ≡ protocol_text n))
+
+pub kind_written : (text : List ℕ) (named : FrameKind × Option ℕ) → kind_named text ≡ Some named → Names text named
+unfolding kind_named
+kind_written text named found = named_is Names text kinds named found
+    ((inl refl, inl refl), ((inr refl, inl refl), ((refl, (refl, refl)), ((refl, (refl, refl)), ((refl, (refl, refl)), tt)))))

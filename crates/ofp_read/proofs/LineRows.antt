@@ -1,87 +1,73 @@
--- Test vectors: lines and their decided parse results.
+-- Test vectors: fields in front of an action, actions, and their decided readings.
 use Rattle.std.proofs.Common.{◌≡◌, ℕ, false, List, [], ◌∷◌, Some, None, map, refl}
-use Rattle.std.specs.Prelude.{Ok, Err, codes}
+use Rattle.std.specs.Prelude.{Result, Ok, Err, codes}
 use Rattle.std.specs.Fmt.{digits}
 use Rattle.text_core.specs.inner.Decimal.{number}
-use Rattle.text_core.specs.Lines.{is_comment}
+use Rattle.text_core.specs.Lines.{words, is_comment}
 use Rattle.host_net.specs.Prefix.{prefix_of, prefix_text, address_text, octet}
-use Rattle.ofp_rules.specs.declared.entry.FrameKind.TheVariants.{Any, Ip}
-use Rattle.ofp_rules.specs.declared.entry.Action.TheVariants.{Normal, Drop}
+use Rattle.ofp_rules.specs.declared.entry.FrameKind.TheVariants.{Ip}
 use Rattle.ofp_read.specs.declared.fault.OfpWhy.{OfpWhy}
-use Rattle.ofp_read.specs.declared.fault.OfpWhy.TheVariants.{BadLine, UnknownField, BadValue, NeedsIp, UnknownAction}
-use Rattle.ofp_read.specs.inner.FieldTable.{key_with_value, key_alone, key_of, frame_type, with_value}
-use Rattle.ofp_read.specs.inner.FlowLine.{flow_of}
+use Rattle.ofp_read.specs.declared.fault.OfpWhy.TheVariants.{BadLine, UnknownField, BadValue}
+use Rattle.ofp_read.specs.declared.given.Given.{Given}
+use Rattle.ofp_read.specs.inner.FieldTable.{key_named, kind_named, frame_type, with_value, with_field}
+use Rattle.ofp_read.specs.inner.FlowLine.{nothing_given, action_of}
+use Rattle.ofp_read.specs.Grammar.{fields}
 
--- Commas and blanks at the beginning are skipped; blanks after the action are not part of it.
-row_plain : flow_of (codes ", table=0,,actions=drop  ") ≡ Ok (record { priority = 32768; kind = Any; src = None; dst = None; proto = None; tp_src = None; tp_dst = None; action = Drop })
-unfolding flow_of key_of key_with_value with_value
-row_plain = refl
+abbrev then_fields : Result Given OfpWhy → List (List ℕ) → Result Given OfpWhy
+then_fields (Err why) texts = Err why
+then_fields (Ok given) [] = Ok given
+then_fields (Ok given) (text ∷ texts) = then_fields (with_field given text) texts
 
--- A line of commas and blanks has tokens, so it is no comment, and it has no action.
+-- A line of commas and blanks has tokens, so it is no comment.
 row_commas_no_comment : is_comment (codes " , ") ≡ false
 unfolding is_comment
 row_commas_no_comment = refl
 
--- Lines that encode no entry, and the reasons.
-abbrev refused_lines : List (List ℕ × OfpWhy)
-refused_lines =
-    (codes " , ", BadLine)
+-- Fields that are those of no entry, and the reasons.
+abbrev refused_fields : List (List ℕ × OfpWhy)
+refused_fields =
     -- A comment mark after a comma is a field.
-    ∷ (codes ",# x", UnknownField)
+    (codes ",# x", UnknownField)
     -- An action in a field's value is not the action of the line.
-    ∷ (codes "ip,nw_src=actions=drop,actions=drop", BadValue)
-    -- Blanks before the action and a comma after it are parts of it.
-    ∷ (codes "actions= drop", UnknownAction)
-    ∷ (codes "actions=drop,", UnknownAction)
+    ∷ (codes "ip,nw_src=actions=drop", BadValue)
     -- From left to right: a second frame kind takes precedence over its value, a bad value over a later second frame
     -- kind.
-    ∷ (codes "ip,dl_type=x,actions=drop", BadLine)
-    ∷ (codes "dl_type=x,ip,actions=drop", BadValue)
+    ∷ (codes "ip,dl_type=x", BadLine)
+    ∷ (codes "dl_type=x,ip", BadValue)
     -- The name takes precedence over everything else of a field, and a repeated field over its value.
-    ∷ (codes "ip=,actions=drop", UnknownField)
+    ∷ (codes "ip=", UnknownField)
     ∷ (codes "priority=1,priority=x", BadLine)
-    -- The action takes precedence over the check of frames.
-    ∷ (codes "nw_src=10.0.0.1,actions=x", UnknownAction)
-    ∷ (codes "arp,nw_src=10.0.0.1,actions=drop", NeedsIp)
     -- One frame kind and one protocol: the second is rejected, regardless of its value.
-    ∷ (codes "priority=5,tcp,udp,actions=drop", BadLine)
-    ∷ (codes "tcp,ip,actions=drop", BadLine)
-    ∷ (codes "dl_type=0x0800,icmp,actions=drop", BadLine)
-    ∷ (codes "priority=5,tcp,nw_proto=6,actions=drop", BadLine)
-    ∷ (codes "tcp,nw_proto=999,actions=drop", BadLine)
-    ∷ (codes "nw_proto=6,tcp,actions=drop", BadLine)
-    ∷ (codes "nw_proto=999,tcp,actions=drop", BadValue)
-    ∷ (codes "udp,tp_src=1,tp_src=x,actions=drop", BadLine)
+    ∷ (codes "priority=5,tcp,udp", BadLine)
+    ∷ (codes "tcp,ip", BadLine)
+    ∷ (codes "dl_type=0x0800,icmp", BadLine)
+    ∷ (codes "priority=5,tcp,nw_proto=6", BadLine)
+    ∷ (codes "tcp,nw_proto=999", BadLine)
+    ∷ (codes "nw_proto=6,tcp", BadLine)
+    ∷ (codes "nw_proto=999,tcp", BadValue)
+    ∷ (codes "udp,tp_src=1,tp_src=x", BadLine)
     -- Values.
-    ∷ (codes "tcp,tp_dst=65536,actions=drop", BadValue)
-    ∷ (codes "tcp,tp_src=080,actions=drop", BadValue)
-    ∷ (codes "ip,nw_proto=256,actions=drop", BadValue)
+    ∷ (codes "tcp,tp_dst=65536", BadValue)
+    ∷ (codes "tcp,tp_src=080", BadValue)
+    ∷ (codes "ip,nw_proto=256", BadValue)
     -- A protocol name with a value, and a number without one, are no fields.
-    ∷ (codes "tcp=,actions=drop", UnknownField)
-    ∷ (codes "ip,nw_proto,actions=drop", UnknownField)
-    -- Ports are matched only for TCP and UDP, protocols only for IPv4 frames.
-    ∷ (codes "priority=5,ip,tp_dst=80,actions=drop", NeedsIp)
-    ∷ (codes "icmp,tp_dst=1,actions=drop", NeedsIp)
-    ∷ (codes "nw_proto=6,actions=drop", NeedsIp)
-    ∷ (codes "arp,nw_proto=1,actions=drop", NeedsIp)
-    ∷ (codes "arp,nw_proto=6,tp_src=1,actions=drop", NeedsIp)
-    ∷ (codes "tp_dst=80,actions=x", UnknownAction)
+    ∷ (codes "tcp=", UnknownField)
+    ∷ (codes "ip,nw_proto", UnknownField)
     ∷ []
 
-lines_refused : map (λ (r : List ℕ × OfpWhy). flow_of r.0) refused_lines ≡ map (λ (r : List ℕ × OfpWhy). Err r.1) refused_lines
-unfolding flow_of frame_type key_alone key_of key_with_value number prefix_of octet address_text prefix_text with_value digits
-lines_refused = refl
+fields_refused : map (λ (r : List ℕ × OfpWhy). then_fields (Ok nothing_given) (fields r.0)) refused_fields
+    ≡ map (λ (r : List ℕ × OfpWhy). Err r.1) refused_fields
+unfolding frame_type kind_named key_named number prefix_of octet address_text prefix_text with_value digits
+fields_refused = refl
 
--- A protocol by its name, and by its number together with `ip`.
-row_port : flow_of (codes "priority=5,tcp,tp_dst=80,actions=drop") ≡ Ok (record { priority = 5; kind = Ip; src = None; dst = None; proto = Some 6; tp_src = None; tp_dst = Some 80; action = Drop })
-unfolding flow_of key_of key_with_value key_alone with_value number digits
-row_port = refl
-
-row_number : flow_of (codes "priority=5,ip,nw_proto=6,tp_src=1,actions=NORMAL") ≡ Ok (record { priority = 5; kind = Ip; src = None; dst = None; proto = Some 6; tp_src = Some 1; tp_dst = None; action = Normal })
-unfolding flow_of key_of key_with_value key_alone with_value number digits
-row_number = refl
-
--- In any order.
-row_number_first : flow_of (codes "tp_dst=0 nw_proto=17 ip actions=drop") ≡ Ok (record { priority = 32768; kind = Ip; src = None; dst = None; proto = Some 17; tp_src = None; tp_dst = Some 0; action = Drop })
-unfolding flow_of key_of key_with_value key_alone with_value number digits
+-- In any order; commas and blanks at the beginning are skipped.
+row_number_first : then_fields (Ok nothing_given) (fields (codes " ,tp_dst=0 nw_proto=17,,ip ")) ≡ Ok (record { priority = None; table = false; kind = Some Ip; src = None; dst = None; proto = Some 17; tp_src = None; tp_dst = Some 0 })
+unfolding key_named kind_named with_value number digits
 row_number_first = refl
+
+-- Blanks within an action and a comma after it are parts of it.
+row_blank_within : action_of (words (codes "actions= drop")) ≡ None
+row_blank_within = refl
+
+row_comma_behind : action_of (words (codes "actions=drop,")) ≡ None
+row_comma_behind = refl

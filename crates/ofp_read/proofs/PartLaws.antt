@@ -1,8 +1,8 @@
 -- The specification of each part of an entry, and its change by one more field.
 use Rattle.std.proofs.Common.{◌≡◌, ◌≢◌, ◌⊎◌, inl, inr, ℕ, Bool, true, false, List, [], ◌∷◌, ◌++◌, Option, Some, None, refl, sym, ap, subst, ◌∙◌, arith}
-use Rattle.std.specs.Prelude.{◌==◌, if◌then◌else◌, unwrap_or}
-use Rattle.std.proofs.lemmas.Bool.{true_from_ne_false}
+use Rattle.std.specs.Prelude.{◌==◌, ◌||◌, if◌then◌else◌, is_some, unwrap_or}
 use Rattle.std.proofs.lemmas.Bool.Decides.{nat_tests}
+use Rattle.std.proofs.lemmas.Bool.{or_parts}
 use Rattle.text_core.proofs.StepsLaws.{split_bool}
 use Rattle.host_net.specs.declared.prefix.Prefix.{Prefix}
 use Rattle.ofp_rules.specs.declared.entry.FrameKind.{FrameKind}
@@ -10,6 +10,7 @@ use Rattle.ofp_rules.specs.declared.entry.FrameKind.TheVariants.{Any}
 use Rattle.ofp_rules.specs.declared.entry.Action.{Action}
 use Rattle.ofp_rules.specs.declared.entry.Entry.{Entry}
 use Rattle.ofp_read.specs.declared.given.Given.{Given}
+use Rattle.ofp_read.specs.inner.FieldTable.{is_given}
 use Rattle.ofp_read.specs.inner.FlowLine.{nothing_given, entry_of}
 use Rattle.ofp_read.specs.Grammar.{Part, priority, table, kind, source, destination, protocol, source_port, destination_port, IsNoneOf, AreDistinct}
 use Rattle.ofp_read.proofs.PartWords.{IsUnsaid}
@@ -46,9 +47,12 @@ own_value protocol e = e.proto
 own_value source_port e = e.tp_src
 own_value destination_port e = e.tp_dst
 
--- The part is not specified.
+-- The part is not specified, or it is.
 abbrev pub Lacks : Part → Given → Type 0
-Lacks p g = value_of p g ≡ value_of p nothing_given
+Lacks p g = is_given g p ≡ false
+
+abbrev pub IsGiven : Given → Part → Type 0
+IsGiven g p = is_given g p ≡ true
 
 -- The part is specified as the entry has it.
 abbrev pub Has : Part → Entry → Given → Type 0
@@ -57,6 +61,26 @@ Has p e g = value_of p g ≡ own_value p e
 -- Both specify the same for the part.
 abbrev pub Same : Part → Given → Given → Type 0
 Same p g h = value_of p g ≡ value_of p h
+
+pub same_given : (p : Part) (g h : Given) → Same p g h → is_given g p ≡ is_given h p
+same_given priority g h same = ap is_some same
+same_given table g h same = same
+same_given kind g h same = ap is_some same
+same_given source g h same = ap is_some same
+same_given destination g h same = ap is_some same
+same_given protocol g h same = ap is_some same
+same_given source_port g h same = ap is_some same
+same_given destination_port g h same = ap is_some same
+
+pub nothing_lacks : (p : Part) → Lacks p nothing_given
+nothing_lacks priority = refl
+nothing_lacks table = refl
+nothing_lacks kind = refl
+nothing_lacks source = refl
+nothing_lacks destination = refl
+nothing_lacks protocol = refl
+nothing_lacks source_port = refl
+nothing_lacks destination_port = refl
 
 -- 2. Parts are distinguished by their indices.
 
@@ -95,6 +119,14 @@ one_or_not p q = split_bool (place_of p == place_of q)
 
     own_number : (n m : ℕ) → n ≡ m → (n == m) ≡ true
     own_number n m h = grind (arith, nat_tests)
+
+-- What holds of a part holds of it in a longer list of parts.
+pub one_more : (Is : Part → Type 0) (p q : Part) (ps : List Part) → Is q → Is p ⊎ IsNoneOf p ps → Is p ⊎ IsNoneOf p (q ∷ ps)
+one_more Is p q ps own (inl is) = inl is
+one_more Is p q ps own (inr none) = elim (one_or_not p q) [
+  | inl same ↦ inl (subst (λ (x : Part). Is x) (sym same) own)
+  | inr apart ↦ inr (apart, none)
+]
 
 -- 3. One part is specified as the entry has it, and no other part changes.
 
@@ -142,13 +174,17 @@ same_but p q e g apart = by_part q (λ is. apart (sym (at_own_place q) ∙ ap pa
 
 -- 4. An entry has the specified parts, and the defaults of all others.
 
-is_given_or : {A : Type 0} (o : Option A) (other : A) → (o ≡ None → ⊥) → o ≡ Some (unwrap_or o other)
-is_given_or None other given = absurd (given refl)
+is_given_or : {A : Type 0} (o : Option A) (other : A) → is_some o ≡ true → o ≡ Some (unwrap_or o other)
+is_given_or None other given = cc
 is_given_or (Some x) other given = refl
 
-pub has_own : (p : Part) (g : Given) (a : Action) → (Lacks p g → ⊥) → Has p (entry_of g a) g
+is_none : {A : Type 0} (o : Option A) → is_some o ≡ false → o ≡ None
+is_none None lacks = refl
+is_none (Some x) lacks = cc
+
+pub has_own : (p : Part) (g : Given) (a : Action) → IsGiven g p → Has p (entry_of g a) g
 has_own priority g a given = is_given_or g.priority 32768 given
-has_own table g a given = true_from_ne_false g.table given
+has_own table g a given = given
 has_own kind g a given = is_given_or g.kind Any given
 has_own source g a given = refl
 has_own destination g a given = refl
@@ -157,14 +193,14 @@ has_own source_port g a given = refl
 has_own destination_port g a given = refl
 
 pub unsaid_own : (p : Part) (g : Given) (a : Action) → Lacks p g → IsUnsaid p (entry_of g a)
-unsaid_own priority g a lacks = ap (λ (o : Option ℕ). unwrap_or o 32768) lacks
+unsaid_own priority g a lacks = ap (λ (o : Option ℕ). unwrap_or o 32768) (is_none g.priority lacks)
 unsaid_own table g a lacks = tt
-unsaid_own kind g a lacks = ap (λ (o : Option FrameKind). unwrap_or o Any) lacks
-unsaid_own source g a lacks = lacks
-unsaid_own destination g a lacks = lacks
-unsaid_own protocol g a lacks = lacks
-unsaid_own source_port g a lacks = lacks
-unsaid_own destination_port g a lacks = lacks
+unsaid_own kind g a lacks = ap (λ (o : Option FrameKind). unwrap_or o Any) (is_none g.kind lacks)
+unsaid_own source g a lacks = is_none g.src lacks
+unsaid_own destination g a lacks = is_none g.dst lacks
+unsaid_own protocol g a lacks = is_none g.proto lacks
+unsaid_own source_port g a lacks = is_none g.tp_src lacks
+unsaid_own destination_port g a lacks = is_none g.tp_dst lacks
 
 -- 5. Some parts are specified, and no others change.
 
@@ -176,7 +212,7 @@ pub of_each : (Is Also : Part → Type 0) (ps : List Part) → ((p : Part) → I
 of_each Is Also [] from each = tt
 of_each Is Also (p ∷ ps) from each = (from p each.0, of_each Is Also ps from each.1)
 
-of_both : (Is : Part → Type 0) (ps qs : List Part) → OfEach Is ps → OfEach Is qs → OfEach Is (ps ++ qs)
+pub of_both : (Is : Part → Type 0) (ps qs : List Part) → OfEach Is ps → OfEach Is qs → OfEach Is (ps ++ qs)
 of_both Is [] qs first second = second
 of_both Is (p ∷ ps) qs first second = (first.0, of_both Is ps qs first.1 second)
 
@@ -184,7 +220,7 @@ none_of_both : (p : Part) (qs rs : List Part) → IsNoneOf p qs → IsNoneOf p r
 none_of_both p [] rs first second = second
 none_of_both p (q ∷ qs) rs first second = (first.0, none_of_both p qs rs first.1 second)
 
-none_of_first : (p : Part) (qs rs : List Part) → IsNoneOf p (qs ++ rs) → IsNoneOf p qs
+pub none_of_first : (p : Part) (qs rs : List Part) → IsNoneOf p (qs ++ rs) → IsNoneOf p qs
 none_of_first p [] rs none = tt
 none_of_first p (q ∷ qs) rs none = (none.0, none_of_first p qs rs none.1)
 
@@ -192,54 +228,35 @@ pub none_of_second : (p : Part) (qs rs : List Part) → IsNoneOf p (qs ++ rs) �
 none_of_second p [] rs none = none
 none_of_second p (q ∷ qs) rs none = none_of_second p qs rs none.1
 
-distinct_both : (ps qs : List Part) → AreDistinct ps → AreDistinct qs → OfEach (λ p. IsNoneOf p qs) ps → AreDistinct (ps ++ qs)
+pub distinct_both : (ps qs : List Part) → AreDistinct ps → AreDistinct qs → OfEach (λ p. IsNoneOf p qs) ps → AreDistinct (ps ++ qs)
 distinct_both [] qs first second apart = second
 distinct_both (p ∷ ps) qs first second apart =
     (none_of_both p ps qs first.0 apart.0, distinct_both ps qs first.1 second apart.1)
 
-abbrev pub IsGiven : Given → Part → Type 0
-IsGiven g p = Lacks p g → ⊥
+-- Some part is specified.
+abbrev pub is_said : Given → List Part → Bool
+is_said g [] = false
+is_said g (p ∷ []) = is_given g p
+is_said g (p ∷ q ∷ ps) = is_given g p || is_said g (q ∷ ps)
+
+pub none_said : (g : Given) (ps : List Part) → is_said g ps ≡ false → OfEach (λ p. Lacks p g) ps
+none_said g [] h = tt
+none_said g (p ∷ []) h = (h, tt)
+none_said g (p ∷ q ∷ ps) h = let both = or_parts (is_given g p) (is_said g (q ∷ ps)) h in (both.0, none_said g (q ∷ ps) both.1)
+
+pub said_none : (g : Given) (ps : List Part) → OfEach (λ p. Lacks p g) ps → is_said g ps ≡ false
+said_none g [] lack = refl
+said_none g (p ∷ []) lack = lack.0
+said_none g (p ∷ q ∷ ps) lack = λ i. lack.0 i || said_none g (q ∷ ps) lack.1 i
+
+pub not_both : {b : Bool} → b ≡ false → b ≡ true → ⊥
+not_both lacks given = cc
 
 -- A specified part is not among the unspecified ones, and vice versa.
 pub given_is_none : (p : Part) (ps : List Part) (g : Given) → IsGiven g p → OfEach (λ q. Lacks q g) ps → IsNoneOf p ps
 given_is_none p [] g given lack = tt
-given_is_none p (q ∷ ps) g given lack =
-    ((λ is. given (subst (λ (x : Part). Lacks x g) (sym is) lack.0)), given_is_none p ps g given lack.1)
+given_is_none p (q ∷ ps) g given lack = ((λ is. not_both lack.0 (ap (is_given g) (sym is) ∙ given)), given_is_none p ps g given lack.1)
 
-lacking_is_none : (p : Part) (ps : List Part) (g : Given) → Lacks p g → OfEach (IsGiven g) ps → IsNoneOf p ps
+pub lacking_is_none : (p : Part) (ps : List Part) (g : Given) → Lacks p g → OfEach (IsGiven g) ps → IsNoneOf p ps
 lacking_is_none p [] g lacks given = tt
-lacking_is_none p (q ∷ ps) g lacks given =
-    ((λ is. given.0 (subst (λ (x : Part). Lacks x g) is lacks)), lacking_is_none p ps g lacks given.1)
-
--- From g to h these parts are specified, and no others change.
-pub record Gives (g h : Given) (parts : List Part) : Type 0 where
-  pub once : AreDistinct parts
-  pub free : OfEach (λ p. Lacks p g) parts
-  pub given : OfEach (IsGiven h) parts
-  pub others : (p : Part) → IsNoneOf p parts → Same p g h
-
-pub gives_none : (g : Given) → Gives g g []
-gives_none g = record { once = tt; free = tt; given = tt; others = λ p none. refl }
-
-pub gives_one : (p : Part) (e : Entry) (g h : Given) → with_part p e g ≡ h → Lacks p g → IsGiven h p → Gives g h (p ∷ [])
-gives_one p e g h is lacks given = record {
-  once = (tt, tt);
-  free = (lacks, tt);
-  given = (given, tt);
-  others = λ q none. same_but p q e g none.0 ∙ ap (value_of q) is;
-}
-
-pub still_given : (p : Part) (f h : Given) (qs : List Part) → Gives f h qs → IsGiven f p → Same p f h
-still_given p f h qs gives given = gives.others p (given_is_none p qs f given gives.free)
-
-pub gives_more : (g f h : Given) (ps qs : List Part) → Gives g f ps → Gives f h qs → Gives g h (ps ++ qs)
-gives_more g f h ps qs first second =
-    record {
-      once = distinct_both ps qs first.once second.once
-          (of_each (IsGiven f) (λ p. IsNoneOf p qs) ps (λ p given. given_is_none p qs f given second.free) first.given);
-      free = of_both (λ p. Lacks p g) ps qs first.free
-          (of_each (λ p. Lacks p f) (λ p. Lacks p g) qs (λ p lacks. first.others p (lacking_is_none p ps f lacks first.given) ∙ lacks) second.free);
-      given = of_both (IsGiven h) ps qs
-          (of_each (IsGiven f) (IsGiven h) ps (λ p given lacks. given (still_given p f h qs second given ∙ lacks)) first.given) second.given;
-      others = λ p none. first.others p (none_of_first p ps qs none) ∙ second.others p (none_of_second p ps qs none);
-    }
+lacking_is_none p (q ∷ ps) g lacks given = ((λ is. not_both (ap (is_given g) (sym is) ∙ lacks) given.0), lacking_is_none p ps g lacks given.1)

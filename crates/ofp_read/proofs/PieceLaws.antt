@@ -1,6 +1,6 @@
 -- The pieces of a formatted line, each of which consists of complete fields.
-use Rattle.std.proofs.Common.{◌≡◌, ℕ, ◌<◌, ◌≤◌, ◌^◌, Bool, true, false, ◌||◌, not, List, [], ◌∷◌, ◌++◌, Option, Some, None, refl, sym, ap, subst, ◌∙◌, arith, inl, inr, append_assoc}
-use Rattle.std.specs.Prelude.{codes, decimal, nat_lt, ◌==◌, if◌then◌else◌}
+use Rattle.std.proofs.Common.{◌≡◌, ℕ, ◌<◌, ◌≤◌, ◌^◌, Bool, true, false, ◌||◌, not, List, [], ◌∷◌, ◌++◌, Option, Some, None, is_some, refl, sym, ap, subst, ◌∙◌, arith, inl, inr, append-nil, append_assoc}
+use Rattle.std.specs.Prelude.{Ok, codes, decimal, nat_lt, ◌==◌, if◌then◌else◌}
 use Rattle.std.specs.Char.{is_ascii_digit}
 use Rattle.std.specs.List.{All, filter, list_all}
 use Rattle.std.specs.Str.{all_ascii_digits}
@@ -15,12 +15,17 @@ use Rattle.host_net.specs.Prefix.{octet, address_text, prefix_text}
 use Rattle.host_net.specs.Service.{icmp, tcp, udp}
 use Rattle.ofp_rules.specs.declared.entry.FrameKind.{FrameKind}
 use Rattle.ofp_rules.specs.declared.entry.FrameKind.TheVariants as frames
-use Rattle.ofp_rules.specs.declared.entry.Entry.{Entry}
+use Rattle.ofp_rules.specs.Matching.{kind_asks}
 use Rattle.ofp_rules.specs.Text.{kind_text, field_text}
 use Rattle.ofp_rules.specs.inner.Ranges.{address_fits, number_fits}
-use Rattle.ofp_read.specs.Grammar.{Part, kind, protocol, is_separator, has_bytes, fields, EachSays, no_field, one_part, two_parts, IsKindText, IsAddressText, IsNumberText}
-use Rattle.ofp_read.proofs.PartWords.{Says, one_named}
-use Rattle.ofp_read.proofs.LineLaws.{apart_from}
+use Rattle.ofp_read.specs.declared.given.Given.{Given}
+use Rattle.ofp_read.specs.inner.FieldTable.{with_field}
+use Rattle.ofp_read.specs.inner.FlowLine.{nothing_given}
+use Rattle.ofp_read.specs.Grammar.{protocol, is_separator, has_bytes, fields, ends_apart}
+use Rattle.ofp_read.proofs.PartWords.{one_named}
+use Rattle.ofp_read.proofs.ApartLaws.{separator_last}
+use Rattle.ofp_read.proofs.FieldLaws.{entry_with, read_kind, read_protocol, read_of_says}
+use Rattle.ofp_read.proofs.FieldsLaws.{Reads, reads_more}
 
 -- 1. Texts of digits, dots (46) and slashes (47).
 
@@ -99,119 +104,126 @@ no_end (b ∷ bs) h =
 
 -- 2. Pieces.
 
--- A text of complete fields that specify these parts as the entry has them, each followed by a comma.
-pub record IsPiece (e : Entry) (parts : List Part) (text : List ℕ) : Type 0 where
+-- A text of complete fields, each followed by a comma, that lead from one partial entry to another.
+pub record IsPiece (g h : Given) (text : List ℕ) : Type 0 where
   pub texts : List (List ℕ)
-  pub each : EachSays e parts texts
+  pub read : (before : List (List ℕ)) → Reads g before → Reads h (before ++ texts)
   pub cut : (rest : List ℕ) → fields (text ++ rest) ≡ texts ++ fields rest
-  pub apart : apart_from true text ≡ true
+  pub apart : ends_apart text ≡ true
   pub one_line : lacks 10 text ≡ true
 
-pub no_piece : (e : Entry) → IsPiece e [] []
-no_piece e = record { texts = []; each = no_field; cut = λ rest. refl; apart = refl; one_line = refl }
+no_piece : (g : Given) → IsPiece g g []
+no_piece g = record {
+  texts = [];
+  read = λ before reads. subst (Reads g) (sym (append-nil before)) reads;
+  cut = λ rest. refl;
+  apart = refl;
+  one_line = refl;
+}
 
-apart-append : (t : Bool) (xs ys : List ℕ) → apart_from t (xs ++ ys) ≡ apart_from (apart_from t xs) ys
-apart-append t [] ys = refl
-apart-append t (x ∷ xs) ys = apart-append (is_separator x) xs ys
+apart_both : (xs ys : List ℕ) → ends_apart xs ≡ true → ends_apart ys ≡ true → ends_apart (xs ++ ys) ≡ true
+apart_both [] ys a b = b
+apart_both (x ∷ []) [] a b = a
+apart_both (x ∷ []) (y ∷ ys) a b = b
+apart_both (x ∷ z ∷ xs) ys a b = apart_both (z ∷ xs) ys a b
 
-each-append : (e : Entry) (ps qs : List Part) (ts us : List (List ℕ)) → EachSays e ps ts → EachSays e qs us
-    → EachSays e (ps ++ qs) (ts ++ us)
-each-append e [] qs [] us no_field b = b
-each-append e [] qs (t ∷ ts) us a b = elim a [ ]
-each-append e (p ∷ ps) qs [] us a b = elim a [ ]
-each-append e (p ∷ ps) qs (t ∷ ts) us (one_part says rest) b = one_part says (each-append e ps qs ts us rest b)
-each-append e (kind ∷ protocol ∷ ps) qs (t ∷ ts) us (two_parts n ip its says rest) b = two_parts n ip its says (each-append e ps qs ts us rest b)
-
-pub joined : (e : Entry) (ps qs : List Part) (xs ys : List ℕ) → IsPiece e ps xs → IsPiece e qs ys → IsPiece e (ps ++ qs) (xs ++ ys)
-joined e ps qs xs ys a b = record {
+pub joined : (g f h : Given) (xs ys : List ℕ) → IsPiece g f xs → IsPiece f h ys → IsPiece g h (xs ++ ys)
+joined g f h xs ys a b = record {
   texts = a.texts ++ b.texts;
-  each = each-append e ps qs a.texts b.texts a.each b.each;
+  read = λ before reads. subst (Reads h) (append_assoc before a.texts b.texts) (b.read (before ++ a.texts) (a.read before reads));
   cut = λ rest. ap fields (append_assoc xs ys rest) ∙ a.cut (ys ++ rest) ∙ ap (λ fs. a.texts ++ fs) (b.cut rest) ∙ sym
       (append_assoc a.texts b.texts (fields rest));
-  apart = apart-append true xs ys ∙ ap (λ t. apart_from t ys) a.apart ∙ b.apart;
+  apart = apart_both xs ys a.apart b.apart;
   one_line = lacks-append 10 xs ys a.one_line b.one_line;
 }
 
 -- One field.
-field_piece : (e : Entry) (ps : List Part) (b : ℕ) (bs : List ℕ) → is_whole (b ∷ bs) ≡ true → EachSays e ps ((b ∷ bs) ∷ [])
-    → IsPiece e ps ((b ∷ bs) ++ codes ",")
-field_piece e ps b bs whole each = record {
+field_piece : (g h : Given) (b : ℕ) (bs : List ℕ) → is_whole (b ∷ bs) ≡ true → with_field g (b ∷ bs) ≡ Ok h
+    → IsPiece g h ((b ∷ bs) ++ codes ",")
+field_piece g h b bs whole read = record {
   texts = (b ∷ bs) ∷ [];
-  each = each;
+  read = λ before reads. reads_more g h before (b ∷ bs) reads read;
   cut = λ rest. ap fields (append_assoc (b ∷ bs) (codes ",") rest) ∙ ap (filter has_bytes)
       (slice_split_at is_separator (b ∷ bs) 44 rest (no_separator (b ∷ bs) whole) refl);
-  apart = apart-append true (b ∷ bs) (codes ",");
+  apart = separator_last (b ∷ bs) 44 refl;
   one_line = lacks-append 10 (b ∷ bs) (codes ",") (no_end (b ∷ bs) whole) refl;
 }
 
--- An optional field.
-abbrev pub if_given : {A : Type 0} → Part → Option A → List Part
-if_given p None = []
-if_given p (Some x) = p ∷ []
-
-value_piece : (e : Entry) (p : Part) (b : ℕ) (bs value : List ℕ) → is_whole (b ∷ bs) ≡ true → is_whole value ≡ true
-    → Says p e ((b ∷ bs) ++ value) → IsPiece e (p ∷ []) ((b ∷ bs) ++ (value ++ codes ","))
-value_piece e p b bs value name whole says =
-    subst (IsPiece e (p ∷ [])) (append_assoc (b ∷ bs) value (codes ","))
-    (field_piece e (p ∷ []) b (bs ++ value) (whole-append (b ∷ bs) value name whole) (one_part says no_field))
+value_piece : (g h : Given) (b : ℕ) (bs value : List ℕ) → is_whole (b ∷ bs) ≡ true → is_whole value ≡ true
+    → with_field g ((b ∷ bs) ++ value) ≡ Ok h → IsPiece g h ((b ∷ bs) ++ (value ++ codes ","))
+value_piece g h b bs value name whole read =
+    subst (IsPiece g h) (append_assoc (b ∷ bs) value (codes ","))
+    (field_piece g h b (bs ++ value) (whole-append (b ∷ bs) value name whole) read)
 
 below : (n limit : ℕ) → nat_lt n limit ≡ true → n < limit
 below n limit h = grind (arith, nat_tests)
 
-pub address_piece : (e : Entry) (p : Part) (b : ℕ) (bs : List ℕ) (part : Option Prefix)
-    → ((text : List ℕ) → IsAddressText (b ∷ bs) part text → Says p e text) → is_whole (b ∷ bs) ≡ true → address_fits part ≡ true
-    → IsPiece e (if_given p part) (field_text (b ∷ bs) prefix_text part)
-address_piece e p b bs None says name fits = no_piece e
-address_piece e p b bs (Some q) says name fits =
-    value_piece e p b bs (prefix_text q) name (prefix_whole q)
-    (says _ (q, prefix_text q, refl, below q.addr (2 ^ 32) fits, inl refl, refl))
+-- An optional field, by the partial entry with its value.
+pub address_piece : (now : Option Prefix → Given) (b : ℕ) (bs : List ℕ) (part : Option Prefix)
+    → ((q : Prefix) → q.addr < 2 ^ 32 → with_field (now None) ((b ∷ bs) ++ prefix_text q) ≡ Ok (now (Some q)))
+    → is_whole (b ∷ bs) ≡ true → address_fits part ≡ true → IsPiece (now None) (now part) (field_text (b ∷ bs) prefix_text part)
+address_piece now b bs None read name fits = no_piece (now None)
+address_piece now b bs (Some q) read name fits =
+    value_piece (now None) (now (Some q)) b bs (prefix_text q) name (prefix_whole q) (read q (below q.addr (2 ^ 32) fits))
 
-pub number_piece : (e : Entry) (p : Part) (b : ℕ) (bs : List ℕ) (limit : ℕ) (given : Option ℕ)
-    → ((text : List ℕ) → IsNumberText (b ∷ bs) limit given text → Says p e text) → is_whole (b ∷ bs) ≡ true → limit ≤ 2 ^ 64
-    → number_fits limit given ≡ true → IsPiece e (if_given p given) (field_text (b ∷ bs) decimal given)
-number_piece e p b bs limit None says name small fits = no_piece e
-number_piece e p b bs limit (Some n) says name small fits =
+pub number_piece : (now : Option ℕ → Given) (b : ℕ) (bs : List ℕ) (limit : ℕ) (given : Option ℕ)
+    → ((n : ℕ) → n < limit → with_field (now None) ((b ∷ bs) ++ decimal n) ≡ Ok (now (Some n)))
+    → is_whole (b ∷ bs) ≡ true → limit ≤ 2 ^ 64 → number_fits limit given ≡ true
+    → IsPiece (now None) (now given) (field_text (b ∷ bs) decimal given)
+number_piece now b bs limit None read name small fits = no_piece (now None)
+number_piece now b bs limit (Some n) read name small fits =
     let less = below n limit fits in
-    value_piece e p b bs (decimal n) name (decimal_whole n (omega arith))
-    (says _ (n, refl, less, refl))
+    value_piece (now None) (now (Some n)) b bs (decimal n) name (decimal_whole n (omega (arith, less, small))) (read n less)
 
 -- 3. The kind and the protocol.
 
 equal : (n m : ℕ) → (n == m) ≡ true → n ≡ m
 equal n m h = grind (arith, nat_tests)
 
-abbrev pub kind_parts : FrameKind → Option ℕ → List Part
-kind_parts frames.Any proto = []
-kind_parts frames.Arp proto = kind ∷ []
-kind_parts frames.Ip None = kind ∷ []
-kind_parts frames.Ip (Some n) = kind ∷ protocol ∷ []
+-- The partial entry of priority only, and with a kind and a protocol.
+abbrev pub of_priority : Option ℕ → Given
+of_priority n = record nothing_given { priority = n }
 
-protocol_piece : (e : Entry) (n : ℕ) → ((text : List ℕ) → IsKindText frames.Ip text → Says kind e text)
-    → ((text : List ℕ) → IsNumberText (codes "nw_proto=") (2 ^ 8) (Some n) text → Says protocol e text)
-    → e.kind ≡ frames.Ip → e.proto ≡ Some n → nat_lt n (2 ^ 8) ≡ true
+abbrev given_kind : FrameKind → Option FrameKind
+given_kind frames.Any = None
+given_kind frames.Arp = Some frames.Arp
+given_kind frames.Ip = Some frames.Ip
+
+abbrev pub of_kind : ℕ → FrameKind → Option ℕ → Given
+of_kind n k o = record (of_priority (Some n)) { kind = given_kind k; proto = o }
+
+protocol_piece : (first n : ℕ) → nat_lt n (2 ^ 8) ≡ true
     → (one six other : Bool) → (n == icmp) ≡ one → (n == tcp) ≡ six → (n == udp) ≡ other
-    → IsPiece e (kind ∷ protocol ∷ [])
+    → IsPiece (of_priority (Some first)) (of_kind first frames.Ip (Some n))
     (if one || (six || other) then (if one then codes "icmp" else if six then codes "tcp" else if other then codes "udp" else decimal n) ++ codes ","
     else codes "ip,nw_proto=" ++ (decimal n ++ codes ","))
-protocol_piece e n of_kind of_number ip its fits true six other is_one is_six is_other =
-    field_piece e (kind ∷ protocol ∷ []) 105 (codes "cmp") refl (two_parts n ip its (one_named n (codes "icmp") (inl (equal n icmp is_one, refl))) no_field)
-protocol_piece e n of_kind of_number ip its fits false true other is_one is_six is_other =
-    field_piece e (kind ∷ protocol ∷ []) 116 (codes "cp") refl (two_parts n ip its (one_named n (codes "tcp") (inr (inl (equal n tcp is_six, refl)))) no_field)
-protocol_piece e n of_kind of_number ip its fits false false true is_one is_six is_other =
-    field_piece e (kind ∷ protocol ∷ []) 117 (codes "dp") refl (two_parts n ip its (one_named n (codes "udp") (inr (inr (equal n udp is_other, refl)))) no_field)
-protocol_piece e n of_kind of_number ip its fits false false false is_one is_six is_other =
-    joined e (kind ∷ []) (protocol ∷ []) (codes "ip,") (codes "nw_proto=" ++ (decimal n ++ codes ","))
-    (field_piece e (kind ∷ []) 105 (codes "p") refl (one_part (of_kind _ (inl refl)) no_field))
-    (number_piece e protocol 110 (codes "w_proto=") (2 ^ 8) (Some n) of_number refl (omega arith) fits)
+protocol_piece first n fits true six other is_one is_six is_other =
+    field_piece (of_priority (Some first)) _ 105 (codes "cmp") refl
+    (read_protocol n frames.Ip (Some n) (of_priority (Some first)) _ refl refl (one_named n (codes "icmp") (inl (equal n icmp is_one, refl))) refl refl)
+protocol_piece first n fits false true other is_one is_six is_other =
+    field_piece (of_priority (Some first)) _ 116 (codes "cp") refl
+    (read_protocol n frames.Ip (Some n) (of_priority (Some first)) _ refl refl (one_named n (codes "tcp") (inr (inl (equal n tcp is_six, refl)))) refl refl)
+protocol_piece first n fits false false true is_one is_six is_other =
+    field_piece (of_priority (Some first)) _ 117 (codes "dp") refl
+    (read_protocol n frames.Ip (Some n) (of_priority (Some first)) _ refl refl (one_named n (codes "udp") (inr (inr (equal n udp is_other, refl)))) refl refl)
+protocol_piece first n fits false false false is_one is_six is_other =
+    joined (of_priority (Some first)) (of_kind first frames.Ip None) (of_kind first frames.Ip (Some n)) (codes "ip,") (codes "nw_proto=" ++ (decimal n ++ codes ","))
+    (field_piece _ _ 105 (codes "p") refl (read_kind frames.Ip (of_priority (Some first)) _ (inl refl) refl))
+    (number_piece (of_kind first frames.Ip) 110 (codes "w_proto=") (2 ^ 8) (Some n)
+    (λ m less. read_of_says protocol (entry_with m frames.Any None) (of_kind first frames.Ip None) _ (m, refl, less, refl) refl) refl (omega arith) fits)
 
-pub kind_piece : (e : Entry) (k : FrameKind) (o : Option ℕ) → ((text : List ℕ) → IsKindText k text → Says kind e text)
-    → ((text : List ℕ) → IsNumberText (codes "nw_proto=") (2 ^ 8) o text → Says protocol e text)
-    → e.kind ≡ k → e.proto ≡ o → number_fits (2 ^ 8) o ≡ true
-    → IsPiece e (kind_parts k o) (kind_text k o)
-kind_piece e frames.Any o of_kind of_number ip its fits = no_piece e
-kind_piece e frames.Arp o of_kind of_number ip its fits =
-    field_piece e (kind ∷ []) 97 (codes "rp") refl (one_part (of_kind _ (inl refl)) no_field)
-kind_piece e frames.Ip None of_kind of_number ip its fits =
-    field_piece e (kind ∷ []) 105 (codes "p") refl (one_part (of_kind _ (inl refl)) no_field)
-kind_piece e frames.Ip (Some n) of_kind of_number ip its fits =
-    protocol_piece e n of_kind of_number ip its fits (n == icmp) (n == tcp) (n == udp) refl refl refl
+some_asked : (a b : Bool) → not (a || (b || true)) ≡ true → ⊥
+some_asked true b h = cc
+some_asked false true h = cc
+some_asked false false h = cc
+
+pub kind_piece : (first : ℕ) (a b : Bool) (k : FrameKind) (o : Option ℕ) → kind_asks k (a || (b || is_some o)) ≡ true → number_fits (2 ^ 8) o ≡ true
+    → IsPiece (of_priority (Some first)) (of_kind first k o) (kind_text k o)
+kind_piece first a b frames.Any None asks fits = no_piece (of_priority (Some first))
+kind_piece first a b frames.Any (Some n) asks fits = absurd (some_asked a b asks)
+kind_piece first a b frames.Arp None asks fits =
+    field_piece _ _ 97 (codes "rp") refl (read_kind frames.Arp (of_priority (Some first)) _ (inl refl) refl)
+kind_piece first a b frames.Arp (Some n) asks fits = absurd (some_asked a b asks)
+kind_piece first a b frames.Ip None asks fits =
+    field_piece _ _ 105 (codes "p") refl (read_kind frames.Ip (of_priority (Some first)) _ (inl refl) refl)
+kind_piece first a b frames.Ip (Some n) asks fits = protocol_piece first n fits (n == icmp) (n == tcp) (n == udp) refl refl refl

@@ -1,14 +1,14 @@
 -- The numbers of an entry that a line encodes fit a frame.
-use Rattle.std.proofs.Common.{◌≡◌, ◌<◌, ◌^◌, ◌⊎◌, inl, inr, ℕ, true, List, [], ◌∷◌, Option, Some, sym, ap, subst, ◌∙◌, arith}
+use Rattle.std.proofs.Common.{◌≡◌, ◌<◌, ◌^◌, inl, inr, ℕ, true, List, Option, Some, ap, ◌∙◌, arith}
 use Rattle.std.specs.Prelude.{nat_lt, IsTrue}
 use Rattle.std.proofs.lemmas.Bool.{and_from}
 use Rattle.std.proofs.lemmas.Bool.Decides.{nat_tests}
 use Rattle.host_net.specs.declared.prefix.Prefix.{Prefix}
 use Rattle.ofp_rules.specs.declared.entry.Entry.{Entry}
 use Rattle.ofp_rules.specs.inner.Ranges.{address_fits, in_range, number_fits}
-use Rattle.ofp_read.specs.Grammar.{Part, priority, table, kind, source, destination, protocol, source_port, destination_port, EachSays, no_field, one_part, two_parts, IsNoneOf, IsAddressText, IsNumberText, AreFieldsOf, Writes}
+use Rattle.ofp_read.specs.Grammar.{Part, priority, table, kind, source, destination, protocol, source_port, destination_port, IsAddressText, IsNumberText, Writes}
 use Rattle.ofp_read.proofs.PartWords.{Says, IsUnsaid, name_of, IsNamed, named_one}
-use Rattle.ofp_read.proofs.PartLaws.{one_or_not}
+use Rattle.ofp_read.proofs.EntryLaws.{fields_are}
 
 -- The value of this part of the entry fits.
 abbrev Fits : Part → Entry → Type 0
@@ -57,32 +57,12 @@ unsaid_fits protocol e unsaid = ap (number_fits (2 ^ 8)) unsaid
 unsaid_fits source_port e unsaid = ap (number_fits (2 ^ 16)) unsaid
 unsaid_fits destination_port e unsaid = ap (number_fits (2 ^ 16)) unsaid
 
-one_more : (p q : Part) (e : Entry) (ps : List Part) → Fits q e → Fits p e ⊎ IsNoneOf p ps → Fits p e ⊎ IsNoneOf p (q ∷ ps)
-one_more p q e ps fits (inl own) = inl own
-one_more p q e ps fits (inr none) = elim (one_or_not p q) [
-  | inl is ↦ inl (subst (λ (x : Part). Fits x e) (sym is) fits)
-  | inr apart ↦ inr (apart, none)
-]
-
-fits_or_none : (p : Part) (e : Entry) (parts : List Part) (texts : List (List ℕ)) → EachSays e parts texts → Fits p e ⊎ IsNoneOf p parts
-fits_or_none p e [] [] no_field = inr tt
-fits_or_none p e [] (text ∷ texts) says = elim says [ ]
-fits_or_none p e (q ∷ ps) [] says = elim says [ ]
-fits_or_none p e (q ∷ ps) (text ∷ texts) (one_part says rest) =
-    one_more p q e ps (said_fits q e text says) (fits_or_none p e ps texts rest)
-fits_or_none p e (kind ∷ protocol ∷ ps) (text ∷ texts) (two_parts n ip its says rest) =
-    one_more p kind e (protocol ∷ ps) tt
-    (one_more p protocol e ps (ap (number_fits (2 ^ 8)) its ∙ named_fits n text (named_one n text says)) (fits_or_none p e ps texts rest))
-
-fields_fit : (e : Entry) (texts : List (List ℕ)) → AreFieldsOf e texts → (p : Part) → Fits p e
-fields_fit e texts fields p = elim (fits_or_none p e fields.parts texts fields.each) [
-  | inl fits ↦ fits
-  | inr none ↦ unsaid_fits p e (fields.others p none)
-]
-
 pub written_in_range : (line : List ℕ) (e : Entry) → Writes line e → IsTrue (in_range e)
 written_in_range line e writes =
-    let fits = fields_fit e _ writes.0.of_fields in
+    let fields = writes.0.of_fields in
+    let fits : (p : Part) → Fits p e = fields_are e e (λ p. Fits p e) (λ p text said also. said_fits p e text said)
+    (λ n m text named also. (tt, ap (number_fits (2 ^ 8)) named.1 ∙ named_fits n text (named_one n text named.2)))
+    (λ p unsaid also. unsaid_fits p e unsaid) _ fields fields in
     and_from _ _ (fits priority)
     (and_from _ _ (fits protocol)
     (and_from _ _ (fits source_port) (and_from _ _ (fits destination_port) (and_from _ _ (fits source) (fits destination)))))

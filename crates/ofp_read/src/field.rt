@@ -1,8 +1,7 @@
 //! One field of a flow line, by the table of fields.
 
 ghost use Rattle.std.specs.Prelude.{◌≡◌};
-ghost use Rattle.std.specs.Option.{option_map};
-ghost use Rattle.ofp_read.specs.inner.FieldTable.{frame_type, is_given, key_alone, key_of, key_with_value, of_protocol, with_field, with_table, with_key, with_value};
+ghost use Rattle.ofp_read.specs.inner.FieldTable.{frame_type, is_given, key_named, kind_named, part_of, with_field, with_key, with_kind, with_parts, with_piece, with_table, with_value};
 
 use crate::fault::OfpWhy;
 use crate::given::{Given, Key};
@@ -10,9 +9,9 @@ use host_net::{read_port, read_prefix};
 use ofp_rules::FrameKind;
 use text_core::{read_number, split_once};
 
-#[tactic(auto, unfolding(crate::specs::inner::FieldTable::key_with_value))]
-fn key_with_value(name: &[u8]) -> Option<Key>
-    ensures { result ≡ key_with_value name.now }
+#[tactic(auto, unfolding(crate::specs::inner::FieldTable::key_named))]
+fn key_named(name: &[u8]) -> Option<Key>
+    ensures { result ≡ key_named name.now }
 {
     if name == b"priority".as_slice() {
         return Some(Key::Priority);
@@ -41,47 +40,36 @@ fn key_with_value(name: &[u8]) -> Option<Key>
     None
 }
 
-#[tactic(auto, unfolding(crate::specs::inner::FieldTable::key_alone))]
-fn key_alone(name: &[u8]) -> Option<Key>
-    ensures { result ≡ key_alone name.now }
+/// Returns the frame kind of a name without a value, and the protocol that it names.
+#[tactic(auto, unfolding(crate::specs::inner::FieldTable::kind_named))]
+fn kind_named(name: &[u8]) -> Option<(FrameKind, Option<u8>)>
+    ensures { result ≡ kind_named name.now }
 {
     if name == b"ip".as_slice() {
-        return Some(Key::Ip);
+        return Some((FrameKind::Ip, None));
     }
     if name == b"arp".as_slice() {
-        return Some(Key::Arp);
+        return Some((FrameKind::Arp, None));
     }
     if name == b"icmp".as_slice() {
-        return Some(Key::Icmp);
+        return Some((FrameKind::Ip, Some(1)));
     }
     if name == b"tcp".as_slice() {
-        return Some(Key::Tcp);
+        return Some((FrameKind::Ip, Some(6)));
     }
     if name == b"udp".as_slice() {
-        return Some(Key::Udp);
+        return Some((FrameKind::Ip, Some(17)));
     }
     None
 }
 
-/// Returns the key of a field, and its value if it has one.
-#[tactic(auto, unfolding(crate::specs::inner::FieldTable::key_of))]
-fn key_of(text: &[u8]) -> Option<(Key, &[u8])>
-    ensures { option_map (λ field. (field.0, field.1.now)) result ≡ key_of text.now }
-{
-    match split_once(text, b'=') {
-        Some((name, value)) => Some((key_with_value(name)?, value)),
-        None => Some((key_alone(text)?, &[])),
-    }
-}
-
 fn is_given(given: Given, key: Key) -> bool
-    ensures { result ≡ is_given given key }
+    ensures { result ≡ is_given given (part_of key) }
 {
     match key {
         Key::Priority => given.priority.is_some(),
         Key::Table => given.table,
-        Key::Ip | Key::Arp | Key::FrameType => given.kind.is_some(),
-        Key::Icmp | Key::Tcp | Key::Udp => given.kind.is_some() || given.proto.is_some(),
+        Key::FrameType => given.kind.is_some(),
         Key::Source => given.src.is_some(),
         Key::Destination => given.dst.is_some(),
         Key::Protocol => given.proto.is_some(),
@@ -103,15 +91,6 @@ fn frame_type(value: &[u8]) -> Option<FrameKind>
     None
 }
 
-fn with_kind(given: Given, kind: FrameKind) -> Given
-    ensures { result ≡ record given { kind = Some kind } }
-{
-    Given {
-        kind: Some(kind),
-        ..given
-    }
-}
-
 fn with_table(given: Given, value: &[u8]) -> Option<Given>
     ensures { result ≡ with_table given value.now }
 {
@@ -122,17 +101,6 @@ fn with_table(given: Given, value: &[u8]) -> Option<Given>
         })
     } else {
         None
-    }
-}
-
-/// Returns the partial entry with IPv4 frames of a protocol.
-fn of_protocol(given: Given, proto: u8) -> Given
-    ensures { result ≡ of_protocol given proto }
-{
-    Given {
-        kind: Some(FrameKind::Ip),
-        proto: Some(proto),
-        ..given
     }
 }
 
@@ -147,12 +115,10 @@ fn with_value(given: Given, key: Key, value: &[u8]) -> Option<Given>
             Some(Given { priority, ..given })
         }
         Key::Table => with_table(given, value),
-        Key::Ip => Some(with_kind(given, FrameKind::Ip)),
-        Key::Arp => Some(with_kind(given, FrameKind::Arp)),
-        Key::Icmp => Some(of_protocol(given, 1)),
-        Key::Tcp => Some(of_protocol(given, 6)),
-        Key::Udp => Some(of_protocol(given, 17)),
-        Key::FrameType => Some(with_kind(given, frame_type(value)?)),
+        Key::FrameType => {
+            let kind = Some(frame_type(value)?);
+            Some(Given { kind, ..given })
+        }
         Key::Source => {
             let src = Some(read_prefix(value)?);
             Some(Given { src, ..given })
@@ -176,11 +142,11 @@ fn with_value(given: Given, key: Key, value: &[u8]) -> Option<Given>
     }
 }
 
-/// Adds a field: its name is checked first, then repetition, then its value.
-pub(crate) fn with_field(given: Given, text: &[u8]) -> Result<Given, OfpWhy>
-    ensures { result ≡ with_field given text.now }
+/// Adds the value of a named field: its name is checked first, then repetition, then its value.
+fn with_key(given: Given, value: &[u8], key: Option<Key>) -> Result<Given, OfpWhy>
+    ensures { result ≡ with_key given value.now key }
 {
-    let Some((key, value)) = key_of(text) else {
+    let Some(key) = key else {
         return Err(OfpWhy::UnknownField);
     };
     if is_given(given, key) {
@@ -189,5 +155,44 @@ pub(crate) fn with_field(given: Given, text: &[u8]) -> Result<Given, OfpWhy>
     match with_value(given, key, value) {
         Some(now) => Ok(now),
         None => Err(OfpWhy::BadValue),
+    }
+}
+
+/// Adds a frame kind and a protocol of IPv4 frames.
+fn with_kind(given: Given, named: Option<(FrameKind, Option<u8>)>) -> Result<Given, OfpWhy>
+    ensures { result ≡ with_kind given named }
+{
+    let Some((kind, proto)) = named else {
+        return Err(OfpWhy::UnknownField);
+    };
+    let kind = Some(kind);
+    match proto {
+        None if given.kind.is_some() => Err(OfpWhy::BadLine),
+        None => Ok(Given { kind, ..given }),
+        Some(_) if given.kind.is_some() || given.proto.is_some() => Err(OfpWhy::BadLine),
+        Some(_) => Ok(Given {
+            kind,
+            proto,
+            ..given
+        }),
+    }
+}
+
+fn with_field(given: Given, text: &[u8]) -> Result<Given, OfpWhy>
+    ensures { result ≡ with_field given text.now }
+{
+    match split_once(text, b'=') {
+        Some((name, value)) => with_key(given, value, key_named(name)),
+        None => with_kind(given, kind_named(text)),
+    }
+}
+
+/// Adds a field, unless the text is empty.
+pub(crate) fn with_piece(given: Given, text: &[u8]) -> Result<Given, OfpWhy>
+    ensures { result ≡ with_piece given text.now }
+{
+    match text {
+        [_, ..] => with_field(given, text),
+        [] => Ok(given),
     }
 }

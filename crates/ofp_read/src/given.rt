@@ -3,16 +3,11 @@
 use host_net::Prefix;
 use ofp_rules::FrameKind;
 
-/// The key of a field, by its name.
+/// The name of a field that has a value.
 #[derive(Clone, Copy, Debug, PartialEq, Eq)]
 pub(crate) enum Key {
     Priority,
     Table,
-    Ip,
-    Arp,
-    Icmp,
-    Tcp,
-    Udp,
     FrameType,
     Source,
     Destination,

@@ -1,16 +1,17 @@
 //! One flow line: its fields, its action, and the entry that they encode.
 
-ghost use Rattle.std.specs.Prelude.{◌≡◌, true, false, Option, List, ℕ};
-ghost use Rattle.std.specs.Option.{option_map, option_map_or};
+ghost use Rattle.std.specs.Prelude.{◌≡◌, true, false, Option, List, ℕ, IfErr, IfOk, position};
+ghost use Rattle.std.specs.Option.{option_map_or};
 ghost use Rattle.text_core.specs.Lines.{words, is_blank};
 ghost use Rattle.host_net.specs.Service.{has_ports};
 ghost use Rattle.ofp_rules.specs.Matching.{asks_of_ip};
-ghost use Rattle.ofp_read.specs.Grammar.{fields, has_bytes, is_separator};
-ghost use Rattle.ofp_read.specs.inner.FlowLine.{action_of, entry_of, flow_by, flow_of, nothing_given, with_action, with_fields};
-ghost use Rattle.ofp_read.specs.inner.Cut.{begins_action, cut_action};
+ghost use Rattle.ofp_read.specs.Grammar.{Writes, is_separator};
+ghost use Rattle.ofp_read.specs.Unwritten.{IsUnwritten};
+ghost use Rattle.ofp_read.specs.inner.FlowLine.{action_of, entry_of, nothing_given, with_action};
+ghost use Rattle.ofp_read.specs.inner.Cut.{IsCut, begins_action};
 
 use crate::fault::OfpWhy;
-use crate::field::with_field;
+use crate::field::with_piece;
 use crate::given::Given;
 use ofp_rules::{Action, Entry, FrameKind};
 use text_core::Words;
@@ -32,48 +33,26 @@ fn is_separator(byte: u8) -> bool
     byte == b',' || byte == b' ' || byte == b'\t'
 }
 
-fn has_bytes(text: &[u8]) -> bool
-    ensures { result ≡ has_bytes text.now }
-{
-    match text {
-        [_, ..] => true,
-        [] => false,
-    }
-}
-
-/// Returns the partial entry of the fields of a line, from left to right.
-fn read_fields(text: &[u8]) -> Result<Given, OfpWhy>
-    ensures { result ≡ with_fields nothing_given (fields text.now) }
-{
-    let mut given = NOTHING_GIVEN;
-    for field in text
-        .split(|byte| is_separator(*byte))
-        .filter(|field| has_bytes(field))
-    {
-        given = with_field(given, field)?;
-    }
-    Ok(given)
-}
-
 fn begins_action(text: &[u8]) -> bool
     ensures { result ≡ begins_action text.now }
 {
     text.starts_with(b"actions=")
 }
 
-/// Returns the text before the first `actions=` that begins a field, and the text from there on.
-fn cut_action(line: &[u8]) -> Option<(&[u8], &[u8])>
-    ensures { option_map (λ parts. (parts.0.now, parts.1.now)) result ≡ cut_action true line.now }
+/// Returns the text before the first separator, and the text behind it.
+fn cut_piece(text: &[u8]) -> (&[u8], &[u8])
+    ensures { IsCut text.now result.0.now result.1.now }
 {
-    let mut begins = true;
-    for (place, byte) in line.iter().enumerate() {
-        let (front, rest) = line.split_at(place);
-        if begins && begins_action(rest) {
-            return Some((front, rest));
-        }
-        begins = is_separator(*byte);
+    match place_of_separator(text) {
+        Some(at) => (&text[..at], &text[at + 1..]),
+        None => (text, &[]),
     }
-    None
+}
+
+fn place_of_separator(text: &[u8]) -> Option<usize>
+    ensures { result ≡ position is_separator text.now }
+{
+    text.iter().position(|byte| is_separator(*byte))
 }
 
 /// Returns the action of a text that consists of one known token beginning with `actions=`.
@@ -140,15 +119,19 @@ fn has_ports(proto: Option<u8>) -> bool
 }
 
 /// Parses the entry of a line. Its fields are checked from left to right, then its action.
-#[tactic(auto, unfolding(crate::specs::inner::FlowLine::flow_of))]
 pub(crate) fn read_flow(line: &[u8]) -> Result<Entry, OfpWhy>
-    ensures { result ≡ flow_of line.now }
+    ensures ok { IfOk result (Writes line.now) }
+    ensures err { IfErr result (IsUnwritten line.now) }
 {
-    match cut_action(line) {
-        Some((front, rest)) => with_action(read_fields(front)?, read_action(rest)),
-        None => {
-            read_fields(line)?;
-            Err(OfpWhy::BadLine)
+    let mut given = NOTHING_GIVEN;
+    let mut rest = line;
+    while !rest.is_empty() {
+        if begins_action(rest) {
+            return with_action(given, read_action(rest));
         }
+        let (piece, behind) = cut_piece(rest);
+        given = with_piece(given, piece)?;
+        rest = behind;
     }
+    Err(OfpWhy::BadLine)
 }

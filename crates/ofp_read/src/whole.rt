@@ -68,7 +68,7 @@ impl LineReader for FlowReader {
         (BYTE_LIMIT, OfpWhy::TooLong)
     }
 
-    #[tactic(auto, using(crate::proofs::TextLaws::asks_of_flow, crate::proofs::TextLaws::entry_told, crate::proofs::TextLaws::line_told))]
+    #[tactic(auto, using(crate::proofs::TextLaws::asks_written, crate::proofs::TextLaws::entry_told))]
     fn read_line(self, number: u32, line: &[u8]) -> Result<FlowReader, LineFault<OfpWhy>> {
         match read_flow(line) {
             Ok(entry) => with_entry(self.table, entry),
