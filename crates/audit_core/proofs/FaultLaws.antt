@@ -1,13 +1,13 @@
 -- Faults of packets: criteria for a fault, and for the absence of faults.
-use Rattle.std.proofs.Common.{◌≡◌, ◌≢◌, ◌↔◌, ℕ, ◌+◌, ◌≤◌, ◌<◌, ◌^◌, Bool, true, false, IsTrue, List, Option, Some, None, refl, sym, subst, ◌∙◌, true≢false, arith}
+use Rattle.std.proofs.Common.{◌≡◌, ◌≢◌, ◌↔◌, ℕ, ◌+◌, ◌≤◌, ◌<◌, ◌^◌, Bool, true, false, ◌&&◌, ◌||◌, IsTrue, List, Option, Some, None, refl, sym, subst, ◌∙◌, true≢false, arith}
 use Rattle.std.proofs.Math.Bool.{beq}
 use Rattle.std.specs.Prelude.{not, is_some, IfSome}
 use Rattle.host_net.specs.declared.packet.Packet.{Packet}
 use Rattle.host_net.specs.declared.packet.CtState.{CtState}
-use Rattle.host_net.specs.Packet.{IsPacket}
+use Rattle.host_net.specs.declared.packet.CtState.TheVariants.{New}
+use Rattle.host_net.specs.Packet.{IsPacket, swap_of}
 use Rattle.header_space.specs.Boxes.{IsIn, every_packet}
 use Rattle.header_space.specs.Searching.{IsLeastWhere}
-use Rattle.pkt_core.specs.Firewall.{may_pass}
 use Rattle.audit_core.specs.declared.kind.Kind.{Kind}
 use Rattle.audit_core.specs.declared.kind.Kind.TheVariants.{Alone, BehindSwap, BehindBoth}
 use Rattle.audit_core.specs.Findings.{trace_of}
@@ -15,12 +15,12 @@ use Rattle.header_space.specs.declared.packet_box.PacketBox.{PacketBox}
 use Rattle.host_net.specs.Verdict.{verdict_if}
 use Rattle.ipt_rules.specs.Chain.{Chain}
 use Rattle.ipt_rules.specs.Slices.{HaveSameVerdicts as HaveSameChainVerdicts}
+use Rattle.pkt_core.specs.Firewall.{may_pass}
 use Rattle.audit_core.specs.Rules.{Chains, filter_of}
-use Rattle.audit_core.specs.Sides.{Sides, lets_answer, permits}
+use Rattle.audit_core.specs.Sides.{Sides, permits}
 use Rattle.audit_core.specs.Verdicts.{GivesOne, HaveSameVerdicts}
-use Rattle.audit_core.specs.inner.Faults.{IsAnyFault, IsExpected, IsFault, SaysOther}
-use Rattle.audit_core.specs.inner.Judging.{Right, Wrong, is_asked, state_in}
-use Rattle.audit_core.specs.inner.Sought.{AreRight}
+use Rattle.audit_core.specs.inner.Faults.{AreRight, IsAnyFault, IsExpected, IsFault, Right, SaysOther, Wrong, expected_at, is_asked, state_in}
+use Rattle.audit_core.proofs.RulesLaws.{one_verdict}
 
 -- ---- Packets are the packets of the box of all packets
 
@@ -53,15 +53,24 @@ packet_in_every p inside = (
 
 -- ---- Right and wrong
 
-same_where_not : (a b : Bool) → (a ≢ b → ⊥) → a ≡ b
+pub same_where_not : (a b : Bool) → (a ≢ b → ⊥) → a ≡ b
 same_where_not true true h = refl
 same_where_not false false h = refl
 same_where_not true false h = absurd (h (λ e. true≢false e))
 same_where_not false true h = absurd (h (λ e. true≢false (sym e)))
 
+-- The decision of the policy in the state New.
+pub says_new : (permitted stateful : Packet → Bool) (p : Packet) → may_pass permitted stateful New p ≡ permitted p
+says_new permitted stateful p = plain (permitted p) (stateful (swap_of p))
+  where
+    plain : (a b : Bool) → (a || (b && false)) ≡ a
+    plain true b = refl
+    plain false true = refl
+    plain false false = refl
+
 pub right_where : (sides : Sides) (kind : Kind) (p : Packet) → (IsFault sides kind p → ⊥) → Right sides kind p
 right_where sides kind p none asked passes said =
-    same_where_not passes (may_pass (permits sides) (lets_answer sides) (state_in kind) p)
+    same_where_not passes (expected_at sides kind p)
     (λ wrong. none (passes, record { asked = asked; said = said; wrong = wrong }))
 
 pub right_where_none : (sides built : Sides) (b : PacketBox) (found : Option Packet) → built ≡ sides → b ≡ every_packet
@@ -74,9 +83,7 @@ right_where_none sides built b (Some q) same whole found is = absurd (true≢fal
 pub fault_said : (sides : Sides) (kind : Kind) (p : Packet) (f : Bool) → GivesOne (filter_of sides.rules) → IsPacket p
     → filter_of sides.rules (state_in kind) p f → IsFault sides kind p → Wrong sides kind p f
 fault_said sides kind p f gives is said fault =
-    let one = gives (state_in kind) p is in
-    let same : fault.0 ≡ f = one.2 fault.0 fault.1.said ∙ sym (one.2 f said) in
-    subst (λ (b : Bool). Wrong sides kind p b) same fault.1
+    subst (λ (b : Bool). Wrong sides kind p b) (one_verdict sides.rules gives (state_in kind) p is fault.0 f fault.1.said said) fault.1
 
 -- ---- The result for a box
 
@@ -104,11 +111,10 @@ any_fault_by sides p alone swapped both not_alone first not_swapped second third
 pub says_by : (sides : Sides) (state : CtState) (p : Packet) (said expected answer : Bool) → GivesOne (filter_of sides.rules) → IsPacket p
     → filter_of sides.rules state p said → (IsTrue answer → said ≢ expected) → (said ≢ expected → IsTrue answer)
     → IsTrue answer ↔ SaysOther sides state expected p
-says_by sides state p said expected answer gives is is_said to from =
-    let one = gives state p is in (
-      (λ yes'. (said, is_said, to yes')),
-      (λ other. from (λ e. other.2 (one.2 other.0 other.1 ∙ sym (one.2 said is_said) ∙ e))),
-    )
+says_by sides state p said expected answer gives is is_said to from = (
+  (λ yes'. (said, is_said, to yes')),
+  (λ other. from (λ e. other.2 (one_verdict sides.rules gives state p is other.0 said other.1 is_said ∙ e))),
+)
 
 pub differs : (a b : Bool) → (IsTrue (not (beq a b)) → a ≢ b) × (a ≢ b → IsTrue (not (beq a b)))
 differs true true = ((λ h. absurd (true≢false (sym h))), (λ h. absurd (h refl)))

@@ -1,7 +1,6 @@
 pub mod AlikeLemmas
 pub mod AuditLemmas
 pub mod BetweenLaws
-pub mod DistinctLemmas
 pub mod ExpectedLaws
 pub mod FaultLaws
 pub mod FindingOnceLaws
@@ -17,10 +16,8 @@ pub mod RepresentativeLemmas
 pub mod RulesLaws
 pub mod RulesLemmas
 pub mod SameLaws
-pub mod SearchLemmas
 pub mod ShortLaws
 pub mod SideLemmas
 pub mod SiteLemmas
 pub mod SoughtLaws
 pub mod SourceLaws
-pub mod TotalLemmas

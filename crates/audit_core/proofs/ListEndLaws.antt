@@ -2,7 +2,6 @@
 -- expects.
 use Rattle.std.proofs.Common.{◌≡◌, ◌≢◌, ◌↔◌, inl, inr, Bool, true, false, ◌||◌, IsTrue, List, [], ◌∷◌, ◌++◌, Option, Some, None, length, refl, sym, subst, ap, ◌∙◌, true≢false, arith}
 use Rattle.std.proofs.Math.Bool.{beq}
-use Rattle.std.proofs.lemmas.Bool.{or_cases, or_left, or_right}
 use Rattle.host_net.specs.declared.packet.Packet.{Packet}
 use Rattle.host_net.specs.declared.packet.CtState.{CtState}
 use Rattle.host_net.specs.declared.packet.CtState.TheVariants.{New, Established}
@@ -10,11 +9,9 @@ use Rattle.host_net.specs.Packet.{IsPacket, swap_of}
 use Rattle.header_space.specs.declared.packet_box.PacketBox.{PacketBox}
 use Rattle.header_space.specs.Boxes.{IsIn, swapped}
 use Rattle.header_space.proofs.BoxLaws.{in_swapped}
-use Rattle.pkt_core.specs.declared.event.Event.{Event}
 use Rattle.pkt_core.specs.declared.event.Event.TheVariants.{Seen}
-use Rattle.pkt_core.specs.Events.{WasSeen}
 use Rattle.pkt_core.specs.Expected.{Expected}
-use Rattle.pkt_core.specs.laws.EventLaws.{WasSeen-none, WasSeen-now}
+use Rattle.pkt_core.specs.laws.EventLaws.{WasSeen-now}
 use Rattle.pkt_core.specs.laws.KeptLaws.{begins_behind_seen}
 use Rattle.pkt_core.specs.Tracking.{Runs, after_seen, nothing_kept, state_of}
 use Rattle.audit_core.specs.Agreement.{IsWrong}
@@ -22,22 +19,22 @@ use Rattle.audit_core.specs.declared.difference.Direction.{Direction}
 use Rattle.audit_core.specs.declared.kind.Kind.{Kind}
 use Rattle.audit_core.specs.declared.kind.Kind.TheVariants.{Alone, BehindSwap, BehindBoth}
 use Rattle.audit_core.specs.declared.list_end.Ends.{Ends}
-use Rattle.audit_core.specs.inner.Pairs.{DiffersBy, DiffersSo, EndsBy, HaveSameEnds, HoldsOf, expected_at, state_after}
-use Rattle.audit_core.specs.Verdicts.{HaveSameVerdicts}
+use Rattle.audit_core.specs.inner.Faults.{expected_at}
+use Rattle.audit_core.specs.inner.Pairs.{DiffersBy, DiffersSo, EndsBy, HaveSameEnds, HoldsOf, state_after}
+use Rattle.audit_core.specs.Verdicts.{HaveSameVerdicts, GivesOne}
 use Rattle.audit_core.specs.inner.Parts.{IsPartOf}
-use Rattle.audit_core.specs.Verdicts.{GivesOne}
 use Rattle.audit_core.specs.laws.FindingLaws.{swaps_known}
 use Rattle.audit_core.specs.laws.ListLaws.{differ_more}
 use Rattle.audit_core.specs.Lists.{front_of}
 use Rattle.audit_core.specs.Pairs.{DiffersAt}
 use Rattle.audit_core.specs.Rules.{Rules, filter_of}
 use Rattle.audit_core.specs.Sides.{Sides, lets_answer, permits}
-use Rattle.audit_core.proofs.JudgingLemmas.{says_established, says_new}
-use Rattle.audit_core.proofs.ShortLaws.{kept_established, swap_established}
+use Rattle.audit_core.proofs.RulesLaws.{one_verdict}
+use Rattle.audit_core.proofs.ShortLaws.{expects_behind, expects_first, kept_established, swap_established}
 
 -- 1. The expectation of the policy.
 
-wrong_by : {E : Type 0} (b e : Bool) → b ≢ e → (IsTrue e ↔ E) → IsWrong b E
+pub wrong_by : {E : Type 0} (b e : Bool) → b ≢ e → (IsTrue e ↔ E) → IsWrong b E
 wrong_by true true other is = absurd (other refl)
 wrong_by true false other is = inl (refl, λ x. true≢false (sym (is.1 x)))
 wrong_by false true other is = inr (refl, is.0 refl)
@@ -49,38 +46,18 @@ other_by b e wrong is same = elim wrong [
   | inr h ↦ true≢false (sym (is.1 h.1) ∙ sym same ∙ h.0)
 ]
 
-module _ (permitted stateful : Packet → Bool) where
-  expected_first : (p : Packet) → IsTrue (permitted p) ↔ Expected permitted stateful [] p
-  expected_first p = ((λ h. inl h), (λ e. elim e [ inl h ↦ h | inr h ↦ absurd (WasSeen-none (swap_of p) h.1) ]))
-
-  expected_with : (past : List Event) (p : Packet) → WasSeen past (swap_of p)
-      → IsTrue (permitted p || stateful (swap_of p)) ↔ Expected permitted stateful past p
-  expected_with past p was = (
-    (λ h. elim (or_cases (permitted p) (stateful (swap_of p)) h) [ inl own ↦ inl own | inr other ↦ inr (other, was) ]),
-    (λ e. elim e [ inl h ↦ or_left (permitted p) _ h | inr h ↦ or_right (permitted p) _ h.0 ]),
-  )
-
-says_then : {E : Type 0} (a b : Bool) → a ≡ b → (IsTrue b ↔ E) → IsTrue a ↔ E
-says_then a b same is = ((λ h. is.0 (sym same ∙ h)), (λ e. same ∙ is.1 e))
-
-expects : (sides : Sides) (kind : Kind) (p : Packet) → IsTrue (expected_at sides kind p) ↔ Expected (permits sides) (lets_answer sides) (front_of kind p) p
-expects sides Alone p = says_then _ _ (says_new (permits sides) (lets_answer sides) p) (expected_first (permits sides) (lets_answer sides) p)
+pub expects : (sides : Sides) (kind : Kind) (p : Packet) → IsTrue (expected_at sides kind p) ↔ Expected (permits sides) (lets_answer sides) (front_of kind p) p
+expects sides Alone p = expects_first (permits sides) (lets_answer sides) p
 expects sides BehindSwap p =
-    says_then _ _ (says_established (permits sides) (lets_answer sides) p)
-    (expected_with (permits sides) (lets_answer sides) (Seen (swap_of p) ∷ []) p (WasSeen-now [] (swap_of p) (swap_of p) refl))
+    expects_behind (permits sides) (lets_answer sides) (Seen (swap_of p) ∷ []) p (WasSeen-now [] (swap_of p) (swap_of p) refl)
 expects sides BehindBoth p =
-    says_then _ _ (says_established (permits sides) (lets_answer sides) p)
-    (expected_with (permits sides) (lets_answer sides) (Seen p ∷ Seen (swap_of p) ∷ []) p (WasSeen-now (Seen p ∷ []) (swap_of p) (swap_of p) refl))
+    expects_behind (permits sides) (lets_answer sides) (Seen p ∷ Seen (swap_of p) ∷ []) p (WasSeen-now (Seen p ∷ []) (swap_of p) (swap_of p) refl)
 
 -- 2. The verdicts of the rules.
 
 behind_swap_state : (p : Packet) (passed : Bool) → state_of (after_seen nothing_kept (swap_of p) passed) p ≡ state_after passed
 behind_swap_state p true = swap_established (swap_of p)
 behind_swap_state p false = refl
-
-one_verdict : (rules : Rules) → GivesOne (filter_of rules) → (state : CtState) (p : Packet) → IsPacket p → (b c : Bool) → filter_of rules state p b
-    → filter_of rules state p c → b ≡ c
-one_verdict rules gives state p is b c first second = let one = gives state p is in one.2 b first ∙ sym (one.2 c second)
 
 one_end : (rules swaps : Rules) → GivesOne (filter_of rules) → GivesOne (filter_of swaps) → (kind : Kind) (p : Packet) → IsPacket p → (b c : Bool)
     → EndsBy rules swaps kind p b → EndsBy rules swaps kind p c → b ≡ c
@@ -208,7 +185,7 @@ module _ (sides : Sides) (gives : GivesOne (filter_of sides.rules)) where
   ends_by BehindSwap p is b differs = ends_behind_swap p b differs.answers differs.many differs.run
   ends_by BehindBoth p is b differs = ends_behind_both p is b differs.answers differs.many differs.run
 
-  whole_differs : (kind : Kind) (p : Packet) → IsPacket p → (b : Bool) → DiffersBy (record { part = sides; swaps = sides }) kind p b ↔ DiffersAt sides kind p b
+  pub whole_differs : (kind : Kind) (p : Packet) → IsPacket p → (b : Bool) → DiffersBy (record { part = sides; swaps = sides }) kind p b ↔ DiffersAt sides kind p b
   whole_differs kind p is b = (
     (λ d. differ_by kind p is b d.ends d.other),
     (λ d. record { ends = ends_by kind p is b d; other = other_by b (expected_at sides kind p) d.wrong (expects sides kind p) }),

@@ -1,19 +1,18 @@
 -- The parts that are appended, in order.
-use Rattle.std.proofs.Common.{◌≡◌, ℕ, zero, suc, ◌+◌, ◌^◌, ◌<◌, List, [], ◌∷◌, ◌++◌, Some, length, get_or, map, take, refl, sym, ap, subst, ◌∙◌, arith, append_assoc, append-nil}
+use Rattle.std.proofs.Common.{◌≡◌, ℕ, zero, suc, ◌+◌, ◌<◌, List, [], ◌∷◌, ◌++◌, Some, length, get_or, map, take, sym, ap, subst, ◌∙◌, arith, append_assoc, append-nil}
 use Rattle.std.specs.Prelude.{slice_get}
 use Rattle.std.specs.List.{flat_map}
 use Rattle.std.specs.Option.{option_map}
 use Rattle.std.proofs.lemmas.Grind.{flat_map-append}
+use Rattle.std.proofs.lemmas.List.{map-append, take_more as take_next}
+use Rattle.std.proofs.lemmas.Option.{get_or_from_slice_get, slice_get_within}
 use Rattle.host_net.specs.declared.prefix.Prefix.{Prefix}
 use Rattle.host_net.specs.Host.{Host}
 use Rattle.host_net.specs.Hosts.{all_prefixes}
-use Rattle.host_net.specs.PrefixView.{first_address, last_address}
 use Rattle.audit_core.specs.declared.named.Found.{Found}
 use Rattle.audit_core.specs.Cuts.{cut_addresses, cut_ports, named_protocols}
-use Rattle.audit_core.specs.inner.Named.{AreMore, address_ranges, port_ranges}
-use Rattle.audit_core.specs.Parts.{Part, Addresses, Protocol, Ports}
-use Rattle.audit_core.specs.inner.RangeCuts.{cuts_of_addresses, cuts_of_ports}
-use Rattle.audit_core.specs.Ranges.{range_cuts}
+use Rattle.audit_core.specs.inner.Named.{AreMore}
+use Rattle.audit_core.specs.Parts.{Part, Addresses}
 
 -- 1. More parts.
 
@@ -25,54 +24,29 @@ joined {Y} f xs ys a b c first second =
 
 pub named_more : (xs ys : List Part) (a b c : Found) → AreMore xs a b → AreMore ys b c → AreMore (xs ++ ys) a c
 named_more xs ys a b c first second = record {
-  addresses = joined address_ranges xs ys a.addresses.items b.addresses.items c.addresses.items first.addresses second.addresses;
+  addresses = joined cut_addresses xs ys a.addresses.items b.addresses.items c.addresses.items first.addresses second.addresses;
   protocols = joined named_protocols xs ys a.protocols.items b.protocols.items c.protocols.items first.protocols second.protocols;
-  ports = joined port_ranges xs ys a.ports.items b.ports.items c.ports.items first.ports second.ports;
+  ports = joined cut_ports xs ys a.ports.items b.ports.items c.ports.items first.ports second.ports;
 }
 
 -- One step of a loop that appends all of zs.
 pub named_step : (xs ys zs : List Part) (a b c : Found) → AreMore xs a b → AreMore ys b c → xs ++ ys ≡ zs → AreMore zs a c
 named_step xs ys zs a b c first second is = subst (λ (ps : List Part). AreMore ps a c) is (named_more xs ys a b c first second)
 
--- The ranges of parts have the cuts of the parts.
-pub address_cuts_are : (parts : List Part) → flat_map cuts_of_addresses (flat_map address_ranges parts) ≡ flat_map cut_addresses parts
-address_cuts_are [] = refl
-address_cuts_are (Addresses p ∷ ps) =
-    ap (λ (l : List ℕ). range_cuts (2 ^ 32) (first_address p) (last_address p) ++ l) (address_cuts_are ps)
-address_cuts_are (Protocol n ∷ ps) = address_cuts_are ps
-address_cuts_are (Ports low high ∷ ps) = address_cuts_are ps
-
-pub port_cuts_are : (parts : List Part) → flat_map cuts_of_ports (flat_map port_ranges parts) ≡ flat_map cut_ports parts
-port_cuts_are [] = refl
-port_cuts_are (Addresses p ∷ ps) = port_cuts_are ps
-port_cuts_are (Protocol n ∷ ps) = port_cuts_are ps
-port_cuts_are (Ports low high ∷ ps) = ap (λ (l : List ℕ). range_cuts (2 ^ 16) low high ++ l) (port_cuts_are ps)
-
 -- 2. Lists that a loop traverses.
 
 pub take_more : {X : Type 0} (xs : List X) (i : ℕ) (x : X) → slice_get xs i ≡ Some x → take (i + 1) xs ≡ take i xs ++ x ∷ []
-take_more [] i x here = cc
-take_more (y ∷ ys) zero x here = let same : y ≡ x = cc in λ i. same i ∷ []
-take_more {X = X} (y ∷ ys) (suc i) x here =
-    let step : suc i + 1 ≡ suc (i + 1) = omega arith in
-    ap (λ (n : ℕ). take n (y ∷ ys)) step ∙ ap (λ (l : List X). y ∷ l) (take_more ys i x here)
+take_more xs i x here =
+    take_next xs i x (slice_get_within xs i x here) ∙ ap (λ y. take i xs ++ y ∷ []) (get_or_from_slice_get xs i x x here)
 
 pub take_at : {X : Type 0} (xs : List X) (i : ℕ) (x : X) → i < length xs → x ≡ get_or xs i x → take (i + 1) xs ≡ take i xs ++ x ∷ []
-take_at [] i x within here = absurd (omega arith)
-take_at {X = X} (y ∷ ys) zero x within here = ap (λ (z : X). z ∷ []) (sym here)
-take_at {X = X} (y ∷ ys) (suc i) x within here =
-    let step : suc i + 1 ≡ suc (i + 1) = omega arith in
-    ap (λ (n : ℕ). take n (y ∷ ys)) step ∙ ap (λ (l : List X). y ∷ l) (take_at ys i x (omega arith) here)
+take_at xs i x within here = take_next xs i x within ∙ ap (λ y. take i xs ++ y ∷ []) (sym here)
 
 -- The concatenated lists of the elements so far and of the next element.
 pub listed_more : {X Y : Type 0} (f : X → List Y) (xs : List X) (i : ℕ) (x : X) → take (i + 1) xs ≡ take i xs ++ x ∷ []
     → flat_map f (take i xs) ++ f x ≡ flat_map f (take (i + 1) xs)
 listed_more f xs i x more =
     ap (λ l. flat_map f (take i xs) ++ l) (sym (append-nil (f x))) ∙ sym (flat_map-append f (take i xs) (x ∷ [])) ∙ ap (flat_map f) (sym more)
-
-map_append : {X Y : Type 0} (f : X → Y) (xs ys : List X) → map f (xs ++ ys) ≡ map f xs ++ map f ys
-map_append f [] ys = refl
-map_append f (x ∷ xs) ys = ap (λ l. f x ∷ l) (map_append f xs ys)
 
 -- The prefixes of the hosts so far and of the next host.
 host_more : (hosts : List Host) (i : ℕ) (qs : List Prefix) → option_map (λ h. h.prefixes) (slice_get hosts i) ≡ Some qs
@@ -86,4 +60,4 @@ host_more (h ∷ hs) (suc i) qs here =
 
 pub hosts_more : (hosts : List Host) (i : ℕ) (qs : List Prefix) → option_map (λ h. h.prefixes) (slice_get hosts i) ≡ Some qs
     → map Addresses (all_prefixes (take i hosts)) ++ map Addresses qs ≡ map Addresses (all_prefixes (take (i + 1) hosts))
-hosts_more hosts i qs here = sym (map_append Addresses (all_prefixes (take i hosts)) qs) ∙ ap (map Addresses) (sym (host_more hosts i qs here))
+hosts_more hosts i qs here = sym (map-append Addresses (all_prefixes (take i hosts)) qs) ∙ ap (map Addresses) (sym (host_more hosts i qs here))

@@ -1,7 +1,9 @@
--- Lemmas on ascending lists of numbers. Two ascending lists with the same numbers are equal.
-use Rattle.std.proofs.Common.{◌≡◌, ◌⊎◌, inl, inr, ℕ, zero, suc, ◌+◌, ◌<◌, ◌≤◌, List, [], ◌∷◌, length, refl, sym, arith}
-use Rattle.std.specs.List.{AllPairs, Contains}
-use Rattle.audit_core.specs.inner.Classes.{Rises}
+-- Elements of lists. Two ascending lists with the same numbers are equal.
+use Rattle.std.proofs.Common.{◌≡◌, ◌⊎◌, inl, inr, ℕ, zero, suc, ◌<◌, List, [], ◌∷◌, refl, sym, ap, subst, arith}
+use Rattle.std.specs.List.{AllPairs, Contains, flat_map}
+use Rattle.std.specs.List.Sorted.{IsStrictlyIncreasing}
+use Rattle.std.proofs.lemmas.List.Elements.{Contains-append_left, Contains-append_right}
+use Rattle.std.proofs.lemmas.List.Kept.{AllPairs-from_increasing}
 
 pub contains_cases : {X : Type 0} (x : X) (xs : List X) (d : X) → Contains (x ∷ xs) d → (x ≡ d) ⊎ Contains xs d
 contains_cases x xs d (zero, within, is) = inl is
@@ -16,15 +18,27 @@ contains_none d (k, within, is) = omega arith
 pub contains_first : {X : Type 0} (x : X) (xs : List X) (d : X) → x ≡ d → Contains (x ∷ xs) d
 contains_first x xs d is = (0, omega arith, is)
 
-pub rises_by_pairs : (xs : List ℕ) → AllPairs (λ x y. x < y) xs → Rises xs
+-- An element of a list that is listed for an element of another list.
+pub contains_within : {X Y : Type 0} (f : X → List Y) (xs : List X) (x : X) (d : Y) → Contains xs x → Contains (f x) d → Contains (flat_map f xs) d
+contains_within f [] x d there here = absurd (contains_none x there)
+contains_within {Y = Y} f (y ∷ xs) x d there here = elim (contains_cases y xs x there) [
+  | inl is ↦ Contains-append_left (f y) (flat_map f xs) d (subst (λ (l : List Y). Contains l d) (ap f (sym is)) here)
+  | inr later ↦ Contains-append_right (f y) (flat_map f xs) d (contains_within f xs x d later here)
+]
+
+-- Each number is less than all numbers after it.
+abbrev Rises : List ℕ → Type 0
+Rises [] = Unit {0}
+Rises (x ∷ xs) = ((y : ℕ) → Contains xs y → x < y) × Rises xs
+
+rises_by_pairs : (xs : List ℕ) → AllPairs (λ x y. x < y) xs → Rises xs
 rises_by_pairs [] pairs = tt
 rises_by_pairs (x ∷ xs) pairs = (head, rises_by_pairs xs (λ i j d before within. pairs (suc i) (suc j) d (omega arith) (omega arith)))
   where
     head : (y : ℕ) → Contains xs y → x < y
     head y (k, within, is) = let less = pairs 0 (suc k) y (omega arith) (omega arith) in omega (arith, less, is)
 
--- Two ascending lists with the same numbers are equal.
-pub rises_ext : (xs ys : List ℕ) → Rises xs → Rises ys → ((c : ℕ) → Contains xs c → Contains ys c) → ((c : ℕ) → Contains ys c → Contains xs c) → xs ≡ ys
+rises_ext : (xs ys : List ℕ) → Rises xs → Rises ys → ((c : ℕ) → Contains xs c → Contains ys c) → ((c : ℕ) → Contains ys c → Contains xs c) → xs ≡ ys
 rises_ext [] [] up more to back = refl
 rises_ext [] (y ∷ ys) up more to back = absurd (contains_none y (back y (contains_first y ys y refl)))
 rises_ext (x ∷ xs) [] up more to back = absurd (contains_none x (to x (contains_first x xs x refl)))
@@ -37,14 +51,8 @@ rises_ext (x ∷ xs) (y ∷ ys) up more to back =
     (λ c there. elim (contains_cases x xs c (back c (contains_later y ys c there))) [ inl is ↦ let above = more.0 c there in absurd (omega (arith, is, same)) | inr later ↦ later ]) in
     λ i. same i ∷ rest i
 
-long_from : (xs : List ℕ) (low b : ℕ) → low ≤ b → Rises xs → ((y : ℕ) → Contains xs y → low ≤ y) → ((y : ℕ) → Contains xs y → y < b) → length xs + low ≤ b
-long_from [] low b fits up above below = omega arith
-long_from (x ∷ xs) low b fits up above below =
-    let high = below x (contains_first x xs x refl) in
-    let here = above x (contains_first x xs x refl) in
-    let rest = long_from xs (x + 1) b (omega arith) up.1 (λ y there. let more = up.0 y there in omega arith) (λ y there. below y (contains_later x xs y there)) in
-    omega arith
-
--- The length of an ascending list of numbers below a bound is at most the bound.
-pub rises_short : (xs : List ℕ) (b : ℕ) → Rises xs → ((y : ℕ) → Contains xs y → y < b) → length xs ≤ b
-rises_short xs b up below = let long = long_from xs 0 b (omega arith) up (λ y there. omega arith) below in omega arith
+-- Two ascending lists with the same numbers are equal.
+pub increasing_ext : (xs ys : List ℕ) → IsStrictlyIncreasing xs → IsStrictlyIncreasing ys → ((c : ℕ) → Contains xs c → Contains ys c)
+    → ((c : ℕ) → Contains ys c → Contains xs c) → xs ≡ ys
+increasing_ext xs ys up more =
+    rises_ext xs ys (rises_by_pairs xs (AllPairs-from_increasing xs up)) (rises_by_pairs ys (AllPairs-from_increasing ys more))

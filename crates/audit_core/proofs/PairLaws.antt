@@ -1,7 +1,7 @@
 -- Lists of differences for cases, in order of the cases, and their consequences.
 use Rattle.std.proofs.Common.{◌≡◌, ◌⊎◌, inl, inr, ℕ, zero, suc, ◌+◌, ◌<◌, Bool, true, false, List, [], ◌∷◌, ◌++◌, Option, Some, None, length, map, refl, sym, ap, subst, ◌∙◌, arith, append_assoc, append-nil}
-use Rattle.std.specs.List.{Contains, flat_map}
-use Rattle.std.proofs.lemmas.List.Elements.{Contains-append_left, Contains-append_right}
+use Rattle.std.specs.List.{AllByRecursion, Contains, flat_map}
+use Rattle.std.proofs.lemmas.List.Elements.{Contains-append_right}
 use Rattle.host_net.specs.declared.packet.Packet.{Packet}
 use Rattle.host_net.specs.Host.{Host, owner_of}
 use Rattle.header_space.specs.declared.owners.Owned.{Owned}
@@ -14,7 +14,7 @@ use Rattle.audit_core.specs.Pairs.{AreDifferences, AreListedFor, Case, DiffersAt
 use Rattle.audit_core.specs.Findings.{trace_of}
 use Rattle.audit_core.specs.Sides.{Sides}
 use Rattle.audit_core.proofs.FindingOnceLaws.{ordered}
-use Rattle.audit_core.proofs.OrderLemmas.{contains_cases, contains_first, contains_later, contains_none}
+use Rattle.audit_core.proofs.OrderLemmas.{contains_cases, contains_first, contains_later, contains_none, contains_within}
 use Rattle.audit_core.proofs.SiteLemmas.{owner_below}
 
 module _ (sides : Sides) where
@@ -71,39 +71,17 @@ module _ (sides : Sides) where
       subst (λ (l : List Case). AreListedFor sides l c) is
       (subst (λ (l : List Difference). AreListedFor sides (cs ++ es) l) (sym second.1) (listed_append cs es b second.0 first second.2))
 
-  -- If no packet of a pair differs, the list for the pair is empty.
+  -- If no case has a difference, the list is empty.
+  listed_none : (cs : List Case) → AllByRecursion (λ c. IsListedFor sides c []) cs → AreListedFor sides cs []
+  listed_none [] none = refl
+  listed_none (c ∷ cs) none = ([], [], refl, none.0, listed_none cs none.1)
+
   pub listed_nothing : (from to : Option ℕ) → ((c : Case) → c.from ≡ from → c.to ≡ to → IsListedFor sides c []) → AreListedFor sides (cases_between from to) []
-  listed_nothing from to none = (
-    [],
-    [],
-    refl,
-    none (case_of from to Alone true) refl refl,
-    (
-      [],
-      [],
-      refl,
-      none (case_of from to Alone false) refl refl,
-      (
-        [],
-        [],
-        refl,
-        none (case_of from to BehindSwap true) refl refl,
-        (
-          [],
-          [],
-          refl,
-          none (case_of from to BehindSwap false) refl refl,
-          (
-            [],
-            [],
-            refl,
-            none (case_of from to BehindBoth true) refl refl,
-            ([], [], refl, none (case_of from to BehindBoth false) refl refl, refl),
-          ),
-        ),
-      ),
-    ),
-  )
+  listed_nothing from to none =
+      listed_none (cases_between from to) (at Alone true, (at Alone false, (at BehindSwap true, (at BehindSwap false, (at BehindBoth true, (at BehindBoth false, tt))))))
+    where
+      at : (kind : Kind) (forwards : Bool) → IsListedFor sides (case_of from to kind forwards) []
+      at kind forwards = none (case_of from to kind forwards) refl refl
 
   -- If no packet differs, the list is empty.
   pub listed_same : AreSame sides → (cs : List Case) → AreListedFor sides cs []
@@ -177,16 +155,6 @@ module _ (sides : Sides) where
 
 -- 4. The list covers all cases.
 
-place : {X Y : Type 0} (f : X → List Y) (xs : List X) (x : X) (d : Y) → Contains xs x → Contains (f x) d → Contains (flat_map f xs) d
-place f [] x d there here = absurd (contains_none x there)
-place {Y = Y} f (y ∷ xs) x d there here = elim (contains_cases y xs x there) [
-  | inl is ↦ Contains-append_left (f y) (flat_map f xs) d (moved is)
-  | inr later ↦ Contains-append_right (f y) (flat_map f xs) d (place f xs x d later here)
-]
-  where
-    moved : y ≡ x → Contains (f y) d
-    moved is = subst (λ (l : List Y). Contains l d) (ap f (sym is)) here
-
 case_between : (from to : Option ℕ) (kind : Kind) (forwards : Bool) → Contains (cases_between from to) (case_of from to kind forwards)
 case_between from to Alone true = (0, omega arith, refl)
 case_between from to Alone false = (1, omega arith, refl)
@@ -198,8 +166,8 @@ case_between from to BehindBoth false = (5, omega arith, refl)
 case_there : (froms tos : List (Option ℕ)) (from to : Option ℕ) (kind : Kind) (forwards : Bool) → Contains froms from → Contains tos to
     → Contains (all_cases froms tos) (case_of from to kind forwards)
 case_there froms tos from to kind forwards here there =
-    place (λ f. flat_map (λ t. cases_between f t) tos) froms from (case_of from to kind forwards) here
-    (place (λ t. cases_between from t) tos to (case_of from to kind forwards) there (case_between from to kind forwards))
+    contains_within (λ f. flat_map (λ t. cases_between f t) tos) froms from (case_of from to kind forwards) here
+    (contains_within (λ t. cases_between from t) tos to (case_of from to kind forwards) there (case_between from to kind forwards))
 
 nobody_among : (i : ℕ) (hosts : List Host) → Contains (owners_from i hosts) None
 nobody_among i [] = contains_first None [] None refl

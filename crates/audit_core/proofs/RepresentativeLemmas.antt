@@ -1,20 +1,22 @@
--- Lemmas on the numbers below a limit for which a test is true: their membership, the uniqueness of their ascending list, and its growth at
--- its end. The same for cuts and for protocols.
-use Rattle.std.proofs.Common.{◌≡◌, ◌⊎◌, inl, inr, ℕ, zero, suc, ◌+◌, ◌<◌, ◌==◌, ◌&&◌, ◌||◌, Bool, true, false, cond, List, [], ◌∷◌, ◌++◌, get_or, refl, sym, ap, ◌∙◌, arith, true≢false, append-nil}
-use Rattle.std.specs.List.{All, AllPass, Contains, filter, list_all, range_with_len}
-use Rattle.std.specs.List.Sorted.{IsStrictlyIncreasing}
+-- The numbers below a limit for which a test is true: their members and their count. The same for cuts and for protocols.
+use Rattle.std.proofs.Common.{◌≡◌, ◌⊎◌, inl, inr, ℕ, zero, suc, ◌+◌, ◌<◌, ◌≤◌, ◌==◌, ◌&&◌, ◌||◌, Bool, true, false, cond, List, [], ◌∷◌, ◌++◌, get_or, length, nat_eq, refl, sym, ap, subst, ◌∙◌, arith, true≢false, length-append}
+use Rattle.std.specs.List.{All, AllPass, Contains, dedup, filter, list_all, range_with_len}
+use Rattle.std.specs.List.Retain.{DiffersFromLast, IsFiltered}
+use Rattle.std.specs.List.Sorted.{IsPermutation, IsSorted, IsStrictlyIncreasing}
+use Rattle.std.specs.Ordering.{nat_cmp}
 use Rattle.std.proofs.lemmas.Bool.{or_cases, or_left, or_right}
-use Rattle.std.proofs.lemmas.Bool.Decides.{Decides-eqb}
-use Rattle.std.proofs.lemmas.List.Elements.{All-contains, All-filter, filter-append, filter_agree, filter_passes}
+use Rattle.std.proofs.lemmas.Bool.Decides.{Decides-eqb, nat_tests}
+use Rattle.std.specs.Prelude.{nat_lt}
+use Rattle.std.proofs.lemmas.List.Elements.{All-contains, All-filter, filter-append, filter_passes}
+use Rattle.std.proofs.lemmas.List.Filters.{dedup_is}
 use Rattle.std.proofs.lemmas.List.Folds.{list_all-append}
 use Rattle.std.proofs.lemmas.List.FromFn.{get_or-range_with_len, length-range_with_len}
-use Rattle.std.proofs.lemmas.List.Kept.{AllPairs-from_increasing, IsStrictlyIncreasing-filter}
-use Rattle.std.proofs.lemmas.List.Sums.{list_all-from_AllPass}
+use Rattle.std.proofs.lemmas.List.Kept.{Contains-dedup_nat, Contains-from_dedup, IsStrictlyIncreasing-filter}
+use Rattle.std.proofs.lemmas.List.Sorted.{Contains-permutation, IsPermutation-sym}
+use Rattle.std.proofs.lemmas.List.Sums.{count_by-le-length, length-filter, list_all-from_AllPass}
+use Rattle.std.proofs.lemmas.Map.Keys.{IsStrictlyIncreasing-dedup}
 use Rattle.audit_core.specs.Classes.{is_among, numbers_where, represents_protocol}
-use Rattle.audit_core.specs.inner.Classes.{Rises}
-use Rattle.audit_core.specs.inner.Named.{HaveSame}
-use Rattle.audit_core.proofs.OrderLemmas.{contains_cases, contains_first, contains_later, contains_none, rises_by_pairs, rises_ext}
-use Rattle.audit_core.proofs.RangeLemmas.{same_test}
+use Rattle.audit_core.proofs.OrderLemmas.{contains_cases, contains_first, contains_later, contains_none, increasing_ext}
 
 -- 1. The numbers below a limit for which a test is true.
 
@@ -60,47 +62,37 @@ module _ (test : ℕ → Bool) (limit : ℕ) where
         All-contains (λ x. test x ≡ true) (filter test range) c (filter_passes test range) there,
       )
 
-  pub where_rises : Rises (numbers_where test limit)
+  where_rises : IsStrictlyIncreasing (numbers_where test limit)
   unfolding numbers_where
-  where_rises =
+  where_rises = IsStrictlyIncreasing-filter test (range_with_len 0 limit) (range_rises limit)
+
+  where_short : length (numbers_where test limit) ≤ limit
+  unfolding numbers_where
+  where_short =
       let range = range_with_len 0 limit in
-      rises_by_pairs (filter test range) (AllPairs-from_increasing (filter test range) (IsStrictlyIncreasing-filter test range (range_rises limit)))
+      let all = length-range_with_len 0 limit in
+      let many = length-filter test range in
+      let fewer = count_by-le-length test range in
+      omega arith
 
-  -- An ascending list of exactly these numbers is this list.
-  pub where_is : (xs : List ℕ) → Rises xs → ((c : ℕ) → Contains xs c → (c < limit) × (test c ≡ true))
-      → ((c : ℕ) → c < limit → test c ≡ true → Contains xs c) → xs ≡ numbers_where test limit
-  where_is xs up only has =
-      rises_ext xs (numbers_where test limit) up where_rises (λ c there. let is = only c there in where_has c is.0 is.1)
-      (λ c there. let is = where_only c there in has c is.0 is.1)
-
-pub where_same : (f g : ℕ → Bool) (limit : ℕ) → ((n : ℕ) → f n ≡ g n) → numbers_where f limit ≡ numbers_where g limit
-unfolding numbers_where
-where_same f g limit same = filter_agree f g same (range_with_len 0 limit)
+pub short_is : (test : ℕ → Bool) (limit n : ℕ) → n ≡ length (numbers_where test limit) → n ≤ limit
+short_is test limit n is = let short = where_short test limit in omega (arith, is)
 
 -- One more number.
 range_from : (a n j : ℕ) → a + n ≡ j → range_with_len a (suc n) ≡ range_with_len a n ++ j ∷ []
 range_from a zero j is = let same : a ≡ j = omega arith in ap (λ k. k ∷ []) same
 range_from a (suc n) j is = ap (λ l. a ∷ l) (range_from (a + 1) n j (omega arith))
 
-range_more : (n : ℕ) → range_with_len 0 (n + 1) ≡ range_with_len 0 n ++ n ∷ []
-range_more n = let next : n + 1 ≡ suc n = omega arith in ap (range_with_len 0) next ∙ range_from 0 n n (omega arith)
-
-pub where_none : (test : ℕ → Bool) → numbers_where test 0 ≡ []
+where_more : (test : ℕ → Bool) (n : ℕ) → length (numbers_where test (suc n)) ≡ length (numbers_where test n) + cond (test n) 1 0
 unfolding numbers_where
-where_none test = refl
-
-pub where_more : (test : ℕ → Bool) (n : ℕ) → numbers_where test (n + 1) ≡ numbers_where test n ++ cond (test n) (n ∷ []) []
-unfolding numbers_where
-where_more test n = ap (filter test) (range_more n) ∙ filter-append test (range_with_len 0 n) (n ∷ [])
-
-and_true : (b : Bool) → (b && true) ≡ b
-and_true true = refl
-and_true false = refl
-
-all_more : (test : ℕ → Bool) (n : ℕ) → list_all test (range_with_len 0 (n + 1)) ≡ (list_all test (range_with_len 0 n) && test n)
-all_more test n =
-    ap (list_all test) (range_more n) ∙ list_all-append test (range_with_len 0 n) (n ∷ [])
-    ∙ ap (λ b. list_all test (range_with_len 0 n) && b) (and_true (test n))
+where_more test n =
+    let next = filter-append test (range_with_len 0 n) (n ∷ []) in
+    ap (λ l. length (filter test l)) (range_from 0 n n (omega arith)) ∙ ap length next ∙ length-append (filter test (range_with_len 0 n)) _
+    ∙ by_test (test n)
+  where
+    by_test : (b : Bool) → length (filter test (range_with_len 0 n)) + length (cond b (n ∷ []) []) ≡ length (filter test (range_with_len 0 n)) + cond b 1 0
+    by_test true = refl
+    by_test false = refl
 
 -- 2. Numbers that a list contains.
 
@@ -111,28 +103,28 @@ among_has (x ∷ xs) n there = elim (contains_cases x xs n there) [
   | inr later ↦ or_right (x == n) _ (among_has xs n later)
 ]
 
-pub among_only : (numbers : List ℕ) (n : ℕ) → is_among numbers n ≡ true → Contains numbers n
+among_only : (numbers : List ℕ) (n : ℕ) → is_among numbers n ≡ true → Contains numbers n
 among_only [] n is = absurd (true≢false (sym is))
 among_only (x ∷ xs) n is = elim (or_cases (x == n) _ is) [
   | inl here ↦ contains_first x xs n ((Decides-eqb x n).0 here)
   | inr later ↦ contains_later x xs n (among_only xs n later)
 ]
 
-pub among_same : (xs ys : List ℕ) → HaveSame xs ys → (n : ℕ) → is_among xs n ≡ is_among ys n
-among_same xs ys same n =
-    same_test (is_among xs n) (is_among ys n) (λ is. among_has ys n ((same n).0 (among_only xs n is))) (λ is. among_has xs n ((same n).1 (among_only ys n is)))
+-- Numbers below a limit that are sorted, without duplicates, are the numbers of the list below the limit.
+pub sorted_are : (old ordered new : List ℕ) (limit : ℕ) → IsPermutation old ordered → IsSorted nat_cmp ordered
+    → IsFiltered (DiffersFromLast nat_eq) [] ordered new → All (λ x. x < limit) new → new ≡ numbers_where (is_among old) limit
+sorted_are old ordered new limit moved sorted filtered below =
+    increasing_ext new (numbers_where (is_among old) limit) (rw is (IsStrictlyIncreasing-dedup ordered sorted)) (where_rises (is_among old) limit)
+    (λ c there. where_has (is_among old) limit c (All-contains (λ x. x < limit) new c below there) (among_has old c (back c there)))
+    (λ c there. rw is (Contains-dedup_nat ordered c (Contains-permutation old ordered c moved (among_only old c (where_only (is_among old) limit c there).1))))
+  where
+    is : new ≡ dedup nat_eq ordered
+    is = dedup_is nat_eq ordered new filtered
 
--- An ascending list of the same numbers, all below a limit, has the numbers of the list below the limit.
-pub among_is : (numbers xs : List ℕ) (limit : ℕ) → IsStrictlyIncreasing xs → ((c : ℕ) → Contains xs c → c < limit)
-    → ((c : ℕ) → Contains numbers c → Contains xs c) → ((c : ℕ) → Contains xs c → Contains numbers c) → xs ≡ numbers_where (is_among numbers) limit
-among_is numbers xs limit up below to back =
-    where_is (is_among numbers) limit xs (rises_by_pairs xs (AllPairs-from_increasing xs up)) (λ c there. (below c there, among_has numbers c (back c there)))
-    (λ c low is. to c (among_only numbers c is))
+    back : (c : ℕ) → Contains new c → Contains old c
+    back c there = Contains-permutation ordered old c (IsPermutation-sym old ordered moved) (Contains-from_dedup nat_eq ordered c (rw is at there))
 
 -- 3. Representatives of protocols.
-
-pub represents_same : (xs ys : List ℕ) → HaveSame xs ys → (n : ℕ) → represents_protocol xs n ≡ represents_protocol ys n
-represents_same xs ys same n = λ i. among_same xs ys same n i || list_all (λ m. among_same xs ys same m i) (range_with_len 0 n)
 
 pub represents : (named : List ℕ) (c : ℕ) → Contains named c ⊎ ((d : ℕ) → d < c → Contains named d) → represents_protocol named c ≡ true
 represents named c (inl there) = or_left (is_among named c) _ (among_has named c there)
@@ -141,34 +133,43 @@ represents named c (inr below) = or_right (is_among named c) _ (list_all-from_Al
     all : AllPass (is_among named) (range_with_len 0 c)
     all k d within = among_has named (get_or (range_with_len 0 c) k d) (below (get_or (range_with_len 0 c) k d) (range_below c k d within))
 
--- The protocols below a number that represent their classes, and whether all protocols below the number are named.
-pub record ArePushed (named protocols : List ℕ) (number : ℕ) (all_named : Bool) : Type 0 where
-  pub protocols_are : protocols ≡ numbers_where (represents_protocol named) number
-  pub all_are : all_named ≡ list_all (is_among named) (range_with_len 0 number)
+-- Of the numbers below n, t are named and r represent their classes. All n numbers are named, or one that is not represents the others.
+abbrev HasCount : Bool → (t r n : ℕ) → Type 0
+HasCount true t r n = (r ≡ t) × (t ≡ n)
+HasCount false t r n = (r ≡ t + 1) × (t < n)
 
-pub push_none : (named protocols : List ℕ) (all : Bool) → protocols ≡ [] → all ≡ true → ArePushed named protocols 0 all
-push_none named protocols all none are = record { protocols_are = none ∙ sym (where_none (represents_protocol named)); all_are = are }
+count_more : (all is : Bool) (t r n more others : ℕ) → HasCount all t r n → more ≡ t + cond is 1 0 → others ≡ r + cond (is || all) 1 0
+    → HasCount (all && is) more others (suc n)
+count_more true true t r n more others has one two = (omega arith, omega arith)
+count_more true false t r n more others has one two = (omega arith, omega arith)
+count_more false true t r n more others has one two = (omega arith, omega arith)
+count_more false false t r n more others has one two = (omega arith, omega arith)
 
-module _ (named old new : List ℕ) (n : ℕ) (is all more : Bool) (before : ArePushed named old n all) (contains : is ≡ is_among named n) where
-  push_next : new ≡ old ++ cond (is || all) (n ∷ []) [] → more ≡ (all && is) → ArePushed named new (n + 1) more
-  push_next pushed all_named = record {
-    protocols_are =
-        pushed ∙ (λ i. before.protocols_are i ++ cond (contains i || before.all_are i) (n ∷ []) []) ∙ sym (where_more (represents_protocol named) n);
-    all_are = all_named ∙ (λ i. before.all_are i && contains i) ∙ sym (all_more (is_among named) n);
-  }
+module _ (named : List ℕ) where
+  all_more : (n : ℕ) → list_all (is_among named) (range_with_len 0 (suc n)) ≡ (list_all (is_among named) (range_with_len 0 n) && is_among named n)
+  all_more n =
+      ap (list_all (is_among named)) (range_from 0 n n (omega arith)) ∙ list_all-append (is_among named) (range_with_len 0 n) (n ∷ [])
+      ∙ ap (λ b. list_all (is_among named) (range_with_len 0 n) && b) (and_true (is_among named n))
+    where
+      and_true : (b : Bool) → (b && true) ≡ b
+      and_true true = refl
+      and_true false = refl
 
-  -- The protocol is named.
-  pub push_named : is ≡ true → new ≡ old ++ n ∷ [] → more ≡ all → ArePushed named new (n + 1) more
-  push_named here pushed same =
-      push_next (pushed ∙ ap (λ b. old ++ cond (b || all) (n ∷ []) []) (sym here)) (same ∙ sym (and_true all) ∙ ap (λ b. all && b) (sym here))
+  counted : (n : ℕ) → HasCount (list_all (is_among named) (range_with_len 0 n)) (length (numbers_where (is_among named) n)) (length (numbers_where (represents_protocol named) n)) n
+  unfolding numbers_where
+  counted zero = (refl, refl)
+  counted (suc n) =
+      subst (λ (b : Bool). HasCount b (length (numbers_where (is_among named) (suc n))) (length (numbers_where (represents_protocol named) (suc n))) (suc n))
+      (sym (all_more n))
+      (count_more (list_all (is_among named) (range_with_len 0 n)) (is_among named n) (length (numbers_where (is_among named) n))
+      (length (numbers_where (represents_protocol named) n)) n (length (numbers_where (is_among named) (suc n)))
+      (length (numbers_where (represents_protocol named) (suc n))) (counted n) (where_more (is_among named) n) (where_more (represents_protocol named) n))
 
-  -- The protocol is the least that is not named.
-  pub push_least : is ≡ false → all ≡ true → new ≡ old ++ n ∷ [] → more ≡ false → ArePushed named new (n + 1) more
-  push_least none first pushed now =
-      push_next (pushed ∙ (λ i. old ++ cond (sym none i || sym first i) (n ∷ []) [])) (now ∙ (λ i. sym first i && sym none i))
-
-  -- The protocol is not named, and a protocol below it is not named either.
-  pub pass_over : is ≡ false → all ≡ false → new ≡ old → more ≡ all → ArePushed named new (n + 1) more
-  pass_over none later kept same =
-      push_next (kept ∙ sym (append-nil old) ∙ (λ i. old ++ cond (sym none i || sym later i) (n ∷ []) []))
-      (same ∙ later ∙ (λ i. sym later i && sym none i))
+  -- The protocols that are named represent their classes. If some are not named, one of them represents the others.
+  pub protocol_count : (n : ℕ) → length (numbers_where (represents_protocol named) n) ≡ length (numbers_where (is_among named) n) + cond (nat_lt (length (numbers_where (is_among named) n)) n) 1 0
+  protocol_count n = by_all (list_all (is_among named) (range_with_len 0 n)) (counted n)
+    where
+      by_all : (all : Bool) → HasCount all (length (numbers_where (is_among named) n)) (length (numbers_where (represents_protocol named) n)) n
+          → length (numbers_where (represents_protocol named) n) ≡ length (numbers_where (is_among named) n) + cond (nat_lt (length (numbers_where (is_among named) n)) n) 1 0
+      by_all true has = grind (arith, nat_tests)
+      by_all false has = grind (arith, nat_tests)

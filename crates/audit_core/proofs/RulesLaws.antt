@@ -1,5 +1,8 @@
 -- Rule sets and flow tables have one verdict on every packet in each state.
 use Rattle.std.proofs.Common.{◌≡◌, Bool, true, false, List, refl, sym, subst, ◌∙◌}
+use Rattle.host_net.specs.declared.packet.Packet.{Packet}
+use Rattle.host_net.specs.declared.packet.CtState.{CtState}
+use Rattle.host_net.specs.Packet.{IsPacket}
 use Rattle.host_net.specs.declared.packet.Verdict.{Verdict}
 use Rattle.host_net.specs.declared.packet.Verdict.TheVariants.{Forward as Forwarded, Drop as Dropped}
 use Rattle.host_net.specs.Verdict.{verdict_if}
@@ -13,13 +16,17 @@ use Rattle.ofp_rules.specs.declared.entry.Entry.{Entry}
 use Rattle.ofp_rules.specs.declared.entry.Frame.TheVariants.{Ipv4}
 use Rattle.ofp_rules.specs.inner.Build.{IsTable}
 use Rattle.ofp_rules.specs.Meaning.{HasVerdict}
-use Rattle.audit_core.specs.Rules.{Chains, Entries, filter_of}
+use Rattle.audit_core.specs.Rules.{Chains, Entries, Rules, filter_of}
 use Rattle.audit_core.specs.Verdicts.{GivesOne}
 
 -- Every verdict is that the packet passes, or that it does not pass.
 said_by : (v : Verdict) → (b : Bool) × (v ≡ verdict_if b)
 said_by Forwarded = (true, refl)
 said_by Dropped = (false, refl)
+
+pub one_verdict : (rules : Rules) → GivesOne (filter_of rules) → (state : CtState) (p : Packet) → IsPacket p → (b c : Bool)
+    → filter_of rules state p b → filter_of rules state p c → b ≡ c
+one_verdict rules gives state p is b c first second = let one = gives state p is in one.2 b first ∙ sym (one.2 c second)
 
 -- Chains that each have one outcome.
 pub chains_give : (chains : List Chain) → EachGivesOne chains → GivesOne (filter_of (Chains chains))

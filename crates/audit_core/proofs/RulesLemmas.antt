@@ -23,32 +23,16 @@ use Rattle.ofp_rules.specs.Meaning.{HasVerdict, IsOneOf}
 use Rattle.audit_core.specs.Parts.{address_parts, entry_parts, number_parts, one_port_parts, port_parts, prefix_parts, protocol_parts, rule_parts, rules_parts}
 use Rattle.audit_core.specs.inner.Ranges.{within}
 use Rattle.audit_core.specs.Rules.{Rules, Chains, Entries, filter_of}
-use Rattle.audit_core.proofs.PartLemmas.{AreAlikeFor, SameAddress, SamePort, SameProtocol, alike_for_parts, all_parts}
+use Rattle.audit_core.proofs.PartLemmas.{AreAlikeFor, IsAlikeFor, all_listed, all_parts}
 
 -- 1. Chains of rules.
 
-address_alike : (part : Option AddrMatch) (a b : ℕ) → AllByRecursion (SameAddress a b) (address_parts part) → address_matches part a ≡ address_matches part b
-address_alike None a b alike = refl
-address_alike (Some part) a b alike = ap (turned part.negated) alike.0
-
-proto_alike : (part : Option ProtoMatch) (a b : ℕ) → AllByRecursion (SameProtocol a b) (protocol_parts part)
-    → protocol_matches part a ≡ protocol_matches part b
-proto_alike None a b alike = refl
-proto_alike (Some part) a b alike = ap (turned part.negated) alike.0
-
-port_alike : (part : Option PortMatch) (a b : ℕ) → AllByRecursion (SamePort a b) (port_parts part) → port_matches part a ≡ port_matches part b
-port_alike None a b alike = refl
-port_alike (Some part) a b alike = ap (turned part.negated) alike.0
-
 -- A rule matches both packets, or neither.
-abbrev pub FitsBoth : Packet → Packet → CtState → Rule → Type 0
+abbrev FitsBoth : Packet → Packet → CtState → Rule → Type 0
 FitsBoth p q state r = matches p state r ≡ matches q state r
 
--- The five lists of parts of a rule or an entry.
-abbrev five : {X : Type 0} → List X → List X → List X → List X → List X → List X
-five a b c d e = a ++ (b ++ (c ++ (d ++ e)))
-
-five_parts : {X : Type 0} (P : X → Type 0) (a b c d e : List X) → AllByRecursion P (five a b c d e)
+-- The parts of the five fields of a rule or an entry.
+five_parts : {X : Type 0} (P : X → Type 0) (a b c d e : List X) → AllByRecursion P (a ++ (b ++ (c ++ (d ++ e))))
     → AllByRecursion P a × AllByRecursion P b × AllByRecursion P c × AllByRecursion P d × AllByRecursion P e
 five_parts P a b c d e all =
     let one = all_parts P a (b ++ (c ++ (d ++ e))) all in
@@ -57,25 +41,31 @@ five_parts P a b c d e all =
     let four = all_parts P d e three.1 in
     (one.0, two.0, three.0, four.0, four.1)
 
-rule_alike : (r : Rule) (p q : Packet) (state : CtState) → AreAlikeFor (rule_parts r) p q → FitsBoth p q state r
-rule_alike r p q state alike =
-    let a = address_parts r.src in
-    let b = address_parts r.dst in
-    let c = protocol_parts r.proto in
-    let d = port_parts r.sport in
-    let e = port_parts r.dport in
-    let src = address_alike r.src p.src q.src (five_parts (SameAddress p.src q.src) a b c d e alike.src).0 in
-    let dst = address_alike r.dst p.dst q.dst (five_parts (SameAddress p.dst q.dst) a b c d e alike.dst).1 in
-    let proto = proto_alike r.proto p.proto q.proto (five_parts (SameProtocol p.proto q.proto) a b c d e alike.proto).2 in
-    let sport = port_alike r.sport p.sport q.sport (five_parts (SamePort p.sport q.sport) a b c d e alike.sport).3 in
-    let dport = port_alike r.dport p.dport q.dport (five_parts (SamePort p.dport q.dport) a b c d e alike.dport).4 in
-    λ i. proto i && (sport i && (dport i && (src i && (dst i && state_matches r.state state))))
+module _ (p q : Packet) where
+  address_alike : (part : Option AddrMatch) → AreAlikeFor (address_parts part) p q
+      → (address_matches part p.src ≡ address_matches part q.src) × (address_matches part p.dst ≡ address_matches part q.dst)
+  address_alike None alike = (refl, refl)
+  address_alike (Some part) alike = (ap (turned part.negated) alike.0.0, ap (turned part.negated) alike.0.1)
 
-rules_alike : (rs : List Rule) (p q : Packet) (state : CtState) → AreAlikeFor (flat_map rule_parts rs) p q → AllByRecursion (FitsBoth p q state) rs
-rules_alike [] p q state alike = tt
-rules_alike (r ∷ rs) p q state alike =
-    let both = alike_for_parts (rule_parts r) (flat_map rule_parts rs) p q alike in
-    (rule_alike r p q state both.0, rules_alike rs p q state both.1)
+  proto_alike : (part : Option ProtoMatch) → AreAlikeFor (protocol_parts part) p q → protocol_matches part p.proto ≡ protocol_matches part q.proto
+  proto_alike None alike = refl
+  proto_alike (Some part) alike = ap (turned part.negated) alike.0
+
+  port_alike : (part : Option PortMatch) → AreAlikeFor (port_parts part) p q
+      → (port_matches part p.sport ≡ port_matches part q.sport) × (port_matches part p.dport ≡ port_matches part q.dport)
+  port_alike None alike = (refl, refl)
+  port_alike (Some part) alike = (ap (turned part.negated) alike.0.0, ap (turned part.negated) alike.0.1)
+
+  rule_alike : (state : CtState) (r : Rule) → AreAlikeFor (rule_parts r) p q → FitsBoth p q state r
+  rule_alike state r alike =
+      let parts =
+      five_parts (IsAlikeFor p q) (address_parts r.src) (address_parts r.dst) (protocol_parts r.proto) (port_parts r.sport) (port_parts r.dport) alike in
+      let src = (address_alike r.src parts.0).0 in
+      let dst = (address_alike r.dst parts.1).1 in
+      let proto = proto_alike r.proto parts.2 in
+      let sport = (port_alike r.sport parts.3).0 in
+      let dport = (port_alike r.dport parts.4).1 in
+      λ i. proto i && (sport i && (dport i && (src i && (dst i && state_matches r.state state))))
 
 pub all_in_chain : (P : Rule → Type 0) (chains : List Chain) (c : ℕ) → AllByRecursion P (all_rules chains) → AllByRecursion P (rules_of chains c)
 all_in_chain P [] c all = tt
@@ -96,53 +86,49 @@ chains_alike : (chains : List Chain) (p q : Packet) (state : CtState) (v : Verdi
     → HasVerdictIn chains 1 p state v → HasVerdictIn chains 1 q state v
 chains_alike chains p q state v alike has_it =
     let each : (c : ℕ) → AllByRecursion (λ r. matches p state r ≡ matches q state r) (rules_of chains c) =
-    λ c. all_in_chain (FitsBoth p q state) chains c (rules_alike (all_rules chains) p q state alike) in
+    λ c. all_in_chain (FitsBoth p q state) chains c
+    (all_listed (IsAlikeFor p q) (FitsBoth p q state) rule_parts (all_rules chains) (rule_alike p q state) alike) in
     record { outcome = has_it.outcome; gives = gives_alike each (each 1) has_it.gives; verdict = has_it.verdict }
 
 -- 2. Entries of a flow table.
 
-prefix_alike : (part : Option Prefix) (a b : ℕ) → AllByRecursion (SameAddress a b) (prefix_parts part) → part_matches part a ≡ part_matches part b
-prefix_alike None a b alike = refl
-prefix_alike (Some prefix) a b alike = alike.0
-
-number_alike : (part : Option ℕ) (a b : ℕ) → AllByRecursion (SameProtocol a b) (number_parts part) → number_matches part a ≡ number_matches part b
-number_alike None a b alike = refl
-number_alike (Some n) a b alike = alike.0
+abbrev MatchesBoth : Packet → Packet → Entry → Type 0
+MatchesBoth p q e = entry_matches (Ipv4 p) e ≡ entry_matches (Ipv4 q) e
 
 within_one : (n a : ℕ) → (n == a) ≡ within n n a
 within_one n a = grind (arith, nat_tests)
 
-one_port_alike : (part : Option ℕ) (a b : ℕ) → AllByRecursion (SamePort a b) (one_port_parts part) → number_matches part a ≡ number_matches part b
-one_port_alike None a b alike = refl
-one_port_alike (Some n) a b alike = within_one n a ∙ alike.0 ∙ sym (within_one n b)
+module _ (p q : Packet) where
+  prefix_alike : (part : Option Prefix) → AreAlikeFor (prefix_parts part) p q
+      → (part_matches part p.src ≡ part_matches part q.src) × (part_matches part p.dst ≡ part_matches part q.dst)
+  prefix_alike None alike = (refl, refl)
+  prefix_alike (Some prefix) alike = alike.0
 
-kind_alike : (kind : FrameKind) (asked : Packet → Bool) (p q : Packet) → asked p ≡ asked q → kind_matches kind asked (Ipv4 p) ≡ kind_matches kind asked (Ipv4 q)
-kind_alike Any asked p q same = refl
-kind_alike Arp asked p q same = refl
-kind_alike Ip asked p q same = same
+  number_alike : (part : Option ℕ) → AreAlikeFor (number_parts part) p q → number_matches part p.proto ≡ number_matches part q.proto
+  number_alike None alike = refl
+  number_alike (Some n) alike = alike.0
 
-abbrev pub MatchesBoth : Packet → Packet → Entry → Type 0
-MatchesBoth p q e = entry_matches (Ipv4 p) e ≡ entry_matches (Ipv4 q) e
+  one_port_alike : (part : Option ℕ) → AreAlikeFor (one_port_parts part) p q
+      → (number_matches part p.sport ≡ number_matches part q.sport) × (number_matches part p.dport ≡ number_matches part q.dport)
+  one_port_alike None alike = (refl, refl)
+  one_port_alike (Some n) alike =
+      (within_one n p.sport ∙ alike.0.0 ∙ sym (within_one n q.sport), within_one n p.dport ∙ alike.0.1 ∙ sym (within_one n q.dport))
 
-entry_alike : (e : Entry) (p q : Packet) → AreAlikeFor (entry_parts e) p q → MatchesBoth p q e
-entry_alike e p q alike =
-    let a = prefix_parts e.src in
-    let b = prefix_parts e.dst in
-    let c = number_parts e.proto in
-    let d = one_port_parts e.tp_src in
-    let f = one_port_parts e.tp_dst in
-    let src = prefix_alike e.src p.src q.src (five_parts (SameAddress p.src q.src) a b c d f alike.src).0 in
-    let dst = prefix_alike e.dst p.dst q.dst (five_parts (SameAddress p.dst q.dst) a b c d f alike.dst).1 in
-    let proto = number_alike e.proto p.proto q.proto (five_parts (SameProtocol p.proto q.proto) a b c d f alike.proto).2 in
-    let sport = one_port_alike e.tp_src p.sport q.sport (five_parts (SamePort p.sport q.sport) a b c d f alike.sport).3 in
-    let dport = one_port_alike e.tp_dst p.dport q.dport (five_parts (SamePort p.dport q.dport) a b c d f alike.dport).4 in
-    kind_alike e.kind (packet_matches e) p q (λ i. proto i && (sport i && (dport i && (src i && dst i))))
+  kind_alike : (kind : FrameKind) (asked : Packet → Bool) → asked p ≡ asked q → kind_matches kind asked (Ipv4 p) ≡ kind_matches kind asked (Ipv4 q)
+  kind_alike Any asked same = refl
+  kind_alike Arp asked same = refl
+  kind_alike Ip asked same = same
 
-entries_alike : (es : List Entry) (p q : Packet) → AreAlikeFor (flat_map entry_parts es) p q → AllByRecursion (MatchesBoth p q) es
-entries_alike [] p q alike = tt
-entries_alike (e ∷ es) p q alike =
-    let both = alike_for_parts (entry_parts e) (flat_map entry_parts es) p q alike in
-    (entry_alike e p q both.0, entries_alike es p q both.1)
+  entry_alike : (e : Entry) → AreAlikeFor (entry_parts e) p q → MatchesBoth p q e
+  entry_alike e alike =
+      let parts =
+      five_parts (IsAlikeFor p q) (prefix_parts e.src) (prefix_parts e.dst) (number_parts e.proto) (one_port_parts e.tp_src) (one_port_parts e.tp_dst) alike in
+      let src = (prefix_alike e.src parts.0).0 in
+      let dst = (prefix_alike e.dst parts.1).1 in
+      let proto = number_alike e.proto parts.2 in
+      let sport = (one_port_alike e.tp_src parts.3).0 in
+      let dport = (one_port_alike e.tp_dst parts.4).1 in
+      kind_alike e.kind (packet_matches e) (λ i. proto i && (sport i && (dport i && (src i && dst i))))
 
 pub all_one_of : {X : Type 0} (P : X → Type 0) (xs : List X) (x : X) → AllByRecursion P xs → IsOneOf x xs → P x
 all_one_of P [] x all one = absurd one
@@ -170,4 +156,4 @@ verdict_alike es p q v alike (inr has_none) =
 pub filter_alike : (rules : Rules) (p q : Packet) (state : CtState) (b : Bool) → AreAlikeFor (rules_parts rules) p q
     → filter_of rules state p b → filter_of rules state q b
 filter_alike (Chains chains) p q state b alike said = chains_alike chains p q state _ alike said
-filter_alike (Entries entries) p q state b alike said = verdict_alike entries p q _ (entries_alike entries p q alike) said
+filter_alike (Entries entries) p q state b alike said = verdict_alike entries p q _ (all_listed (IsAlikeFor p q) (MatchesBoth p q) entry_parts entries (entry_alike p q) alike) said

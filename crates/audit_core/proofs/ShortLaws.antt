@@ -1,5 +1,6 @@
--- The law of short lists: if a filter and a policy agree on the three lists at each packet, they agree on every list of events.
-use Rattle.std.proofs.Common.{◌≡◌, inl, inr, ◌↔◌, ℕ, zero, suc, Bool, true, false, not, ◌&&◌, ◌||◌, IsTrue, List, [], ◌∷◌, ◌++◌, take, slice_get, Some, None, refl, sym, ap, subst, ◌∙◌, true≢false}
+-- A filter that has the verdict of a policy on each packet agrees with the policy on every list of events. States and expectations after
+-- short lists.
+use Rattle.std.proofs.Common.{◌≡◌, inl, inr, ◌↔◌, zero, suc, Bool, true, false, not, ◌&&◌, ◌||◌, IsTrue, List, [], ◌∷◌, ◌++◌, Some, None, refl, sym, ap, subst, true≢false}
 use Rattle.std.specs.Prelude.{is_some, if◌then◌else◌, Option}
 use Rattle.std.specs.Option.{unwrap_or}
 use Rattle.std.proofs.lemmas.Bool.{and_from, and_parts, or_cases, or_left, or_right}
@@ -9,8 +10,8 @@ use Rattle.host_net.specs.declared.packet.CtState.TheVariants.{New, Established}
 use Rattle.host_net.specs.Packet.{swap_of}
 use Rattle.pkt_core.specs.declared.event.Event.{Event}
 use Rattle.pkt_core.specs.declared.event.Event.TheVariants.{Seen, Forget}
-use Rattle.pkt_core.specs.Events.{SeenAt, WasSeen}
-use Rattle.pkt_core.specs.laws.EventLaws.{WasSeen-none, WasSeen-now}
+use Rattle.pkt_core.specs.Events.{WasSeen}
+use Rattle.pkt_core.specs.laws.EventLaws.{WasSeen-none}
 use Rattle.pkt_core.specs.Expected.{Expected}
 use Rattle.pkt_core.proofs.ExpectedLaws.{runs_as_expected}
 use Rattle.pkt_core.specs.Firewall.{Filter, is_established, may_pass}
@@ -20,54 +21,32 @@ use Rattle.pkt_core.specs.inner.PolicyRuns.{RunsBy}
 use Rattle.pkt_core.specs.Tracking.{Kept, Runs, after_forget, after_seen, nothing_kept, state_of, with_kept}
 use Rattle.pkt_core.specs.laws.TrackingLaws.{same_packet-self}
 use Rattle.audit_core.specs.Agreement.{AgreeOn}
-use Rattle.audit_core.specs.inner.Agreement.{AgreeAt, GivesVerdicts, IsJudged, SwapsKnown, alone, behind_both, behind_swap}
-
-same_truth : {E : Type 0} (b c : Bool) → (IsTrue b ↔ E) → (E → c ≡ true) → (c ≡ true → E) → b ≡ c
-same_truth true c is to back = sym (to (is.0 refl))
-same_truth false true is to back = is.1 (back refl)
-same_truth false false is to back = refl
+use Rattle.audit_core.specs.inner.Agreement.{IsJudged}
 
 is_established-state : (s : CtState) → is_established s ≡ true → s ≡ Established
 is_established-state Established h = refl
 is_established-state New h = absurd (true≢false (sym h))
 
-module _ (filter : Filter) (permitted stateful : Packet → Bool) where
-  -- The result for a packet at an index of a run on which they agree.
-  answer_at : (events : List Event) → AgreeOn filter permitted stateful events → (answers : List (Option Bool)) → Runs filter nothing_kept events answers →
-      (k : ℕ) (p : Packet) (b : Bool) → SeenAt events k p → slice_get answers k ≡ Some (Some b) → IsTrue b ↔ Expected permitted stateful (take k events) p
-  answer_at events agree answers run k p b there answer =
-      let at = (agree answers run).seen k p there in
-      let same : at.0 ≡ b = only at.0 (sym at.1 ∙ answer) in
-      subst (λ (c : Bool). IsTrue c ↔ Expected permitted stateful (take k events) p) same at.2
-    where
-      only : (c : Bool) → Some (Some c) ≡ Some (Some b) → c ≡ b
-      only c h = cc
-
+module _ (permitted stateful : Packet → Bool) where
   -- The expectation if nothing was seen.
-  expected_first : (p : Packet) (b : Bool) → (IsTrue b ↔ Expected permitted stateful [] p) → b ≡ may_pass permitted stateful New p
-  expected_first p b is = same_truth b (permitted p || (stateful (swap_of p) && false)) is to back
-    where
-      to : Expected permitted stateful [] p → (permitted p || (stateful (swap_of p) && false)) ≡ true
-      to e = elim e [ inl h ↦ or_left (permitted p) _ h | inr h ↦ absurd (WasSeen-none (swap_of p) h.1) ]
-
-      back : (permitted p || (stateful (swap_of p) && false)) ≡ true → Expected permitted stateful [] p
-      back h = elim (or_cases (permitted p) (stateful (swap_of p) && false) h) [
-        | inl own ↦ inl own
-        | inr other ↦ absurd (true≢false (sym (and_parts (stateful (swap_of p)) false other).1))
-      ]
+  pub expects_first : (p : Packet) → IsTrue (may_pass permitted stateful New p) ↔ Expected permitted stateful [] p
+  expects_first p = (
+    (λ h. elim (or_cases (permitted p) (stateful (swap_of p) && false) h) [
+      | inl own ↦ inl own
+      | inr other ↦ absurd (true≢false (sym (and_parts (stateful (swap_of p)) false other).1))
+    ]),
+    (λ e. elim e [ inl h ↦ or_left (permitted p) _ h | inr h ↦ absurd (WasSeen-none (swap_of p) h.1) ]),
+  )
 
   -- The expectation if the swap was seen.
-  expected_behind : (past : List Event) (p : Packet) (b : Bool) → WasSeen past (swap_of p) → (IsTrue b ↔ Expected permitted stateful past p) → b ≡ may_pass permitted stateful Established p
-  expected_behind past p b was is = same_truth b (permitted p || (stateful (swap_of p) && true)) is to back
-    where
-      to : Expected permitted stateful past p → (permitted p || (stateful (swap_of p) && true)) ≡ true
-      to e = elim e [ inl h ↦ or_left (permitted p) _ h | inr h ↦ or_right (permitted p) _ (and_from (stateful (swap_of p)) true h.0 refl) ]
-
-      back : (permitted p || (stateful (swap_of p) && true)) ≡ true → Expected permitted stateful past p
-      back h = elim (or_cases (permitted p) (stateful (swap_of p) && true) h) [
-        | inl own ↦ inl own
-        | inr other ↦ inr ((and_parts (stateful (swap_of p)) true other).0, was)
-      ]
+  pub expects_behind : (past : List Event) (p : Packet) → WasSeen past (swap_of p) → IsTrue (may_pass permitted stateful Established p) ↔ Expected permitted stateful past p
+  expects_behind past p was = (
+    (λ h. elim (or_cases (permitted p) (stateful (swap_of p) && true) h) [
+      | inl own ↦ inl own
+      | inr other ↦ inr ((and_parts (stateful (swap_of p)) true other).0, was)
+    ]),
+    (λ e. elim e [ inl h ↦ or_left (permitted p) _ h | inr h ↦ or_right (permitted p) _ (and_from (stateful (swap_of p)) true h.0 refl) ]),
+  )
 
 -- After a packet that passes, its swap is established.
 pub swap_established : (q : Packet) → state_of (after_seen nothing_kept q true) (swap_of q) ≡ Established
@@ -90,49 +69,6 @@ kept_established kept p b there = marked_established (after_seen kept (swap_of p
     marked false h = absurd (true≢false (sym h))
 
 module _ (filter : Filter) (permitted stateful : Packet → Bool) where
-  -- Agreement on a packet only determines the verdict in the state New.
-  pub judged_new : (p : Packet) → AgreeOn filter permitted stateful (alone p) → (b : Bool) → filter New p b → b ≡ may_pass permitted stateful New p
-  judged_new p agree b h =
-      expected_first filter permitted stateful p b (answer_at filter permitted stateful (alone p) agree (Some b ∷ []) (h, tt) 0 p b refl refl)
-
-  -- Agreement on a packet after its swap determines the verdict in the state Established, if the swap passes.
-  pub judged_behind_swap : (p : Packet) → AgreeOn filter permitted stateful (behind_swap p) → filter New (swap_of p) true → (b : Bool) → filter Established p b → b ≡ may_pass permitted stateful Established p
-  judged_behind_swap p agree first b h =
-      expected_behind filter permitted stateful (alone (swap_of p)) p b (WasSeen-now [] (swap_of p) (swap_of p) refl)
-      (answer_at filter permitted stateful (behind_swap p) agree (Some true ∷ Some b ∷ []) (first, (subst (λ (s : CtState). filter s p b) (sym (swap_established (swap_of p))) h, tt)) 1 p b refl refl)
-
-  -- Agreement on a packet after itself and its swap determines the verdict in the state Established, if the packet passes first.
-  pub judged_behind_both : (p : Packet) → AgreeOn filter permitted stateful (behind_both p) → filter New p true → (c : Bool) → filter Established (swap_of p) c → (b : Bool) → filter Established p b → b ≡ may_pass permitted stateful Established p
-  judged_behind_both p agree first c second b h =
-      let run : Runs filter nothing_kept (behind_both p) (Some true ∷ Some c ∷ Some b ∷ []) = (
-        first,
-        (
-          subst (λ (s : CtState). filter s (swap_of p) c) (sym (swap_established p)) second,
-          (subst (λ (s : CtState). filter s p b) (sym (kept_established (after_seen nothing_kept p true) p c (begins_behind_seen nothing_kept p refl refl))) h, tt),
-        ),
-      ) in
-      expected_behind filter permitted stateful (Seen p ∷ Seen (swap_of p) ∷ []) p b (WasSeen-now (alone p) (swap_of p) (swap_of p) refl)
-      (answer_at filter permitted stateful (behind_both p) agree (Some true ∷ Some c ∷ Some b ∷ []) run 2 p b refl refl)
-
-  -- A known packet passes if it is permitted and the filter and the policy agree on it.
-  passes_alone : (Known : Packet → Type 0) → GivesVerdicts filter Known → (p : Packet) → Known p → AgreeOn filter permitted stateful (alone p) → permitted p ≡ true → filter New p true
-  passes_alone Known gives p known agree allowed =
-      let given = gives New p known in
-      subst (λ (b : Bool). filter New p b) (judged_new p agree given.0 given.1 ∙ or_left (permitted p) _ allowed) given.1
-
-  -- Agreement on the short lists determines the verdicts on a packet.
-  pub judged_at : (Known : Packet → Type 0) → GivesVerdicts filter Known → SwapsKnown Known → (p : Packet) → Known p → AgreeAt filter permitted stateful p → AgreeOn filter permitted stateful (alone (swap_of p)) →
-      IsJudged filter permitted stateful p
-  judged_at Known gives swaps p known agree other = record {
-    new = judged_new p agree.first;
-    established = λ some b h. elim (or_cases (permitted p) (permitted (swap_of p)) some) [
-      | inl own ↦
-          let answer = gives Established (swap_of p) (swaps p known) in
-          judged_behind_both p agree.third (passes_alone Known gives p known agree.first own) answer.0 answer.1 b h
-      | inr turned ↦ judged_behind_swap p agree.second (passes_alone Known gives (swap_of p) (swaps p known) other turned) b h
-    ];
-  }
-
   -- A packet in its tracked state has the verdict of the policy.
   judged_in_state : {Known : Packet → Type 0} (past : List Event) (kept : Kept) → Fits Known permitted past kept → (p : Packet) → IsJudged filter permitted stateful p →
       (b : Bool) → filter (state_of kept p) p b → b ≡ may_pass permitted stateful (state_of kept p) p
@@ -175,20 +111,3 @@ module _ (filter : Filter) (permitted stateful : Packet → Bool) where
       runs_as_expected (λ state p passes. passes ≡ may_pass permitted stateful state p) Known permitted stateful
       (record { given = λ state p is. refl; only = λ state p passes is h. h; policy = policy }) events known answers
       (run_by_policy judged [] nothing_kept (Fits-start permitted) events known answers run)
-
-  -- The law: agreement on the three lists at each known packet implies agreement on every list.
-  pub short_lists_suffice : (Known : Packet → Type 0) → GivesVerdicts filter Known → SwapsKnown Known → StatefulArePermitted Known permitted stateful → ((p : Packet) → Known p → AgreeAt filter permitted stateful p) →
-      (events : List Event) → AllKnown Known events → AgreeOn filter permitted stateful events
-  short_lists_suffice Known gives swaps policy agree =
-      agree_where_judged Known policy (λ p known. judged_at Known gives swaps p known (agree p known) (agree (swap_of p) (swaps p known)).first)
-
-  -- If the state does not matter, agreement on two lists determines the verdicts on a packet.
-  pub judged_stateless : (Known : Packet → Type 0) → GivesVerdicts filter Known → SwapsKnown Known → ((q : Packet) (b : Bool) → filter Established q b → filter New q b) → (p : Packet) → Known p →
-      AgreeOn filter permitted stateful (alone p) → AgreeOn filter permitted stateful (behind_swap p) → AgreeOn filter permitted stateful (alone (swap_of p)) → IsJudged filter permitted stateful p
-  judged_stateless Known gives swaps same p known first second other = record {
-    new = judged_new p first;
-    established = λ some b h. elim (or_cases (permitted p) (permitted (swap_of p)) some) [
-      | inl own ↦ judged_new p first b (same p b h) ∙ or_left (permitted p) _ own ∙ sym (or_left (permitted p) _ own)
-      | inr turned ↦ judged_behind_swap p second (passes_alone Known gives (swap_of p) (swaps p known) other turned) b h
-    ];
-  }

@@ -16,15 +16,16 @@ use Rattle.host_net.specs.Site.{Site}
 use Rattle.flow_set.specs.declared.flow.Flow.{Flow}
 use Rattle.flow_set.specs.EveryFlow.{every_flow}
 use Rattle.flow_set.proofs.EveryFlowLaws.{IsFull-every_flow}
-use Rattle.flow_set.specs.Flow.{same_flow}
+use Rattle.flow_set.specs.Flow.{IsFlow, same_flow}
 use Rattle.flow_set.specs.FlowSet.{has}
 use Rattle.pkt_core.specs.FlowPolicy.{flow_of, flow_of_owners, is_of}
 use Rattle.audit_core.specs.Parts.{Addresses, flow_services, service_parts, site_parts}
-use Rattle.audit_core.proofs.PartLemmas.{AreAlikeFor, SameAddress, alike_for_parts, all_parts}
+use Rattle.audit_core.proofs.PartLemmas.{AreAlikeFor, IsAlikeFor, all_listed, all_parts}
 
-prefixes_alike : (ps : List Prefix) (a b : ℕ) → AllByRecursion (SameAddress a b) (map Addresses ps) → AllByRecursion (λ p. covers p a ≡ covers p b) ps
-prefixes_alike [] a b all = tt
-prefixes_alike (p ∷ ps) a b all = (all.0, prefixes_alike ps a b all.1)
+mapped : {X Y : Type 0} (P : Y → Type 0) (Q : X → Type 0) (f : X → Y) (xs : List X) → ((x : X) → P (f x) → Q x) → AllByRecursion P (map f xs)
+    → AllByRecursion Q xs
+mapped P Q f [] each all = tt
+mapped P Q f (x ∷ xs) each all = (each x all.0, mapped P Q f xs each all.1)
 
 any_alike : (ps : List Prefix) (a b : ℕ) → AllByRecursion (λ p. covers p a ≡ covers p b) ps → covers_any ps a ≡ covers_any ps b
 any_alike [] a b alike = refl
@@ -38,9 +39,9 @@ holder_alike (h ∷ hosts) k a b alike =
     λ i. cond (any_alike h.prefixes a b parts.0 i) (Some k) (holder_alike hosts (k + 1) a b parts.1 i)
 
 -- Both addresses have the same owner.
-owner_alike : (hosts : List Host) (a b : ℕ) → AllByRecursion (SameAddress a b) (map Addresses (all_prefixes hosts)) → owner_of hosts a ≡ owner_of hosts b
+owner_alike : (hosts : List Host) (a b : ℕ) → AllByRecursion (λ p. covers p a ≡ covers p b) (all_prefixes hosts) → owner_of hosts a ≡ owner_of hosts b
 unfolding owner_of
-owner_alike hosts a b all = ap (λ (o : Option ℕ). option_or o (rest_of hosts)) (holder_alike hosts 0 a b (prefixes_alike (all_prefixes hosts) a b all))
+owner_alike hosts a b all = ap (λ (o : Option ℕ). option_or o (rest_of hosts)) (holder_alike hosts 0 a b all)
 
 place_below : (test : Host → Bool) (k : ℕ) (hs : List Host) (i : ℕ) → position_from test k hs ≡ Some i → i < k + length hs
 place_below test k [] i found = cc
@@ -82,14 +83,8 @@ all_of_flow P listed (g ∷ fs) f there all =
 abbrev SameService : Packet → Packet → Service → Type 0
 SameService p q s = serves s p ≡ serves s q
 
-service_alike : (s : Service) (p q : Packet) → AreAlikeFor (service_parts s) p q → SameService p q s
-service_alike s p q alike = λ i. alike.proto.0 i && alike.dport.1.0 i
-
-services_alike : (ss : List Service) (p q : Packet) → AreAlikeFor (flat_map service_parts ss) p q → AllByRecursion (SameService p q) ss
-services_alike [] p q alike = tt
-services_alike (s ∷ ss) p q alike =
-    let both = alike_for_parts (service_parts s) (flat_map service_parts ss) p q alike in
-    (service_alike s p q both.0, services_alike ss p q both.1)
+service_alike : (p q : Packet) (s : Service) → AreAlikeFor (service_parts s) p q → SameService p q s
+service_alike p q s alike = λ i. alike.0 i && alike.1.0.1 i
 
 any_served : (ss : List Service) (p q : Packet) → AllByRecursion (SameService p q) ss → list_any (λ t. serves t p) ss ≡ list_any (λ t. serves t q) ss
 any_served [] p q alike = refl
@@ -99,30 +94,34 @@ served_alike : (ss : List Service) (p q : Packet) → AllByRecursion (SameServic
 served_alike [] p q alike = refl
 served_alike (s ∷ ss) p q alike = any_served (s ∷ ss) p q alike
 
--- Packets that a description does not separate have the same owners.
-site_owners : (site : Site) (p q : Packet) → AreAlikeFor (site_parts site) p q
-    → (owner_of site.hosts p.src ≡ owner_of site.hosts q.src) × (owner_of site.hosts p.dst ≡ owner_of site.hosts q.dst)
-site_owners site p q alike =
-    let both = alike_for_parts (map Addresses (all_prefixes site.hosts)) (flat_map service_parts (flow_services site)) p q alike in
-    (owner_alike site.hosts p.src q.src both.0.src, owner_alike site.hosts p.dst q.dst both.0.dst)
-
+-- Packets that a description does not separate have the same owners, and so the same flow.
 pub flow_alike : (site : Site) (p q : Packet) → AreAlikeFor (site_parts site) p q → flow_of site.hosts p ≡ flow_of site.hosts q
-flow_alike site p q alike = let owners = site_owners site p q alike in λ i. flow_of_owners (owners.0 i) (owners.1 i)
+flow_alike site p q alike =
+    let all = all_prefixes site.hosts in
+    let prefixes = (all_parts (IsAlikeFor p q) (map Addresses all) (flat_map service_parts (flow_services site)) alike).0 in
+    let src = owner_alike site.hosts p.src q.src (mapped (IsAlikeFor p q) (λ x. covers x p.src ≡ covers x q.src) Addresses all (λ x same. same.0) prefixes) in
+    let dst = owner_alike site.hosts p.dst q.dst (mapped (IsAlikeFor p q) (λ x. covers x p.dst ≡ covers x q.dst) Addresses all (λ x same. same.1) prefixes) in
+    λ i. flow_of_owners (src i) (dst i)
 
--- The flow of a packet is between two hosts.
-flow_between : (from to : Option ℕ) (n : ℕ) (f : Flow) → ((i : ℕ) → from ≡ Some i → i < n) → ((j : ℕ) → to ≡ Some j → j < n)
-    → flow_of_owners from to ≡ Some f → has (every_flow n) f ≡ true
-flow_between None to n f from_in to_in is = cc
-flow_between (Some i) None n f from_in to_in is = cc
-flow_between (Some i) (Some j) n f from_in to_in is = by_test (i == j) refl is
+-- The flow of a packet is a flow between hosts.
+pub flow_is_one : (hosts : List Host) (p : Packet) (f : Flow) → flow_of hosts p ≡ Some f → IsFlow (length hosts) f
+flow_is_one hosts p f is = by_owners (owner_of hosts p.src) (owner_of hosts p.dst) refl refl is
   where
-    by_test : (b : Bool) → (i == j) ≡ b → (if b then None else Some (record { from = i; to = j })) ≡ Some f → has (every_flow n) f ≡ true
-    by_test true same h = cc
-    by_test false other h =
-        let is_flow : record { from = i; to = j } ≡ f = cc in
-        let apart : i ≢ j = λ same. grind (arith, nat_tests) in
-        subst (λ (g : Flow). has (every_flow n) g ≡ true) is_flow
-        ((IsFull-every_flow n (record { from = i; to = j })).1 (from_in i refl, to_in j refl, apart))
+    by_test : (i j : ℕ) (b : Bool) → (i == j) ≡ b → i < length hosts → j < length hosts → (if b then None else Some (record { from = i; to = j })) ≡ Some f
+        → IsFlow (length hosts) f
+    by_test i j true test low high is = let no : ⊥ = cc in absurd no
+    by_test i j false test low high is =
+        let from : i ≡ f.from = ap (λ (o : Option Flow). option_map_or (λ g. g.from) o 0) is in
+        let to : j ≡ f.to = ap (λ (o : Option Flow). option_map_or (λ g. g.to) o 0) is in
+        (omega (arith, from, low), omega (arith, to, high), (λ same. true≢false (sym (equal (from ∙ same ∙ sym to)) ∙ test)))
+      where
+        equal : i ≡ j → (i == j) ≡ true
+        equal e = grind (arith, nat_tests)
+
+    by_owners : (from to : Option ℕ) → owner_of hosts p.src ≡ from → owner_of hosts p.dst ≡ to → flow_of_owners from to ≡ Some f → IsFlow (length hosts) f
+    by_owners None to here there is = let no : ⊥ = cc in absurd no
+    by_owners (Some i) None here there is = let no : ⊥ = cc in absurd no
+    by_owners (Some i) (Some j) here there is = by_test i j (i == j) refl (owner_below hosts p.src i here) (owner_below hosts p.dst j there) is
 
 of_flow_alike : (site : Site) (flows : List Flow) (p q : Packet) (flow : Option Flow) → AllByRecursion (SameService p q) (flow_services site)
     → ((f : Flow) → flow ≡ Some f → has (every_flow (length site.hosts)) f ≡ true)
@@ -136,7 +135,8 @@ of_flow_alike site flows p q (Some f) served there =
 -- Packets that a description does not separate belong to the same flows by their services.
 pub is_of_alike : (site : Site) (flows : List Flow) (p q : Packet) → AreAlikeFor (site_parts site) p q → is_of site flows p ≡ is_of site flows q
 is_of_alike site flows p q alike =
-    let both = alike_for_parts (map Addresses (all_prefixes site.hosts)) (flat_map service_parts (flow_services site)) p q alike in
-    of_flow_alike site flows p q (flow_of site.hosts p) (services_alike (flow_services site) p q both.1)
-    (λ f is. flow_between (owner_of site.hosts p.src) (owner_of site.hosts p.dst) (length site.hosts) f (owner_below site.hosts p.src) (owner_below site.hosts p.dst) is)
+    let both = all_parts (IsAlikeFor p q) (map Addresses (all_prefixes site.hosts)) (flat_map service_parts (flow_services site)) alike in
+    of_flow_alike site flows p q (flow_of site.hosts p)
+    (all_listed (IsAlikeFor p q) (SameService p q) service_parts (flow_services site) (service_alike p q) both.1)
+    (λ f is. (IsFull-every_flow (length site.hosts) f).1 (flow_is_one site.hosts p f is))
     ∙ ap (λ (o : Option Flow). option_map_or (λ f. has flows f && is_served (services_of site.services f.from f.to) q) o false) (flow_alike site p q alike)

@@ -1,84 +1,82 @@
--- The finding among all packets is the finding among the packets of classes: the least packet on which the two sides differ is the packet
--- of its class.
-use Rattle.std.proofs.Common.{◌≡◌, ◌⊎◌, inl, inr, subst}
-use Rattle.std.proofs.Math.Nat.{eq-or-lt_of_le}
+-- The result of the search through all packets is the finding of the audit: the least packet on which the two sides differ is the packet of
+-- its class.
+use Rattle.std.proofs.Common.{◌≡◌, inl, inr, sym, subst, arith}
 use Rattle.host_net.specs.declared.packet.Packet.{Packet}
 use Rattle.flow_set.specs.FlowSet.{IsSubset}
 use Rattle.audit_core.specs.declared.finding.Finding.{Finding}
 use Rattle.audit_core.specs.declared.finding.Finding.TheVariants.{Equal, Differ as Differing}
 use Rattle.audit_core.specs.declared.finding.Trace.{Trace}
 use Rattle.audit_core.specs.declared.kind.Kind.{Kind}
-use Rattle.audit_core.specs.Cuts.{cuts_between}
-use Rattle.header_space.specs.Order.{ComesBefore}
+use Rattle.audit_core.specs.declared.kind.Kind.TheVariants.{Alone, BehindSwap, BehindBoth}
+use Rattle.audit_core.specs.Cuts.{cuts_between, parts_between}
+use Rattle.header_space.proofs.SeekLaws.{not_before}
+use Rattle.audit_core.specs.Findings.{IsFirstTrace, events_of, trace_of}
 use Rattle.audit_core.specs.Places.{IsClassPacket, representatives_of}
 use Rattle.audit_core.specs.Rules.{filter_of}
-use Rattle.audit_core.specs.Sides.{Sides}
+use Rattle.audit_core.specs.Lists.{front_of, list_of}
+use Rattle.audit_core.specs.Pairs.{DiffersAt}
+use Rattle.audit_core.specs.Sides.{Differ, Sides, lets_answer, permits}
 use Rattle.audit_core.specs.inner.Findings.{IsFinding}
 use Rattle.audit_core.specs.Verdicts.{GivesOne}
-use Rattle.header_space.specs.Boxes.{IsNoHigher}
-use Rattle.audit_core.specs.inner.Searching.{ArePacketsAll, IsSearched, IsStoodFor, Represent}
-use Rattle.audit_core.specs.inner.Sought.{IsLeastFault, IsSought}
+use Rattle.audit_core.proofs.FindingOnceLaws.{ordered}
+use Rattle.audit_core.specs.inner.Faults.{IsFirstKind, IsLeastFault, IsSought}
+use Rattle.audit_core.specs.laws.ListLaws.{differ_on}
 use Rattle.audit_core.proofs.AlikeLemmas.{alike_by_parts, class_of_packet, right_alike}
+use Rattle.audit_core.proofs.AuditLemmas.{class_packets}
+use Rattle.audit_core.proofs.JudgingLemmas.{agree_kind, agree_where_right, wrong_differs}
 use Rattle.audit_core.proofs.PartLemmas.{one_class_alike}
-use Rattle.audit_core.proofs.SearchLemmas.{found_by_search}
 
-lower_or_same : (a p : Packet) → IsNoHigher a p → (a ≡ p) ⊎ ComesBefore a p
-lower_or_same a p low = elim (eq-or-lt_of_le low.src) [
-  | inr less ↦ inr (inl less)
-  | inl src ↦ elim (eq-or-lt_of_le low.dst) [
-    | inr less ↦ inr (inr (src, inl less))
-    | inl dst ↦ elim (eq-or-lt_of_le low.proto) [
-      | inr less ↦ inr (inr (src, inr (dst, inl less)))
-      | inl proto ↦ elim (eq-or-lt_of_le low.sport) [
-        | inr less ↦ inr (inr (src, inr (dst, inr (proto, inl less))))
-        | inl sport ↦ elim (eq-or-lt_of_le low.dport) [
-          | inr less ↦ inr (inr (src, inr (dst, inr (proto, inr (sport, less)))))
-          | inl dport ↦ inl (λ i. record { src = src i; dst = dst i; proto = proto i; sport = sport i; dport = dport i })
-        ]
+-- The packet that represents the class of a least fault has the same fault, and is no greater.
+class_packet : (sides : Sides) (kind : Kind) (trace : Trace) (least : IsLeastFault sides kind trace)
+    → IsClassPacket (representatives_of (cuts_between sides)) least.at
+class_packet sides kind trace least =
+    let class = class_of_packet sides least.at least.packet in
+    let alike = alike_by_parts sides class.0 least.at (one_class_alike (parts_between sides) class.0 least.at class.1 least.packet class.3) in
+    elim (ordered class.0 least.at) [
+      | inl before ↦
+          let right = right_alike sides kind class.0 least.at alike (least.first class.0 class.1 before) in
+          absurd (least.wrong.wrong (right least.wrong.asked trace.forwards least.wrong.said))
+      | inr rest ↦ elim rest [
+        | inl after ↦ absurd (not_before class.0 least.at class.4 after)
+        | inr same ↦ subst (λ (q : Packet). IsClassPacket (representatives_of (cuts_between sides)) q) same class.2
       ]
     ]
-  ]
-]
 
-module _ (sides : Sides) (packets : ArePacketsAll (representatives_of (cuts_between sides))) where
-  represent : Represent sides (representatives_of (cuts_between sides))
-  represent p is =
-      let class = class_of_packet sides p is in
+module _ (sides : Sides) (gives : GivesOne (filter_of sides.rules)) (subset : IsSubset sides.stateful sides.permitted) where
+  trace_differs : (trace : Trace) (kind : Kind) (p : Packet) → trace ≡ trace_of kind p trace.forwards → DiffersAt sides kind p trace.forwards
+      → Differ sides (events_of trace)
+  trace_differs trace kind p is differs =
+      subst (λ (t : Trace). Differ sides (events_of t)) (sym is)
+      (by_kind kind (differ_on (filter_of sides.rules) (permits sides) (lets_answer sides) (front_of kind p) p trace.forwards differs))
+    where
+      by_kind : (kind : Kind) → Differ sides (list_of kind p) → Differ sides (events_of (trace_of kind p trace.forwards))
+      by_kind Alone differ = differ
+      by_kind BehindSwap differ = differ
+      by_kind BehindBoth differ = differ
+
+  first_trace : (trace : Trace) → IsFirstKind sides trace → IsFirstTrace sides (representatives_of (cuts_between sides)) trace
+  first_trace trace found =
+      let least = found.least in
+      let packets = class_packets (cuts_between sides) in
+      let differs = wrong_differs sides gives subset found.kind (λ h. found.earlier Alone h) least.at least.packet trace.forwards least.wrong in
       record {
-        by = class.0;
-        is_class = class.2;
-        alike = alike_by_parts sides class.0 p (one_class_alike sides class.0 p class.1 is class.3);
-        low = class.4;
+        kind = found.kind;
+        packet = least.at;
+        is = least.is;
+        first = record {
+          is_class = class_packet sides found.kind trace least;
+          packet = least.packet;
+          differ = differs;
+          first = λ r is before. agree_kind sides gives subset found.kind found.earlier r (packets r is) (least.first r (packets r is) before);
+        };
+        earlier = λ k h q is.
+            agree_kind sides gives subset k (λ l less. found.earlier l (omega arith)) q (packets q is) (found.earlier k h q (packets q is));
+        differ = trace_differs trace found.kind least.at least.is differs;
       }
 
-  -- The packet that represents its class has the same fault, and is no greater.
-  class_packet : (kind : Kind) (trace : Trace) (least : IsLeastFault sides kind trace) → IsClassPacket (representatives_of (cuts_between sides)) least.at
-  class_packet kind trace least =
-      let stood : IsStoodFor sides (representatives_of (cuts_between sides)) least.at = represent least.at least.packet in
-      elim (lower_or_same stood.by least.at stood.low) [
-        | inl same ↦ subst (λ (q : Packet). IsClassPacket (representatives_of (cuts_between sides)) q) same stood.is_class
-        | inr before ↦
-            let right = right_alike sides kind stood.by least.at stood.alike (least.first stood.by (packets stood.by stood.is_class) before) in
-            absurd (least.wrong.wrong (right least.wrong.asked trace.forwards least.wrong.said))
-      ]
-
-  searched : (finding : Finding) → IsSought sides finding → IsSearched sides (representatives_of (cuts_between sides)) finding
-  searched Equal all = λ kind q is. all kind q (packets q is)
-  searched (Differing trace) found = record {
-    kind = found.kind;
-    packet = found.least.at;
-    is = found.least.is;
-    wrong = record {
-      is_class = class_packet found.kind trace found.least;
-      wrong = found.least.wrong;
-      first = λ r is before. found.least.first r (packets r is) before;
-    };
-    earlier = λ k h q is. found.earlier k h q (packets q is);
-  }
-
-  pub found_by_sought : (built : Sides) (finding : Finding) → built ≡ sides → GivesOne (filter_of sides.rules) → IsSubset sides.stateful sides.permitted
-      → IsSought built finding → IsFinding sides finding
-  found_by_sought built finding same gives subset sought =
-      found_by_search sides (representatives_of (cuts_between sides)) finding
-      (record { gives = gives; subset = subset; packets = packets; some = λ q is. is; represent = represent })
-      (searched finding (subst (λ (s : Sides). IsSought s finding) same sought))
+  pub found_by_sought : (built : Sides) (finding : Finding) → built ≡ sides → IsSought built finding → IsFinding sides finding
+  found_by_sought built finding same sought = by_finding finding (subst (λ (s : Sides). IsSought s finding) same sought)
+    where
+      by_finding : (finding : Finding) → IsSought sides finding → IsFinding sides finding
+      by_finding Equal right = agree_where_right sides gives subset right
+      by_finding (Differing trace) found = first_trace trace found

@@ -1,16 +1,10 @@
 pub mod Agreement
-pub mod Classes
 pub mod Cuts
 pub mod Faults
 pub mod FindingText
 pub mod Findings
-pub mod Judging
 pub mod Named
 pub mod Pairs
 pub mod Parts
-pub mod Places
-pub mod RangeCuts
 pub mod Ranges
-pub mod Searching
 pub mod Sides
-pub mod Sought

@@ -5,7 +5,7 @@ ghost use Rattle.host_net.specs.Site.{site_with};
 ghost use Rattle.flow_set.specs.FlowSet.{IsSubset};
 ghost use Rattle.audit_core.specs.Findings.{DifferSomewhere};
 ghost use Rattle.audit_core.specs.inner.Findings.{IsFinding, IsRefused};
-ghost use Rattle.audit_core.specs.inner.Sought.{IsSought};
+ghost use Rattle.audit_core.specs.inner.Faults.{IsSought};
 ghost use Rattle.audit_core.specs.Places.{class_count, most_classes};
 ghost use Rattle.audit_core.specs.RulesView.{rules_of};
 ghost use Rattle.audit_core.specs.Sides.{sides_of};
@@ -14,7 +14,6 @@ use crate::fault::{are_right, fault_of};
 use crate::finding::{AuditRefusal, Finding};
 use crate::kind::Kind;
 use crate::named::named_between;
-use crate::representatives::Representatives;
 use crate::sides::Sides;
 use crate::text::Text;
 use flow_set::FlowSet;
@@ -92,10 +91,8 @@ fn count_classes(
 ) -> Result<u128, AllocError>
     ensures { IfOk result (λ count. count ≡ class_count (sides_of policy.now.site policy.now.permitted policy.now.stateful (rules_of text.now))) }
 {
-    let named = named_between(alloc, policy, text)?;
-    let found = named.distinct();
-    let representatives = Representatives::of(alloc, &found)?;
-    Ok(representatives.total())
+    let found = named_between(alloc, policy, text)?;
+    Ok(found.classes())
 }
 
 /// Returns the least fault of the first kind of list that has a fault.

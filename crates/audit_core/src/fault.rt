@@ -7,9 +7,7 @@ ghost use Rattle.header_space.specs.Boxes.{every_packet};
 ghost use Rattle.header_space.specs.Searching.{IsLeastWhere};
 ghost use Rattle.host_net.specs.Packet.{IsPacket};
 ghost use Rattle.audit_core.specs.Findings.{trace_of};
-ghost use Rattle.audit_core.specs.inner.Faults.{IsAnyFault, IsFault};
-ghost use Rattle.audit_core.specs.inner.Judging.{Wrong, state_in};
-ghost use Rattle.audit_core.specs.inner.Sought.{AreRight, IsFaultOf};
+ghost use Rattle.audit_core.specs.inner.Faults.{AreRight, IsAnyFault, IsFault, IsFaultOf, Wrong, state_in};
 ghost use Rattle.audit_core.specs.declared.kind.Kind.{Kind};
 
 use crate::finding::Trace;

@@ -2,10 +2,10 @@
 #![tactic(auto)]
 
 mod between;
+mod classes;
 mod comparison;
 mod cuts;
 mod difference;
-mod distinct;
 mod fault;
 mod finding;
 mod kind;
@@ -17,7 +17,6 @@ mod pairs;
 mod part;
 mod policy_box;
 mod report;
-mod representatives;
 mod sides;
 mod sources;
 mod text;

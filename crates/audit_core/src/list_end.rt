@@ -11,7 +11,8 @@ ghost use Rattle.audit_core.specs.Rules.{filter_of};
 ghost use Rattle.audit_core.specs.Sides.{lets_answer, permits};
 ghost use Rattle.audit_core.specs.declared.difference.Direction.{Direction};
 ghost use Rattle.audit_core.specs.inner.Parts.{HaveFlow};
-ghost use Rattle.audit_core.specs.inner.Pairs.{DiffersBy, DiffersSo, EndsBy, HaveSameEnds, HoldsOf, expected_at, state_after};
+ghost use Rattle.audit_core.specs.inner.Faults.{expected_at};
+ghost use Rattle.audit_core.specs.inner.Pairs.{DiffersBy, DiffersSo, EndsBy, HaveSameEnds, HoldsOf, state_after};
 
 use crate::difference::Direction;
 use crate::kind::Kind;

@@ -1,4 +1,4 @@
-//! The ranges of addresses and ports, and the protocols, that a description and rules name.
+//! The cuts of the ranges of addresses and ports, and the protocols, that a description and rules name.
 
 ghost use Rattle.std.specs.Prelude.{◌≡◌, ◌<◌, ◌++◌, ◌∷◌, [], IfOk, OnOk, map, length};
 ghost use Rattle.std.specs.List.{flat_map};
@@ -9,31 +9,24 @@ ghost use Rattle.audit_core.specs.inner.Named.{AreMore, IsNamedBy};
 ghost use Rattle.audit_core.specs.Parts.{Addresses, Protocol, Ports, address_parts, entry_parts, flow_services, number_parts, one_port_parts, port_parts, prefix_parts, protocol_parts, rule_parts, rules_parts, service_parts, site_parts};
 ghost use Rattle.audit_core.specs.RulesView.{rules_of};
 
+use crate::cuts::{push_addresses, push_ports};
 use crate::text::Text;
 use flow_set::FlowSet;
-use header_space::AddressRange;
 use host_net::{Hosts, Prefix, Service, Services};
 use ipt_rules::{AddrMatch, PortMatch, ProtoMatch, Rule, Ruleset};
 use ofp_rules::{Entry, Table};
 use pkt_core::FlowPolicy;
 use std::alloc::{AllocError, Global};
 
-/// The ports from `low` to `high`.
-#[derive(Clone, Copy, PartialEq, Eq, PartialOrd, Ord)]
-pub(crate) struct PortRange {
-    pub(crate) low: u16,
-    pub(crate) high: u16,
-}
-
-/// The ranges and protocols that a description and rules name, in no order.
+/// The cuts of the ranges, the first cuts, and the protocols that a description and rules name, in no order.
 #[derive(Drop)]
 pub(crate) struct Found {
-    pub(crate) addresses: Vec<AddressRange>,
+    pub(crate) addresses: Vec<u32>,
     pub(crate) protocols: Vec<u8>,
-    pub(crate) ports: Vec<PortRange>,
+    pub(crate) ports: Vec<u16>,
 }
 
-/// Returns the ranges and protocols that a description and rules name.
+/// Returns the cuts and protocols that a description and rules name.
 pub(crate) fn named_between(
     alloc: Global,
     policy: &FlowPolicy<'_>,
@@ -41,21 +34,25 @@ pub(crate) fn named_between(
 ) -> Result<Found, AllocError>
     ensures { IfOk result (IsNamedBy (site_parts policy.now.site ++ rules_parts (rules_of text.now))) }
 {
-    let mut found = nothing_found(alloc);
+    let mut found = first_cuts(alloc)?;
     push_hosts(&mut found, policy.hosts())?;
     push_flows(alloc, &mut found, policy)?;
     push_text(&mut found, text)?;
     Ok(found)
 }
 
-fn nothing_found(alloc: Global) -> Found
-    ensures { IsNamedBy [] result }
+/// Returns the cuts of no ranges.
+fn first_cuts(alloc: Global) -> Result<Found, AllocError>
+    ensures { IfOk result (IsNamedBy []) }
 {
-    Found {
+    let mut found = Found {
         addresses: Vec::new(alloc),
         protocols: Vec::new(alloc),
         ports: Vec::new(alloc),
-    }
+    };
+    found.addresses.push(0)?;
+    found.ports.push(0)?;
+    Ok(found)
 }
 
 fn push_hosts(found: &mut Found, hosts: &Hosts) -> Result<(), AllocError>
@@ -110,7 +107,7 @@ fn push_service(found: &mut Found, service: Service) -> Result<(), AllocError>
     ensures { OnOk result (AreMore (service_parts service) found.old found.new) }
 {
     push_protocol(found, service.proto)?;
-    push_ports(found, service.low, service.high)?;
+    push_range(found, service.low, service.high)?;
     Ok(())
 }
 
@@ -166,7 +163,7 @@ fn push_port_part(found: &mut Found, part: Option<PortMatch>) -> Result<(), Allo
 {
     match part {
         None => Ok(()),
-        Some(asked) => push_ports(found, asked.low, asked.high),
+        Some(asked) => push_range(found, asked.low, asked.high),
     }
 }
 
@@ -213,18 +210,14 @@ fn push_some_port(found: &mut Found, part: Option<u16>) -> Result<(), AllocError
 {
     match part {
         None => Ok(()),
-        Some(port) => push_ports(found, port, port),
+        Some(port) => push_range(found, port, port),
     }
 }
 
 fn push_prefix(found: &mut Found, prefix: Prefix) -> Result<(), AllocError>
     ensures { OnOk result (AreMore (Addresses prefix ∷ []) found.old found.new) }
 {
-    found.addresses.push(AddressRange {
-        first: prefix.first(),
-        last: prefix.last(),
-    })?;
-    Ok(())
+    push_addresses(&mut found.addresses, prefix.first(), prefix.last())
 }
 
 fn push_protocol(found: &mut Found, proto: u8) -> Result<(), AllocError>
@@ -234,9 +227,8 @@ fn push_protocol(found: &mut Found, proto: u8) -> Result<(), AllocError>
     Ok(())
 }
 
-fn push_ports(found: &mut Found, low: u16, high: u16) -> Result<(), AllocError>
+fn push_range(found: &mut Found, low: u16, high: u16) -> Result<(), AllocError>
     ensures { OnOk result (AreMore (Ports low high ∷ []) found.old found.new) }
 {
-    found.ports.push(PortRange { low, high })?;
-    Ok(())
+    push_ports(&mut found.ports, low, high)
 }

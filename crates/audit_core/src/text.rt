@@ -4,8 +4,7 @@ ghost use Rattle.std.specs.Prelude.{◌≡◌, IfOk, IfSome};
 ghost use Rattle.host_net.specs.declared.packet.Packet.{Packet};
 ghost use Rattle.header_space.specs.Boxes.{IsBox, IsIn, Narrows};
 ghost use Rattle.audit_core.specs.Rules.{Chains, filter_of};
-ghost use Rattle.audit_core.specs.Verdicts.{HaveSameVerdicts};
-ghost use Rattle.audit_core.specs.Verdicts.{GivesOne};
+ghost use Rattle.audit_core.specs.Verdicts.{HaveSameVerdicts, GivesOne};
 ghost use Rattle.audit_core.specs.RulesView.{rules_of};
 
 use header_space::PacketBox;

@@ -2,7 +2,6 @@
 -- use `Agreement` instead.
 use Rattle.std.specs.Prelude.{◌≡◌, Bool, ◌||◌, IsTrue, List, [], ◌∷◌}
 use Rattle.host_net.specs.declared.packet.Packet.{Packet}
-use Rattle.host_net.specs.declared.packet.CtState.{CtState}
 use Rattle.host_net.specs.declared.packet.CtState.TheVariants.{New, Established}
 use Rattle.host_net.specs.Packet.{swap_of}
 use Rattle.pkt_core.specs.declared.event.Event.{Event}
@@ -32,11 +31,3 @@ pub record IsJudged (filter : Filter) (permitted stateful : Packet → Bool) (p 
   pub new : (passes : Bool) → filter New p passes → passes ≡ may_pass permitted stateful New p
   pub established : IsTrue (permitted p || permitted (swap_of p)) → (passes : Bool) → filter Established p passes
       → passes ≡ may_pass permitted stateful Established p
-
--- Every known packet passes or does not pass, in each state.
-abbrev pub GivesVerdicts : Filter → (Packet → Type 0) → Type 0
-GivesVerdicts filter Known = (state : CtState) (p : Packet) → Known p → (passes : Bool) × filter state p passes
-
--- The swap of a known packet is known.
-abbrev pub SwapsKnown : (Packet → Type 0) → Type 0
-SwapsKnown Known = (p : Packet) → Known p → Known (swap_of p)

@@ -1,6 +1,6 @@
 -- Parts of the comparison by pairs: the verdict of the rules at the end of a list, and the search between ranges of addresses. Callers use
 -- `Pairs` instead.
-use Rattle.std.specs.Prelude.{◌≡◌, ◌≢◌, ◌↔◌, ◌⊎◌, ℕ, Bool, ◌||◌, IsTrue, if◌then◌else◌, ◌++◌, List, [], ◌∷◌, Option, Some, None, map}
+use Rattle.std.specs.Prelude.{◌≡◌, ◌≢◌, ◌↔◌, ◌⊎◌, ℕ, Bool, ◌||◌, IsTrue, if◌then◌else◌, ◌++◌, List, Option, Some, None, map}
 use Rattle.std.specs.List.{All}
 use Rattle.host_net.specs.declared.packet.Packet.{Packet}
 use Rattle.host_net.specs.declared.packet.CtState.{CtState}
@@ -12,7 +12,6 @@ use Rattle.header_space.specs.Boxes.{IsIn}
 use Rattle.header_space.specs.Order.{ComesBefore}
 use Rattle.header_space.specs.Owners.{GoesBetween, IsRange, LiesIn, LiesInOne}
 use Rattle.header_space.specs.inner.Splitting.{IsEarlier}
-use Rattle.pkt_core.specs.Firewall.{may_pass}
 use Rattle.audit_core.specs.declared.difference.Difference.{Difference}
 use Rattle.audit_core.specs.declared.difference.Direction.{Direction}
 use Rattle.audit_core.specs.declared.kind.Kind.{Kind}
@@ -21,10 +20,10 @@ use Rattle.audit_core.specs.declared.list_end.Ends.{Ends}
 use Rattle.header_space.specs.declared.address_range.AddressRange.{AddressRange}
 use Rattle.audit_core.specs.declared.sources.Sender.{Sender}
 use Rattle.audit_core.specs.declared.sources.Source.{Source}
-use Rattle.audit_core.specs.inner.Judging.{state_in}
+use Rattle.audit_core.specs.inner.Faults.{expected_at}
 use Rattle.audit_core.specs.Pairs.{Case, AreListedFor, DiffersAt}
 use Rattle.audit_core.specs.Rules.{Rules, filter_of}
-use Rattle.audit_core.specs.Sides.{Sides, lets_answer, permits}
+use Rattle.audit_core.specs.Sides.{Sides}
 
 -- ---- The end of a list
 
@@ -39,10 +38,6 @@ EndsBy rules swaps BehindSwap p passes =
     (passed : Bool) × filter_of swaps New (swap_of p) passed × filter_of rules (state_after passed) p passes
 EndsBy rules swaps BehindBoth p passes = (first : Bool) × filter_of rules New p first
     × (passed : Bool) × filter_of swaps New (swap_of p) passed × filter_of rules (state_after (first || passed)) p passes
-
--- The policy expects that p passes at the end of the list of that kind.
-abbrev pub expected_at : Sides → Kind → Packet → Bool
-expected_at sides kind p = may_pass (permits sides) (lets_answer sides) (state_in kind) p
 
 -- The rules forward or drop p in this way at the end of the list of that kind, and the policy expects the opposite.
 pub record DiffersBy (e : Ends) (kind : Kind) (p : Packet) (forwards : Bool) : Type 0 where

@@ -10,7 +10,6 @@ use Rattle.audit_core.specs.declared.kind.Kind.TheVariants.{Alone, BehindSwap, B
 use Rattle.audit_core.specs.declared.finding.Finding.{Finding}
 use Rattle.audit_core.specs.declared.finding.Finding.TheVariants.{Equal, Differ as Differing}
 use Rattle.audit_core.specs.declared.finding.Trace.{Trace}
-use Rattle.audit_core.specs.inner.Agreement.{SwapsKnown}
 use Rattle.audit_core.specs.Findings.{DifferSomewhere, events_of, trace_of}
 use Rattle.audit_core.specs.inner.Findings.{IsFinding}
 use Rattle.audit_core.specs.laws.ListLaws.{agree_not_differ}
@@ -18,7 +17,7 @@ use Rattle.audit_core.specs.Rules.{filter_of}
 use Rattle.audit_core.specs.Sides.{Sides, lets_answer, permits}
 
 -- The swap of a packet is a packet.
-pub swaps_known : SwapsKnown IsPacket
+pub swaps_known : (p : Packet) → IsPacket p → IsPacket (swap_of p)
 swaps_known p is = (is.1, is.0, is.2, is.4, is.3)
 
 seen_is : (q p : Packet) → Some (Seen q) ≡ Some (Seen p) → q ≡ p

@@ -14,25 +14,7 @@ use Rattle.pkt_core.specs.Tracking.{Kept, Runs, after_forget, after_seen, nothin
 use Rattle.audit_core.specs.Agreement.{AgreeOn, DifferOn, IsWrong}
 use Rattle.audit_core.specs.Lists.{DifferBehind}
 
--- The results of a run are the result for its first packet and the results of a run over the rest.
-pub record BeginsRun (filter : Filter) (kept : Kept) (p : Packet) (events : List Event) (answers : List (Option Bool)) : Type 0 where
-  pub passes : Bool
-  pub others : List (Option Bool)
-  pub are : answers ≡ Some passes ∷ others
-  pub first : filter (state_of kept p) p passes
-  pub rest : Runs filter (after_seen kept p passes) events others
-
 module _ (filter : Filter) where
-  pub begins_run : (kept : Kept) (p : Packet) (events : List Event) (answers : List (Option Bool)) → Runs filter kept (Seen p ∷ events) answers
-      → BeginsRun filter kept p events answers
-  begins_run kept p events [] run = absurd run
-  begins_run kept p events (None ∷ answers) run = absurd run
-  begins_run kept p events (Some passes ∷ answers) run = record { passes = passes; others = answers; are = refl; first = run.0; rest = run.1 }
-
-  pub ends_run : (kept : Kept) (answers : List (Option Bool)) → Runs filter kept [] answers → answers ≡ []
-  ends_run kept [] run = refl
-  ends_run kept (answer ∷ answers) run = absurd run
-
   pub run_more : (kept : Kept) (past : List Event) (answers : List (Option Bool)) → Runs filter kept past answers → (p : Packet) (b : Bool) → filter (state_of (kept_after kept past answers) p) p b →
       Runs filter kept (past ++ Seen p ∷ []) (answers ++ Some b ∷ [])
   run_more kept [] [] run p b h = (h, tt)

@@ -1,14 +1,17 @@
 use Rattle.std.proofs.Common.{◌≡◌, ◌↔◌, [], List, sym, subst}
+use Rattle.std.specs.Prelude.{IfOk}
 use Rattle.std.proofs.lemmas.Result.{IfOk-weaker}
 use Rattle.pkt_core.specs.inner.FlowPolicy.{FlowPolicy}
 use Rattle.audit_core.specs.declared.difference.Difference.{Difference}
+use Rattle.audit_core.specs.declared.kind.Kind.{Kind}
 use Rattle.audit_core.specs.declared.text.Text.{Text}
 use Rattle.audit_core.specs.Findings.{DifferSomewhere}
 use Rattle.audit_core.specs.RulesView.{rules_of}
 use Rattle.audit_core.specs.Pairs.{AreDifferences, IsComplete}
 use Rattle.audit_core.specs.Sides.{Sides, sides_of}
-use Rattle.audit_core.proofs.PairLaws.{one_list_of_differences}
-use Rattle.audit_core.proofs.SameLaws.{compared_built, same_built}
+use Rattle.audit_core.specs.inner.Faults.{AreRight}
+use Rattle.audit_core.proofs.PairLaws.{complete_where, one_list_of_differences}
+use Rattle.audit_core.proofs.SameLaws.{none_exactly, none_where_right}
 use Rattle.audit_core.proofs.pairs.compare_pairs.Goals as goal
 
 -- The two sides that are compared.
@@ -18,56 +21,41 @@ compared policy text = sides_of policy.site policy.permitted policy.stateful (ru
 pub returns-then-branch-clause-differences : goal.returns-then-branch-clause-differences
 returns-then-branch-clause-differences c =
     let sides = compared c.args.policy.now c.args.text.now in
-    let none = same_built c.new-sides.result sides c.new-sides.ensures.sides c.new-sides.ensures.gives c.new-sides.ensures.policy.within
-    (c.in_ok-are_right.ensures c.if-branch.true) in
-    (compared_built c.new-sides.result sides c.new-sides.ensures.sides c.new-sides.ensures.gives c.new-sides.ensures.policy.within c.new.result.items
-    (subst (λ (l : List Difference). AreDifferences c.new-sides.result l) (sym c.new.ensures.items) none)).0
+    subst (λ (l : List Difference). AreDifferences sides l) (sym c.new.ensures.items)
+    (none_where_right sides c.new-sides.ensures.gives c.new-sides.ensures.policy.within
+    (subst (λ (s : Sides). (kind : Kind) → AreRight s kind) c.new-sides.ensures.sides (c.in_ok-are_right.ensures c.if-branch.true)))
 
 pub returns-then-branch-clause-complete : goal.returns-then-branch-clause-complete
 returns-then-branch-clause-complete c =
-    let sides = compared c.args.policy.now c.args.text.now in
-    let none = same_built c.new-sides.result sides c.new-sides.ensures.sides c.new-sides.ensures.gives c.new-sides.ensures.policy.within
-    (c.in_ok-are_right.ensures c.if-branch.true) in
-    (compared_built c.new-sides.result sides c.new-sides.ensures.sides c.new-sides.ensures.gives c.new-sides.ensures.policy.within c.new.result.items
-    (subst (λ (l : List Difference). AreDifferences c.new-sides.result l) (sym c.new.ensures.items) none)).1
+    complete_where (compared c.args.policy.now c.args.text.now) c.new.result.items (returns-then-branch-clause-differences c)
 
 pub returns-then-branch-clause-exact : goal.returns-then-branch-clause-exact
 returns-then-branch-clause-exact c =
-    let sides = compared c.args.policy.now c.args.text.now in
-    let none = same_built c.new-sides.result sides c.new-sides.ensures.sides c.new-sides.ensures.gives c.new-sides.ensures.policy.within
-    (c.in_ok-are_right.ensures c.if-branch.true) in
-    (compared_built c.new-sides.result sides c.new-sides.ensures.sides c.new-sides.ensures.gives c.new-sides.ensures.policy.within c.new.result.items
-    (subst (λ (l : List Difference). AreDifferences c.new-sides.result l) (sym c.new.ensures.items) none)).2
+    none_exactly (compared c.args.policy.now c.args.text.now) c.new-sides.ensures.gives c.new-sides.ensures.policy.within c.new.result.items
+    (returns-then-branch-clause-differences c)
 
 pub returns-then-branch-clause-one : goal.returns-then-branch-clause-one
-returns-then-branch-clause-one c =
-    let sides = compared c.args.policy.now c.args.text.now in
-    let none = same_built c.new-sides.result sides c.new-sides.ensures.sides c.new-sides.ensures.gives c.new-sides.ensures.policy.within
-    (c.in_ok-are_right.ensures c.if-branch.true) in
-    λ other are. one_list_of_differences sides other c.new.result.items are
-    (compared_built c.new-sides.result sides c.new-sides.ensures.sides c.new-sides.ensures.gives c.new-sides.ensures.policy.within c.new.result.items
-    (subst (λ (l : List Difference). AreDifferences c.new-sides.result l) (sym c.new.ensures.items) none)).0
+returns-then-branch-clause-one c = λ other are.
+    one_list_of_differences (compared c.args.policy.now c.args.text.now) other c.new.result.items are (returns-then-branch-clause-differences c)
 
-pub returns-clause-one : goal.returns-clause-one
-returns-clause-one c =
-    let sides = compared c.args.policy.now c.args.text.now in
-    IfOk-weaker c.differences_between.result (λ list. AreDifferences c.new-sides.result list.items)
-    (λ list. (other : List Difference) → AreDifferences (compared c.args.policy.now c.args.text.now) other → other ≡ list.items)
-    (λ list are other others. one_list_of_differences sides other list.items others
-    (compared_built c.new-sides.result sides c.new-sides.ensures.sides c.new-sides.ensures.gives c.new-sides.ensures.policy.within list.items are).0)
-    c.differences_between.ensures
+pub returns-clause-differences : goal.returns-clause-differences
+returns-clause-differences c =
+    subst (λ (s : Sides). IfOk c.differences_between.result (λ list. AreDifferences s list.items)) c.new-sides.ensures.sides c.differences_between.ensures
 
 pub returns-clause-complete : goal.returns-clause-complete
 returns-clause-complete c =
     let sides = compared c.args.policy.now c.args.text.now in
-    IfOk-weaker c.differences_between.result (λ list. AreDifferences c.new-sides.result list.items) (λ list. IsComplete (compared c.args.policy.now c.args.text.now) list.items)
-    (λ list are. (compared_built c.new-sides.result sides c.new-sides.ensures.sides c.new-sides.ensures.gives c.new-sides.ensures.policy.within list.items are).1)
-    c.differences_between.ensures
+    IfOk-weaker c.differences_between.result (λ list. AreDifferences sides list.items) (λ list. IsComplete sides list.items)
+    (λ list are. complete_where sides list.items are) (returns-clause-differences c)
 
 pub returns-clause-exact : goal.returns-clause-exact
 returns-clause-exact c =
     let sides = compared c.args.policy.now c.args.text.now in
-    IfOk-weaker c.differences_between.result (λ list. AreDifferences c.new-sides.result list.items)
-    (λ list. (list.items ≡ []) ↔ (DifferSomewhere (compared c.args.policy.now c.args.text.now) → ⊥))
-    (λ list are. (compared_built c.new-sides.result sides c.new-sides.ensures.sides c.new-sides.ensures.gives c.new-sides.ensures.policy.within list.items are).2)
-    c.differences_between.ensures
+    IfOk-weaker c.differences_between.result (λ list. AreDifferences sides list.items) (λ list. (list.items ≡ []) ↔ (DifferSomewhere sides → ⊥))
+    (λ list are. none_exactly sides c.new-sides.ensures.gives c.new-sides.ensures.policy.within list.items are) (returns-clause-differences c)
+
+pub returns-clause-one : goal.returns-clause-one
+returns-clause-one c =
+    let sides = compared c.args.policy.now c.args.text.now in
+    IfOk-weaker c.differences_between.result (λ list. AreDifferences sides list.items) (λ list. (other : List Difference) → AreDifferences sides other → other ≡ list.items)
+    (λ list are other others. one_list_of_differences sides other list.items others are) (returns-clause-differences c)

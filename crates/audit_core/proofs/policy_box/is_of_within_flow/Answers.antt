@@ -1,7 +1,7 @@
 use Rattle.std.proofs.Common.{ℕ, sym, subst, ◌∙◌}
 use Rattle.flow_set.specs.Flow.{IsFlow}
 use Rattle.header_space.proofs.BoxLaws.{own_least}
-use Rattle.audit_core.proofs.FlowLaws.{flow_is_one}
+use Rattle.audit_core.proofs.SiteLemmas.{flow_is_one}
 use Rattle.audit_core.proofs.policy_box.is_of_within_flow.Goals as goal
 
 pub has-requires : goal.has-requires

@@ -2,8 +2,7 @@ use Rattle.std.proofs.Common.{refl, ◌∙◌}
 use Rattle.header_space.proofs.BoxLaws.{narrows_in}
 use Rattle.audit_core.specs.declared.kind.Kind.TheVariants.{Alone}
 use Rattle.audit_core.specs.Sides.{lets_answer, permits}
-use Rattle.audit_core.proofs.FaultLaws.{fault_by}
-use Rattle.audit_core.proofs.JudgingLemmas.{says_new}
+use Rattle.audit_core.proofs.FaultLaws.{fault_by, says_new}
 use Rattle.audit_core.proofs.part.Part.is_fault_alone.Goals as goal
 
 pub returns-clause-alike : goal.returns-clause-alike

@@ -3,7 +3,7 @@ use Rattle.host_net.specs.declared.packet.CtState.{CtState}
 use Rattle.audit_core.specs.declared.finding.Trace.{Trace}
 use Rattle.audit_core.specs.Rules.{filter_of}
 use Rattle.audit_core.specs.Sides.{Sides}
-use Rattle.audit_core.specs.inner.Judging.{Wrong}
+use Rattle.audit_core.specs.inner.Faults.{Wrong}
 use Rattle.audit_core.specs.Verdicts.{GivesOne}
 use Rattle.audit_core.proofs.FaultLaws.{fault_said, trace_forwards}
 use Rattle.audit_core.proofs.sides.Sides.trace_at.Goals as goal
