@@ -8,12 +8,10 @@ use Rattle.header_space.specs.declared.packet_box.PacketBox.{PacketBox}
 use Rattle.header_space.specs.Boxes.{IsIn}
 use Rattle.ipt_rules.specs.declared.marks.Place.{Place}
 use Rattle.ipt_rules.specs.Marks.{marks_of}
-use Rattle.ipt_rules.specs.inner.Marking.{with_mark}
-use Rattle.ipt_rules.proofs.MarkLemmas.{kept_if, long_if, marked_if, only_if}
+use Rattle.ipt_rules.proofs.MarkLemmas.{kept_if, marked_if, only_if}
 use Rattle.audit_core.specs.Rules.{Rules}
 use Rattle.decide_core.specs.declared.deciders.Deciders.{Deciders}
 use Rattle.decide_core.specs.Deciders.{AreDeciders, DecidesOne, IsDecider, IsInOne, PassesAmong}
-use Rattle.decide_core.specs.inner.Classifying.{HasMarks}
 use Rattle.decide_core.specs.inner.Deciding.{Counts, CountsAmong, Deciding, HasNoted, IsKnown, NotesMore, NotesMoreIn, is_noted, noted}
 use Rattle.decide_core.specs.inner.Marked.{AreMarked}
 use Rattle.decide_core.specs.laws.DecidingLaws.{known_still, same_one}
@@ -21,13 +19,6 @@ use Rattle.decide_core.specs.laws.DecidingLaws.{known_still, same_one}
 -- The rule at the place has a mark, set or not. The default always has.
 abbrev pub IsThere : Deciding → Option Place → Type 0
 IsThere x d = IfSome d (λ place. place.rule < length (marks_of x.marks place.chain))
-
-pub has_still : (rules : Rules) (marks : List (List Bool)) (place : Place) → place.rule < length (marks_of marks place.chain) → HasMarks rules marks
-    → HasMarks rules (with_mark marks place)
-has_still rules marks place low has c = long_if marks place low true c ∙ has c
-
-pub other_rules : (rules others : Rules) (marks : List (List Bool)) → others ≡ rules → HasMarks rules marks → HasMarks others marks
-other_rules rules others marks same has = subst (λ (r : Rules). HasMarks r marks) (sym same) has
 
 module _ (x : Deciding) where
   noted_self : (d : Option Place) → IsThere x d → IsTrue (is_noted (noted x d) d)
@@ -109,10 +100,6 @@ in_more : (boxes : List PacketBox) (i : ℕ) (d : PacketBox) (p : Packet) → i 
     → IsInOne (take i boxes) p ⊎ IsIn (get_or boxes i d) p
 in_more boxes i d p low inside =
     in_either (take i boxes) (get_or boxes i d) p (subst (λ (bs : List PacketBox). IsInOne bs p) (take_more boxes i d low) inside)
-
-pub nothing_noted : (Among : Packet → Type 0) (x : Deciding) → ((decider : Option Place) → is_noted x decider ≡ false)
-    → (decider : Option Place) → IsTrue (is_noted x decider) → DecidesOne x.rules (CountsAmong x Among) decider
-nothing_noted Among x none decider on = absurd (true≢false (sym on ∙ none decider))
 
 module _ (boxes : List PacketBox) (i : ℕ) (d : PacketBox) (low : i < length boxes) (x y : Deciding) (more : NotesMoreIn (get_or boxes i d) x y) where
   pub rules_more : (rules : Rules) → x.rules ≡ rules → y.rules ≡ rules

@@ -1,7 +1,7 @@
 -- Laws of findings, flow by flow.
-use Rattle.std.proofs.Common.{◌≡◌, ℕ, not, List, [], ◌∷◌, ◌++◌, ◌∙◌, ap, append-nil}
-use Rattle.std.specs.Prelude.{IsTrue, IsFalse}
-use Rattle.std.proofs.lemmas.Bool.{cond-true, cond-false, not_from_true, not_from_false}
+use Rattle.std.proofs.Common.{◌≡◌, ℕ, not, List, [], ◌∷◌, ◌++◌, ◌∙◌, ap}
+use Rattle.std.specs.Prelude.{IsFalse}
+use Rattle.std.proofs.lemmas.Bool.{cond-true, not_from_false}
 use Rattle.std.proofs.lemmas.List.{map_push}
 use Rattle.std.proofs.lemmas.List.Elements.{All-push, filter-append}
 use Rattle.flow_set.specs.declared.flow.Flow.{Flow}
@@ -13,10 +13,6 @@ use Rattle.explain_core.specs.declared.finding.Finding.{Finding}
 pub without-more : (xs ys : List Flow) (f : Flow) → IsFalse (has ys f) → without (xs ++ f ∷ []) ys ≡ without xs ys ++ f ∷ []
 without-more xs ys f absent =
     filter-append (λ g. not (has ys g)) xs (f ∷ []) ∙ ap (λ zs. without xs ys ++ zs) (cond-true (not (has ys f)) _ _ (not_from_false _ absent))
-
-pub without-same : (xs ys : List Flow) (f : Flow) → IsTrue (has ys f) → without (xs ++ f ∷ []) ys ≡ without xs ys
-without-same xs ys f there =
-    filter-append (λ g. not (has ys g)) xs (f ∷ []) ∙ ap (λ zs. without xs ys ++ zs) (cond-false (not (has ys f)) _ _ (not_from_true _ there)) ∙ append-nil (without xs ys)
 
 pub found_more : (Denies : Flow → List ℕ → Type 0) (wanted : List Flow) (found : List Finding) (x : Finding) (f : Flow) → AreFindings Denies wanted found
     → x.flow ≡ f → Denies x.flow x.by.items → AreFindings Denies (wanted ++ f ∷ []) (found ++ x ∷ [])

@@ -3,10 +3,10 @@ use Rattle.std.proofs.Common.{◌≡◌, ◌⊎◌, inl, inr, ℕ, zero, suc, �
 use Rattle.std.specs.Prelude.{slice_get, IsTrue, IfOk, Result, Ok, Err}
 use Rattle.std.specs.Option.{unwrap_or, option_map_or}
 use Rattle.std.proofs.lemmas.Bool.{cases_eq}
-use Rattle.std.proofs.lemmas.List.{length-replicate, length-set, map-set}
+use Rattle.std.proofs.lemmas.List.{length-set, map-set}
 use Rattle.ipt_rules.specs.declared.marks.Place.{Place}
 use Rattle.ipt_rules.specs.Chain.{Chain}
-use Rattle.ipt_rules.specs.Marks.{AreMarksOf, is_marked, marks_of}
+use Rattle.ipt_rules.specs.Marks.{is_marked, marks_of}
 use Rattle.ipt_rules.specs.inner.Marking.{no_marks, with_mark, with_mark_if}
 use Rattle.ipt_rules.proofs.Gets.{get_set_same, get_set_other}
 use Rattle.ipt_rules.proofs.WalkingLemmas.{none_returns}
@@ -18,11 +18,6 @@ abbrev at_in : Option Bool → Bool
 at_in mark = unwrap_or mark false
 
 -- ---- no marks
-
-pub none_marks : (chains : List Chain) → AreMarksOf (no_marks chains) chains
-none_marks [] c = refl
-none_marks (x ∷ chains) zero = length-replicate (length x.rules) false
-none_marks (x ∷ chains) (suc c) = none_marks chains c
 
 none_at : (chains : List Chain) (c n : ℕ) → unwrap_or (slice_get (marks_of (no_marks chains) c) n) false ≡ false
 none_at [] c n = refl

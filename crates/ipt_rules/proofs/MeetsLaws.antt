@@ -1,5 +1,5 @@
 -- The verdict is the verdict of the rule that decides, and a packet has exactly one decider.
-use Rattle.std.proofs.Common.{◌≡◌, ◌↔◌, ℕ, zero, suc, ◌+◌, ◌∙◌, sym, ap, refl, Bool, true, false, List, [], ◌∷◌, Option, Some, None, drop, subst}
+use Rattle.std.proofs.Common.{◌≡◌, ℕ, zero, suc, ◌+◌, ◌∙◌, sym, ap, refl, Bool, true, false, List, [], ◌∷◌, Option, Some, None, drop, subst}
 use Rattle.std.specs.Prelude.{slice_get, IsSome}
 use Rattle.std.specs.Option.{option_and_then}
 use Rattle.std.proofs.Math.Numerals.{add-one}
@@ -15,7 +15,7 @@ use Rattle.ipt_rules.specs.Matching.{matches}
 use Rattle.ipt_rules.specs.Meaning.{RuleStep, Ends, Walks, step_of, Gives, at_end, goes_on, ends, decides, comes_back, verdict_by}
 use Rattle.ipt_rules.specs.Meets.{MeetsFrom, meets_here, meets_later, meets_inside, meets_behind, Meets, DecidesWalk, IsDecider, decided, target_verdict, verdict_at}
 use Rattle.ipt_rules.specs.inner.OneOutcome.{EachGivesOne, HasVerdict}
-use Rattle.ipt_rules.proofs.MeaningLaws.{gives_once, verdict_once}
+use Rattle.ipt_rules.proofs.MeaningLaws.{gives_once}
 
 -- ---- the first of the remaining rules
 
@@ -171,29 +171,3 @@ decider_verdict chains p state d each is =
       gives = one.gives;
       verdict = ap (verdict_by (policy_of chains 1)) (sym (outcome_decided (matches p state) chains 1 one.outcome d one.gives is));
     }
-
--- ---- each packet has one decider
-
-decider_of : (fits : Rule → Bool) (chains : List Chain) (c : ℕ) (o : Option Verdict) → Gives fits chains (rules_of chains c) o → (d : Option Place) × DecidesWalk fits chains c d
-decider_of fits chains c None g = (None, returns_undecided fits chains c g)
-decider_of fits chains c (Some v) g = let met = decider_met g c 0 v refl refl in (Some met.place, (met.meets, is_some_by met.verdict))
-
-pub record HasOneDecider (chains : List Chain) (p : Packet) (state : CtState) : Type 0 where
-  pub decider : Option Place
-  pub is : IsDecider chains p state decider
-  pub only : (other : Option Place) → IsDecider chains p state other → other ≡ decider
-
-pub has_one_decider : (chains : List Chain) (p : Packet) (state : CtState) → EachGivesOne chains → HasOneDecider chains p state
-has_one_decider chains p state each =
-    let one = each (matches p state) 1 0 in
-    let (d, is) = decider_of (matches p state) chains 1 one.outcome one.gives in
-    record { decider = d; is = is; only = λ other also. one_decider (matches p state) chains 1 other d also is }
-
--- A packet has a verdict if and only if it is the verdict of its decider.
-pub verdict_is_decided : (chains : List Chain) (p : Packet) (state : CtState) → EachGivesOne chains → (v : Verdict) → (HasVerdict chains p state v ↔ ((d : Option Place) × IsDecider chains p state d × (v ≡ decided chains d)))
-verdict_is_decided chains p state each v = (
-  λ has.
-      let one = has_one_decider chains p state each in
-      (one.decider, one.is, verdict_once has (decider_verdict chains p state one.decider each one.is)),
-  λ h. subst (λ (w : Verdict). HasVerdict chains p state w) (sym h.2) (decider_verdict chains p state h.0 each h.1),
-)

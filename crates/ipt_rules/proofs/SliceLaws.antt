@@ -1,7 +1,7 @@
 -- For each packet of its box, a slice has the outcome of the chains that it was made of.
-use Rattle.std.proofs.Common.{◌≡◌, ◌⊎◌, ◌↔◌, inl, inr, ℕ, zero, suc, ◌+◌, ◌<◌, ◌≤◌, Bool, true, false, ◌&&◌, List, [], ◌∷◌, ◌++◌, Option, Some, None, length, drop, get_or, refl, sym, ap, subst, ◌∙◌, arith}
-use Rattle.std.specs.Prelude.{Contains, slice_get}
-use Rattle.std.specs.List.{cons_option, list_all}
+use Rattle.std.proofs.Common.{◌≡◌, ◌⊎◌, inl, inr, ℕ, zero, suc, ◌+◌, ◌<◌, ◌≤◌, Bool, true, false, List, [], ◌∷◌, ◌++◌, Option, Some, None, length, drop, get_or, refl, sym, ap, subst, ◌∙◌, arith}
+use Rattle.std.specs.Prelude.{Contains}
+use Rattle.std.specs.List.{cons_option}
 use Rattle.std.proofs.lemmas.Bool.{and_parts}
 use Rattle.std.proofs.Math.ListN.{drop_of_length-le}
 use Rattle.host_net.specs.declared.packet.Packet.{Packet}
@@ -15,15 +15,13 @@ use Rattle.ipt_rules.specs.declared.rule.Target.{Target}
 use Rattle.ipt_rules.specs.declared.rule.Target.TheVariants.{Jump}
 use Rattle.ipt_rules.specs.Chain.{Chain, rules_of, policy_of}
 use Rattle.ipt_rules.specs.ChainTable.{rule_count}
-use Rattle.ipt_rules.specs.Loops.{jump_of, jumps_of, jumps_from}
+use Rattle.ipt_rules.specs.Loops.{jump_of, jumps_of}
 use Rattle.ipt_rules.specs.Matching.{matches}
-use Rattle.ipt_rules.specs.Meaning.{RuleStep, GoesOn, Ends, Walks, step_of, Gives, at_end, goes_on, ends, decides, comes_back, verdict_by, HasVerdictIn}
+use Rattle.ipt_rules.specs.Meaning.{GoesOn, Walks, step_of, Gives, at_end, goes_on, ends, decides, comes_back, verdict_by, HasVerdictIn}
 use Rattle.ipt_rules.specs.Slices.{HaveSameVerdicts}
-use Rattle.ipt_rules.specs.inner.OneOutcome.{EachGivesOne}
 use Rattle.ipt_rules.specs.inner.Ranks.{HasRanking}
-use Rattle.ipt_rules.specs.inner.Slicing.{AreSlices, FitsNone, IsSlice, IsSliceOf, IsThinned, Thins, thin_end, thin_keeps, thin_drops, all_stay, chains_stay, stays}
+use Rattle.ipt_rules.specs.inner.Slicing.{AreSlices, FitsNone, IsThinned, Thins, thin_end, thin_keeps, thin_drops, all_stay, chains_stay, stays}
 use Rattle.ipt_rules.specs.inner.Walking.{returns_at}
-use Rattle.ipt_rules.proofs.BuildLemmas.{chains_at}
 use Rattle.ipt_rules.proofs.MeaningLaws.{verdict_once}
 use Rattle.ipt_rules.proofs.WalkLemmas.{each_gives_one, later_jump, rules_at, walked_jump}
 
@@ -222,17 +220,7 @@ thin_done b rules out i past so_far =
 abbrev pub SlicesWith : PacketBox → List Bool → List Chain → ℕ → List Chain → Type 0
 SlicesWith b marks xs i out = (rest : List Chain) → AreSlices b marks i (drop i xs) rest → AreSlices b marks 0 xs (out ++ rest)
 
-pub slice_made : (b : PacketBox) (marks : List Bool) (xs out : List Chain) (i : ℕ) (x y : Chain) → i < length xs → x ≡ get_or xs i x → IsSliceOf b (returns_at marks i) x y
-    → SlicesWith b marks xs i out → SlicesWith b marks xs (i + 1) (out ++ y ∷ [])
-slice_made b marks xs out i x y low is slice so_far = λ rest are.
-    subst (λ (zs : List Chain). AreSlices b marks 0 xs zs) (sym (append_one out y rest))
-    (so_far (y ∷ rest) (subst (λ (ds : List Chain). AreSlices b marks i ds (y ∷ rest)) (sym (chains_at xs i x low is)) (slice, are)))
-
 pub slices_done : (b : PacketBox) (marks : List Bool) (xs out : List Chain) (i : ℕ) → length xs ≤ i → SlicesWith b marks xs i out → AreSlices b marks 0 xs out
 slices_done b marks xs out i past so_far =
     subst (λ (zs : List Chain). AreSlices b marks 0 xs zs) (append_none out)
     (so_far [] (subst (λ (ds : List Chain). AreSlices b marks i ds []) (sym (drop_of_length-le xs past)) tt))
-
-pub slice_of_mark : (b : PacketBox) (marked : Bool) (x y : Chain) → y.policy ≡ x.policy → (marked ≡ true → Thins b x.rules y.rules) → (marked ≡ false → y.rules ≡ []) → IsSliceOf b marked x y
-slice_of_mark b true x y policy thins none = record { policy = policy; rules = thins refl }
-slice_of_mark b false x y policy thins none = record { policy = policy; rules = none refl }

@@ -187,10 +187,6 @@ in_at [] i a p within read here = absurd (omega (arith, within))
 in_at (x ∷ areas) zero a p within read here = inl (subst (λ (y : Area). IsInArea y p) read here)
 in_at (x ∷ areas) (suc i) a p within read here = inr (in_at areas i a p (omega (arith, within)) read here)
 
-pub some_ranges : (rs : List AddressRange) (a : ℕ) → LiesInOne rs a → 0 < length rs
-some_ranges [] a there = absurd there
-some_ranges (r ∷ rs) a there = omega arith
-
 pub hull_step : (ranges : List AddressRange) (i : ℕ) (r old new : AddressRange) → i < length ranges → r ≡ get_or ranges i r
     → ((a : ℕ) → LiesInOne (take i ranges) a → LiesIn old a) → ((a : ℕ) → LiesIn old a → LiesIn new a) → ((a : ℕ) → LiesIn r a → LiesIn new a)
     → (a : ℕ) → LiesInOne (take (i + 1) ranges) a → LiesIn new a
@@ -336,12 +332,6 @@ module _ (Holds : Packet → Type 0) (from sources to : List AddressRange) (are 
   pub none_of_pair : (PassesSome Holds (GoesBetween sources to) → ⊥) → (p : Packet) → GoesBetween from to p → Holds p → ⊥
   none_of_pair none p goes held =
       none (p, record { packet = goes.packet; src = are.covered p goes.packet goes.src held; dst = goes.dst }, held)
-
-pub pair_from : (Holds : Packet → Type 0) (from to : List AddressRange) → PassesSome Holds (GoesBetween from to) → 0 < length from
-pair_from Holds from to (p, goes, held) = some_ranges from p.src goes.src
-
-pub pair_to : (Holds : Packet → Type 0) (from to : List AddressRange) → PassesSome Holds (GoesBetween from to) → 0 < length to
-pair_to Holds from to (p, goes, held) = some_ranges to p.dst goes.dst
 
 pub entry_of : (Holds : Packet → Type 0) (from to : List AddressRange) (source destination : Option ℕ) (s : PairServices)
     → PassesSome Holds (GoesBetween from to) → s.from ≡ source → s.to ≡ destination → ArePassing Holds (GoesBetween from to) s.ranges.items

@@ -1,5 +1,5 @@
 -- The result of a visit of a survey, and the invariant of a survey of areas.
-use Rattle.std.proofs.Common.{◌≡◌, ◌⊎◌, ◌↔◌, inl, inr, ℕ, zero, suc, ◌+◌, ◌*◌, ◌<◌, ◌≤◌, Bool, true, false, List, [], ◌∷◌, map, drop, drop-cons, get_or, length, add-one, Option, Some, None, refl, sym, ap, subst, ◌∙◌, arith}
+use Rattle.std.proofs.Common.{◌≡◌, ◌⊎◌, ◌↔◌, inl, inr, ℕ, zero, suc, ◌+◌, ◌<◌, ◌≤◌, Bool, true, false, List, [], ◌∷◌, map, drop, drop-cons, get_or, length, add-one, Option, Some, None, refl, sym, ap, subst, ◌∙◌, arith}
 use Rattle.std.specs.Prelude.{IfSome}
 use Rattle.std.specs.Bool.{Decides}
 use Rattle.std.specs.List.{All}
@@ -17,7 +17,7 @@ use Rattle.pass_core.specs.Services.{service_of}
 use Rattle.pass_core.specs.inner.Areas.{IsArea, IsInArea, IsInOne, box_of}
 use Rattle.pass_core.specs.inner.Numbers.{number}
 use Rattle.pass_core.specs.inner.Asking.{IsAsked, part_or}
-use Rattle.pass_core.specs.inner.Surveying.{AreAlike, AreFellows, Grows, GrowsBy, HasFound, HasService, IsFound, IsFoundIf, IsFoundIn, IsKnown, IsRecorded, IsSurvey, IsSurveyed, IsUnderWay, Notes, Raises, noted}
+use Rattle.pass_core.specs.inner.Surveying.{AreAlike, AreFellows, Grows, GrowsBy, HasFound, HasService, IsFound, IsFoundIf, IsFoundIn, IsKnown, IsRecorded, IsSurveyed, IsUnderWay, Notes, Raises, noted}
 use Rattle.pass_core.specs.laws.SurveyLaws.{recorded_still}
 
 -- ---- the packets of a part
@@ -105,11 +105,6 @@ module _ (Holds : Packet → Type 0) (within part : PacketBox) (s : Survey) (end
   answer_known = known_noted Holds part s last passes within.least all_alike
 
 -- ---- a packet of another service
-
--- Each packet is known in a box of one other service.
-pub other_known : (Holds : Packet → Type 0) (s : Survey) (least p : Packet) → (service_of least ≡ number s.first → ⊥) → p.proto ≡ least.proto
-    → p.dport ≡ least.dport → IsKnown Holds s p
-other_known Holds s least p other proto port = λ service f fellows is between. absurd (other ((λ i. sym proto i * 65536 + sym port i) ∙ service))
 
 -- ---- one area after another
 
@@ -240,29 +235,6 @@ module _ {Q : Type 0} (HoldsOf : Q → Packet → Type 0) where
   asked_part q a b (Some t) area inside agree = record { packets = area; same = λ p is here. agree p (inside p is here.0 here.1) }
 
 -- ---- the first area, and the last one
-
-pub first_way : (Holds : Packet → Type 0) (areas : List Area) (s : Survey) → number s.first ≤ number s.last → s.passes ≡ None → s.stays ≡ None
-    → IsUnderWay Holds areas areas s
-first_way Holds areas s low passes stays = record {
-  some = low;
-  passes = subst (λ (o : Option Packet). IsFoundIf Holds areas (number s.first) (number s.last) true o) (sym passes) tt;
-  stays = subst (λ (o : Option Packet). IsFoundIf Holds areas (number s.first) (number s.last) false o) (sym stays) tt;
-  covers = λ f is inside between. inl inside;
-}
-
-pub survey_done : (Holds : Packet → Type 0) (areas left : List Area) (first : Service) (s : Survey) → left ≡ [] → s.first ≡ first → HasFound s
-    → IsUnderWay Holds areas left s → IsSurvey Holds areas (number first) s
-survey_done Holds areas left first s none has_first found way = record {
-  first = ap number has_first;
-  some = way.some;
-  passes = way.passes;
-  stays = way.stays;
-  covers = λ f is inside between. elim (way.covers f is inside between) [
-    | inl there ↦ absurd (subst (λ (xs : List Area). IsInOne xs f) none there)
-    | inr recorded ↦ recorded
-  ];
-  found = found;
-}
 
 -- ---- the area at an index
 

@@ -1,9 +1,9 @@
 -- The invariant of a sweep over the services, after one more survey.
-use Rattle.std.proofs.Common.{◌≡◌, ◌⊎◌, ◌↔◌, inl, inr, ℕ, ◌+◌, ◌/◌, ◌%◌, ◌<◌, ◌≤◌, Bool, true, false, List, [], Option, Some, None, is_none, refl, sym, ap, subst, arith}
+use Rattle.std.proofs.Common.{◌≡◌, ◌⊎◌, ◌↔◌, inl, inr, ℕ, ◌+◌, ◌/◌, ◌%◌, ◌<◌, ◌≤◌, Bool, true, false, List, Option, Some, None, is_none, refl, sym, ap, subst, arith}
 use Rattle.std.specs.Prelude.{IfSome, IfNone}
 use Rattle.std.specs.List.{All}
 use Rattle.std.proofs.lemmas.Bool.Decides.{not_from_Decides}
-use Rattle.std.proofs.lemmas.List.Elements.{All-nil, All-weaker}
+use Rattle.std.proofs.lemmas.List.Elements.{All-weaker}
 use Rattle.header_space.proofs.SplitLaws.{le_or_lt}
 use Rattle.host_net.specs.declared.packet.Packet.{Packet}
 use Rattle.host_net.specs.Packet.{IsPacket}
@@ -27,17 +27,6 @@ kind_of None stays = None
 kind_of (Some p) stays = Some (is_none stays)
 
 -- ---- the first sweep, and the last one
-
-pub swept_none : (Holds : Packet → Type 0) (Between : Packet → Type 0) (rs : List PassingRange) (next : ℕ) → rs ≡ [] → next ≡ 0 → IsSwept Holds Between rs next
-swept_none Holds Between rs next none start =
-    subst (λ (xs : List PassingRange). IsSwept Holds Between xs next) (sym none)
-    (subst (λ (n : ℕ). IsSwept Holds Between [] n) (sym start)
-    (record {
-      maximal = tt;
-      shown = All-nil (λ (r : PassingRange). IsShown Holds Between r);
-      below = All-nil (λ (r : PassingRange). r.high < 0);
-      placed = λ n low. absurd (omega (arith, low));
-    }))
 
 wholly_if : (Holds : Packet → Type 0) (Between : Packet → Type 0) (rs : List PassingRange) (n : ℕ) (k : Option Bool) → PassesAs Holds Between k n
     → ((b : Bool) → LiesInRange rs b n ↔ (k ≡ Some b)) → LiesInRange rs true n ↔ PassesWholly Holds Between n

@@ -1,5 +1,5 @@
 -- The report on the invariants so far.
-use Rattle.std.proofs.Common.{◌≡◌, ℕ, suc, ◌+◌, ◌<◌, ◌≤◌, Bool, not, ◌&&◌, List, [], ◌∷◌, ◌++◌, Option, length, take, drop, get_or, refl, sym, ◌∙◌, ap, subst, append_assoc, append-nil, add-one, drop-cons}
+use Rattle.std.proofs.Common.{◌≡◌, ℕ, suc, ◌+◌, ◌<◌, ◌≤◌, Bool, not, ◌&&◌, List, [], ◌∷◌, ◌++◌, Option, length, take, drop, get_or, sym, ◌∙◌, ap, subst, append_assoc, append-nil, add-one, drop-cons}
 use Rattle.std.specs.List.{flat_map, zip}
 use Rattle.std.specs.Prelude.{◌↔◌, IsTrue, IsNone, is_some}
 use Rattle.std.proofs.lemmas.Bool.{and_parts, and_from, not-false}
@@ -23,10 +23,6 @@ text_from hosts number invs offences =
 -- The text followed by the report on the remaining invariants, from a number on, is the report.
 abbrev pub GoesOn : Network → List ℕ → ℕ → List AnyInv → Type 0
 GoesOn d text number left = (rest : List (Option (List Flow))) → AreOffences left d.asked.flows rest → IsCheckReport d (text ++ text_from d.hosts number left rest)
-
-pub goes_start : (d : Network) (text : List ℕ) → text ≡ [] → GoesOn d text 1 d.invariants
-goes_start d text empty rest found =
-    subst (λ (bs : List ℕ). IsCheckReport d (bs ++ text_from d.hosts 1 d.invariants rest)) (sym empty) (record { offences = rest; found = found; written = refl })
 
 pub goes_next : (d : Network) (text new : List ℕ) (invs : List AnyInv) (i : ℕ) (inv : AnyInv) (o : Option (List Flow)) → i < length invs → inv ≡ get_or invs i inv → GoesOn d text (i + 1) (drop i invs) → IsOffence (holds_on inv) d.asked.flows o → new ≡ text ++ offence_text d.hosts (i + 1) inv o → GoesOn d new (i + 1 + 1) (drop (i + 1) invs)
 goes_next d text new invs i inv o within is so_far offence written rest found =
