@@ -6,8 +6,8 @@ use Rattle.pkt_core.specs.declared.event.Event.{Event}
 use Rattle.pkt_core.specs.Events.{SeenAt, UnforgottenSince, WasSeen}
 use Rattle.pkt_core.specs.Tracking.{Kept}
 
--- The packet q at index `place` is the first packet of a connection that has not been forgotten since: it is permitted, and neither q nor a
--- permitted answer to q was seen before.
+-- The packet q at index `place` is the first packet of a connection that has not been forgotten since: it is permitted, and if q or a
+-- permitted answer to q was seen before, its connection was forgotten before index `place`.
 pub record IsFirstPacket (permitted : Packet → Bool) (past : List Event) (place : ℕ) (q : Packet) : Type 0 where
   pub seen : SeenAt past place q
   pub unforgotten : UnforgottenSince past place q

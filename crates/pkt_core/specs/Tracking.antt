@@ -1,5 +1,6 @@
 -- Connection tracking: the connection table after a list of events, and the state that it assigns to a packet. The states NEW and
--- ESTABLISHED are those of the match conntrack in iptables-extensions(8), without timeouts and related connections.
+-- ESTABLISHED are those of the match conntrack in iptables-extensions(8). Each packet has one of these two, by its addresses, protocol and
+-- ports alone: none is RELATED, INVALID or UNTRACKED. A timeout is an event that forgets the connection.
 use Rattle.std.specs.Prelude.{Bool, true, false, not, ◌==◌, ◌&&◌, ◌||◌, if◌then◌else◌, List, [], ◌∷◌, Option, Some, None, is_some, ⊤}
 use Rattle.std.specs.Option.{unwrap_or}
 use Rattle.host_net.specs.declared.packet.Packet.{Packet}

@@ -25,8 +25,8 @@ pub record Accepted (only_failures : Type 0) (shelf : Shelf) (kind : Kind) (file
   pub took : TookBytes only_failures kind bytes shelf after
   pub next : Next said after
 
--- The point of the plan at which a run from this shelf stopped (the shelf may count only calls that fail): at a file, after every earlier
--- file was accepted; or at the outcomes, after all files were accepted.
+-- The point of the plan at which a run from this shelf stopped: at a file, after every earlier file was accepted; or at the outcomes, after
+-- all files were accepted. `only_failures` states that the shelf counts an error only if a call fails.
 abbrev pub CameAlong : Type 0 → Course → Shelf → (at_file : Kind → (file : List ℕ) → Shelf → Type 0) → (at_job : Job → Shelf → Type 0) → Type 0
 CameAlong only_failures (reads kind file next) shelf at_file at_job =
     at_file kind file shelf ⊎ Accepted only_failures shelf kind file (λ said after. CameAlong only_failures (next said) after at_file at_job)

@@ -42,7 +42,7 @@ stream_of on_output status.Done = Output
 stream_of on_output status.Violated = if on_output then Output else Errors
 stream_of on_output _ = Errors
 
--- The reply of a job.
+-- A reply that a job may give: that of one of its outcomes that are reached, on the stream of its text.
 abbrev pub Answers : (on_output : Bool) → Job → Reply → Type 0
 Answers on_output job reply = (reply.stream ≡ stream_of on_output reply.status) × OneEnd (EndsIn reply.status reply.text) job
 
