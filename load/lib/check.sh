@@ -1,0 +1,146 @@
+# shellcheck shell=bash disable=SC2034,SC2154
+# --check: the differences between the loaded rules and those that are asked for. What other rules do is a question for
+# topos-query.
+
+# Prints the differences, and a verdict as the last line; nothing if these rules are loaded.
+check_rules() {
+  local found around
+  folder=$(mktemp -d 2>/dev/null) || folder=$(mktemp -d -p /run) || refuse 'cannot create a directory for the comparison'
+  trap 'rm -rf "$folder"' EXIT
+  write_rules "$folder/rules"
+  save_filter "$folder/saved"
+  without_logs "$folder/saved" >"$folder/now"
+  if ! [ -s "$folder/now" ]; then refuse "cannot write $folder: nothing is compared"; fi
+  if is_broken "$state"; then say 'a load was interrupted before its confirmation: topos-load --back ends it'; fi
+  found=$(out_of_force)
+  tell_surroundings
+  if is_same "$folder/now" "$folder/rules" && [ -z "$found" ]; then
+    if [ -n "$verbose$around" ]; then say "the $wall has these rules"; fi
+    return
+  fi
+  if [ -n "$found" ]; then say "$found"; fi
+  tell_differences | sed "s/^-/missing on the $wall:/; s/^+/only on the $wall:   /; s/^~/moved on the $wall:  /"
+  tell_verdict "$found"
+  exit 1
+}
+
+# Prints the unused chains, and what else may drop packets, except what the last load listed. `around` is then not empty.
+tell_surroundings() {
+  local listed=$state/${remembered}listed found
+  if [ -n "$verbose" ] || ! [ -e "$listed" ]; then listed=/dev/null; fi
+  around=''
+  found=$(unused_chains '' "$folder/saved" | grep -vxF -f "$listed")
+  if [ -n "$found" ]; then
+    around=yes
+    say "these chains are unused (topos-load ${local:+--local }--clean removes those of topos):"
+    some_lines <<<"$found" >&2
+  fi
+  found=$(others_that_drop | grep -vxF -f "$listed")
+  if [ -n "$found" ]; then
+    around=yes
+    say "these also process $packets packets and may drop them:"
+    some_lines <<<"$found" >&2
+  fi
+}
+
+# Prints the lines that differ, or their number if they are many and a comparison follows. If all rules are missing, prints
+# one line for each entry instead.
+tell_differences() {
+  local number
+  if tell_none; then return; fi
+  line_changes <(essence "$folder/rules") <(essence "$folder/now") >"$folder/lines"
+  number=$(wc -l <"$folder/lines")
+  if [ "$from:$local$verbose" = description: ] && [ "$number" -gt 20 ]; then
+    echo "$number rules and chains differ (--verbose lists them)"
+  else some_lines <"$folder/lines"
+  fi
+}
+
+# Prints that the entries have none of their rules, if no rule leads to a chain of topos, and the rules that they have.
+tell_none() {
+  local each number policy
+  if grep -qE "$jump" "$folder/now"; then return 1; fi
+  for each in ${entries//|/ }; do
+    number=$(grep -cE "^-A ($each|$chains) " "$folder/rules")
+    policy=$(sed -n "s/^:$each \([A-Z]*\).*/\1/p" "$folder/now")
+    if grep -q "^-A $each " "$folder/now"; then policy=others; fi
+    case $policy in
+      DROP) policy='drops everything' ;;
+      ACCEPT) policy='accepts everything' ;;
+      *) policy='has rules of another tool' ;;
+    esac
+    if grep -qE "^-A $each " "$folder/rules" || [ "$each" = FORWARD ]; then
+      echo "$each has none of its $number rules, and $policy"
+    fi
+  done
+  sed -nE "s/^-A ($entries) /+ &/p" "$folder/now" | some_lines
+}
+
+# Prints the last line, which is a verdict.
+tell_verdict() {
+  say "the $wall has other rules"
+  if [ -n "$1" ]; then say 'verdict: differs, since the rules have no effect'
+  elif [ "$from:$local" = description: ]; then compare_rules "$folder/now"
+  else say "verdict: differs; equivalence is checked only for a firewall with a description"
+  fi
+}
+
+# Prints whether other rules implement the description all the same, and the pairs of hosts for which they do not.
+compare_rules() {
+  local status=0 query
+  if ! find_query; then
+    say "verdict: cannot determine whether these rules implement $file: cannot find topos-query"
+    return
+  fi
+  forwarding_rules "$1" >"$folder/compared"
+  "$query" compare iptables "$folder/rules.description" "$folder/compared" >"$folder/found" 2>"$folder/refused" || status=$?
+  case $status in
+    0) say "verdict: these rules differ from those of topos, but implement $file" ;;
+    2)
+      differences_of "$folder/found" >"$folder/pairs"
+      some_lines <"$folder/pairs"
+      say "verdict: these rules do not implement $file: $(number_of_pairs "$folder/pairs")" ;;
+    *)
+      cat "$folder/refused"
+      refused_line "$folder/refused" "$folder/compared"
+      say "verdict: cannot determine whether these rules implement $file" ;;
+  esac
+}
+
+# Prints how many pairs of hosts a list has.
+number_of_pairs() {
+  local number
+  number=$(cut -d: -f1 "$1" | sort -u | wc -l)
+  if [ "$number" = 1 ]; then echo '1 pair of hosts differs'; else echo "$number pairs of hosts differ"; fi
+}
+
+# Prints the differences of an answer of `topos-query compare`: a line for each pair of hosts and direction, about the first
+# list of events that shows it. No string of an answer has an escape.
+differences_of() {
+  sed 's/.*"differences":\[//; s/},{/}\n{/g' "$1" | sed -nE '
+    s/^\{?"from":("([^"]*)"|null),"to":("([^"]*)"|null),"list":"([a-z]*)","rules":"([a-z]*)","events":\[(.*)\]\}.*/\2\t\4\t\5 \6\t\7/p' |
+    awk -F '\t' -v file="$file" '
+      BEGIN {
+        says["new forward"] = "new packets pass that " file " denies"
+        says["new drop"] = "new packets are dropped that " file " permits"
+        says["answer forward"] = "answers pass that " file " denies"
+        says["answer drop"] = "answers are dropped that " file " permits"
+        says["later forward"] = "packets of connections pass that " file " denies"
+        says["later drop"] = "packets of connections are dropped that " file " permits"
+      }
+      {
+        direction = $3; sub(/.* /, "", direction)
+        if (listed[$1, $2, direction]++) next
+        packet = $4; sub(/.*"packet /, "", packet); sub(/"$/, "", packet)
+        print ($1 ? $1 : "no host") " -> " ($2 ? $2 : "no host") ": " says[$3] ", such as " packet
+      }'
+}
+
+# Prints the line of the second file that topos rejects, as the first one says.
+refused_line() {
+  local line
+  line=$(sed -n 's/^topos: rules: line \([0-9]*\): .*/\1/p' "$1")
+  if [ -n "$line" ]; then sed -n "${line}p" "$2"; fi
+}
+
+part=check # a truncated file lacks this line

@@ -1,0 +1,226 @@
+# shellcheck shell=bash disable=SC2034,SC2154
+# Old connections. A connection stays if the rules let its first packet pass as that of a new one: it could have begun under
+# these rules, and is treated as if they had been there from the beginning. All others are deleted. The rules are in force
+# before: a deleted connection does not begin again, since its first packet is dropped. What was under way meanwhile is
+# found by judging until nothing is left to delete.
+
+# Prints the tracked connections over IPv4, a line each: the chain that decides about it; sender, receiver, protocol and
+# ports of the first packet as FORWARD sees it, with the receiver translated and the sender not yet; the number that the
+# kernel gives it; and the words by which conntrack knows it. No chain decides about those of a firewall itself, `own`. It
+# is `unknown` what a translated one of a machine meets.
+tracked() {
+  conntrack -L -f ipv4 -o id 2>/dev/null | awk -v wall="$wall" "$ranges"'
+    function is_own(address, number, each) {
+      if (address in owned) return owned[address]
+      number = lowest(address)
+      for (each = 1; each <= count; each++) if (from[each] <= number && number <= to[each]) return owned[address] = 1
+      return owned[address] = address == "255.255.255.255"
+    }
+    FILENAME == ARGV[1] {
+      if ($1 ~ /^(local|broadcast)$/) { from[++count] = lowest($2); to[count] = highest($2) }
+      next
+    }
+    {
+      id = sub(/^id=/, "", $NF) ? $NF : "-"; $NF = ""
+      split("", part); split("", seen); zone = ""
+      for (word = 3; word <= NF; word++) if (split($word, pair, "=") == 2) {
+        part[pair[1] (++seen[pair[1]])] = pair[2]
+        if (pair[1] == "zone") zone = zone " -w " pair[2]
+        else if (pair[1] ~ /^zone-/) zone = zone " --" substr(pair[1], 6) "-zone " pair[2]
+      }
+      ends = part["src1"] " " part["src2"] " " $2 " " part["sport1"] + 0 " " part["sport2"] + 0
+      translated = part["src1"] != part["dst2"] || part["dst1"] != part["src2"] ||
+        part["sport1"] != part["dport2"] || part["dport1"] != part["sport2"]
+      sent = is_own(part["src1"]); received = is_own(part["src2"])
+      if (wall == "firewall") decides = sent || received ? "own" : "FORWARD"
+      else decides = translated ? "unknown" : sent ? "OUTPUT" : received ? "INPUT" : "FORWARD"
+      words = "-s " part["src1"] " -d " part["dst1"] " -r " part["src2"] " -q " part["dst2"] " -p " $2 zone
+      if (part["id1"] != "")
+        words = words " --icmp-type " part["type1"] " --icmp-code " part["code1"] " --icmp-id " part["id1"]
+      else if (part["sport1"] != "") words = words " --sport " part["sport1"] " --dport " part["dport1"]
+      print decides, ends, id, words
+    }' <(ip -4 -o route show table local 2>/dev/null) -
+}
+
+# Writes what a packet meets in a built-in chain of a text, as rules of FORWARD, which topos trace reads.
+as_forward() {
+  printf '%s\n' "$2" | grep -Ev "$log" | awk -v chain="$1" '
+    ($1 == ":FORWARD" || $2 == "FORWARD") && chain != "FORWARD" { next }
+    $1 == ":" chain || $1 == "-A" && $2 == chain { sub(chain, "FORWARD") }
+    { print }' >"$judging/filter" || return 1
+  forwarding_rules "$judging/filter"
+}
+
+# Prints the tracked connections that the rules of a text do not let begin, and with `unknown` those of which that is not
+# known, without those in `older`, a file of numbers.
+revoked() {
+  local chain status
+  tracked >"$judging/all" || return 1
+  awk 'FILENAME == ARGV[1] { older[$1]; next } !($7 in older)' "$older" "$judging/all" >"$judging/asked" || return 1
+  if [ "$2" = unknown ]; then sed -n '/^unknown /p' "$judging/asked" || return 1; fi
+  for chain in FORWARD INPUT OUTPUT; do
+    status=0
+    grep "^$chain " "$judging/asked" >"$judging/those" || status=$?
+    case $status in 0) ;; 1) continue ;; *) return 1 ;; esac
+    as_forward "$chain" "$1" >"$judging/rules" || return 1
+    split -l 20000 "$judging/those" "$judging/part." || return 1
+    judge_parts || return 1
+  done
+}
+
+# Prints the connections in parts whose first packet is dropped. Each packet is traced alone: what it begins is forgotten
+# before the next one. Fails unless there is one verdict for each.
+judge_parts() {
+  local each
+  for each in "$judging"/part.*; do
+    awk '{ ends = $2 " " $3 " " $4 " " $5 " " $6; print "packet " ends "\nforget " ends }' "$each" \
+      >"$judging/events" || return 1
+    "$program" trace iptables "$judging/rules" "$judging/events" 2>/dev/null |
+      sed -n '/forgotten/!p' >"$judging/verdicts" || return 1
+    if [ "$(wc -l <"$judging/verdicts")" != "$(wc -l <"$each")" ]; then return 1; fi
+    cut -d ' ' -f 2 "$judging/verdicts" | paste -d ' ' - "$each" | sed -n 's/^drop //p' || return 1
+    rm -f "$each"
+  done
+}
+
+# Prints the words for conntrack that delete the connections of the second file, a line each: for each of them or, if they
+# are many, for all to a port of a receiver and all of a sender, if none of those in the first file stays.
+deletions() {
+  awk '
+    function of_port() { return $6 > 0 ? "-r " $3 " -p " $4 " --reply-port-src " $6 : "" }
+    FNR == 1 { pass++ }
+    pass == 1 { all[of_port()]++; all["-s " $2]++; next }
+    pass == 2 { lost[of_port()]++; lost["-s " $2]++; count++; next }
+    {
+      words = $8
+      for (word = 9; word <= NF; word++) words = words " " $word
+      if (count > 100 && lost["-s " $2] == all["-s " $2]) words = "-s " $2
+      if (count > 100 && of_port() != "" && lost[of_port()] == all[of_port()]) words = of_port()
+      if (!told[words]++) print words
+    }' "$1" "$2" "$2"
+}
+
+# Deletes the connections that the rules of a text do not let begin. `count` is their number, and the file `dropped` has
+# them. If that is impossible, `reason` says why. Those of the firewall itself, and those in `older`, stay.
+drop_revoked() {
+  local left=5 too=$2
+  local -a words
+  count=0
+  while [ "$left" -gt 0 ]; do
+    left=$((left - 1))
+    reason='cannot determine which of them the rules accept'
+    revoked "$1" "$too" >"$judging/revoked" || return 1
+    too='' # what comes now came about under these rules
+    if [ ! -s "$judging/revoked" ]; then return 0; fi
+    count=$((count + $(wc -l <"$judging/revoked")))
+    cat "$judging/revoked" >>"$judging/dropped" || return 1
+    if [ -n "$dry_run" ]; then return 0; fi
+    deletions "$judging/all" "$judging/revoked" >"$judging/words" || return 1
+    reason='too many deletions are needed'
+    if [ "$(wc -l <"$judging/words")" -gt 2000 ]; then return 1; fi
+    while read -ra words; do conntrack -D -f ipv4 "${words[@]}" >/dev/null 2>&1; done <"$judging/words"
+  done
+  reason='some deleted connections reappear'
+  return 1
+}
+
+# Creates a folder for judging, for this process alone. It is not in /run, where other daemons need the space.
+begin_judging() {
+  judging=$(mktemp -d -p /var/tmp topos-load.XXXXXX 2>/dev/null) || judging=$(mktemp -d -p "$state" judging.XXXXXX)
+}
+
+# Prints the connections of a list by flows, the most frequent first: a line `SENDER -> RECEIVER SERVICE: NUMBER` each.
+by_flows() {
+  awk '{ print $2, $3, ($4 == 6 ? "tcp" : $4 == 17 ? "udp" : $4 == 1 ? "icmp" : "protocol " $4) ($6 > 0 ? "/" $6 : "") }' |
+    if [ -s "${wanted:-/dev/null}" ] && [ -s "$wanted.policy" ]; then named; else cat; fi |
+    awk '
+      { flow = $1 " -> " $2; for (word = 3; word <= NF; word++) flow = flow " " $word; number[flow]++ }
+      END { for (each in number) print number[each], each }' | sort -k1,1nr -k2 |
+    awk '{ number = $1; sub(/^[0-9]+ /, ""); print "  " $0 ": " number (number == 1 ? " connection" : " connections") }'
+}
+
+# Prints the same, without ports if there are more than 20 flows with them.
+by_flows_briefly() {
+  local list flows
+  list=$(cat)
+  if [ -z "$list" ]; then return; fi
+  flows=$(by_flows <<<"$list")
+  if [ "$(wc -l <<<"$flows")" -gt 20 ] && [ -z "$verbose" ]; then
+    flows=$(awk '{ $6 = 0; print }' <<<"$list" | by_flows)
+  fi
+  printf '%s\n' "$flows"
+}
+
+# Deletes, after a load, the connections that the rules of a text do not let begin, or all if these are not known.
+drop_connections() {
+  local stay='old connections remain, and their answers are accepted until they end' reason judging='' count=0 older=/dev/null
+  if ! : >"$state/staying"; then note "cannot write $state: the remaining connections are not recorded"; fi
+  if [ -n "$keep" ]; then note "$stay"
+  elif ! command -v conntrack >/dev/null; then note "$stay: conntrack is not installed (apt install conntrack)"
+  elif is_program_there && reason='cannot create a directory' && begin_judging && drop_revoked "$1" unknown; then
+    tell_dropped
+    rm -f "$state/staying"
+  elif is_nothing_old; then
+    say "these rules were loaded before: no connection is deleted ($reason)"
+    rm -f "$state/staying"
+  elif conntrack -F >/dev/null 2>&1; then
+    say "all old connections are deleted: $reason"
+    rm -f "$state/staying"
+  else note "$stay: conntrack -F failed"
+  fi
+  if [ -n "$judging" ]; then rm -rf "$judging"; fi
+}
+
+# Prints which connections are deleted.
+tell_dropped() {
+  if [ "$count" = 0 ]; then
+    say 'no old connection is deleted: the rules accept the first packet of each'
+    return
+  fi
+  say "$count old connections are deleted, whose first packet the rules drop:"
+  by_flows_briefly <"$judging/dropped" | some_lines >&2
+}
+
+# Whether all connections began under the rules that are loaded again. This counts only if they cannot be judged.
+is_nothing_old() { is_alike "$state/before" "$state/rules" && is_known "$state/before" && [ ! -e "$stayed" ]; }
+
+# Saves the numbers of the connections before the change: a rollback deletes none of them.
+remember_connections() {
+  rm -f "$state/older"
+  if command -v conntrack >/dev/null; then
+    conntrack -L -f ipv4 -o id 2>/dev/null | sed -n 's/.* id=\([0-9]*\)$/\1/p' >"$state/older" || rm -f "$state/older"
+  fi
+}
+
+# Deletes, after a rollback, the connections that began since the load and that the old rules do not let begin, if both are
+# known. `reason` becomes a sentence with numbers.
+drop_begun() {
+  local judging='' count=0 older=$state/older stay='all connections remain'
+  if [ -n "$keep" ] || ! command -v conntrack >/dev/null; then reason=$stay
+  elif ! [ -e "$older" ]; then reason="$stay, since those from before the load are unknown"
+  elif ! is_program_there; then reason="$stay: $reason"
+  elif begin_judging && drop_revoked "$was" ''; then
+    reason="$(awk 'FILENAME == ARGV[1] { older[$1]; next } $7 in older { count++ } END { print count + 0 }' \
+      "$older" "$judging/all") connections from before the load remain, $count that began under the new rules are deleted"
+  else reason="$stay: cannot determine which of them the old rules accept"
+  fi
+  if [ -n "$judging" ]; then rm -rf "$judging"; fi
+}
+
+# Prints the connections that a load would delete.
+tell_dry_run() {
+  local reason judging='' count=0 older=/dev/null
+  need conntrack
+  if ! is_program_there; then refuse "$reason: cannot determine which connections a load would delete"; fi
+  if begin_judging && drop_revoked "$(cat "$state/rules")" unknown; then
+    say "a load would delete $count connections; $(($(wc -l <"$judging/all") - count)) remain"
+    if [ -s "$judging/dropped" ]; then by_flows_briefly <"$judging/dropped" | sed 's/^ */would be deleted: /'; fi
+    rm -rf "$judging"
+  else
+    rm -rf "$judging"
+    refuse "cannot determine which connections a load would delete"
+  fi
+  clear_state
+}
+
+part=connections # a truncated file lacks this line

@@ -1,0 +1,308 @@
+# shellcheck shell=bash disable=SC2034,SC2154
+# What surrounds the rules: forwarding, interfaces, routes, other tables and chains, flows without answers.
+
+# Prints the notes on everything that is not in the rules.
+note_surroundings() {
+  if [ -n "$local" ]; then note_machine; else note_forwarding; fi
+  note_senders
+  note_unused
+  note_tables
+  note_nft
+  if [ -z "$local" ]; then note_networks "$state/rules"; fi
+  note_flows
+  if [ -z "$dry_run" ]; then { unused_others "$state/before"; others_that_drop; } >"$state/${remembered}listed"; fi
+}
+
+# Notes what is off or open for a firewall.
+note_forwarding() {
+  local root=/proc/sys/net found
+  if grep -qE '^-A INPUT -d [0-9./]+ -j IN$' "$state/before"; then
+    note 'INPUT and OUTPUT have the rules of a host, which are unchanged; --local is refused while FORWARD has rules of a firewall'
+  fi
+  if [ "$(cat $root/ipv4/ip_forward)" = 0 ]; then
+    found=$(interfaces_with 1 "$root"/ipv4/conf/*/forwarding)
+    if [ -n "$found" ]; then note "IPv4 is forwarded only from the interfaces:$found (net.ipv4.conf.*.forwarding = 1)"
+    else note 'IPv4 forwarding is off (net.ipv4.ip_forward = 0)'
+    fi
+  fi
+  if [ "$(cat $root/ipv6/conf/all/forwarding 2>/dev/null)" = 1 ]; then
+    note 'IPv6 is forwarded, and topos has no rules for it (net.ipv6.conf.all.forwarding = 1)'
+  fi
+  found=$(interfaces_with 1 "$root"/ipv6/conf/*/force_forwarding)
+  if [ -n "$found" ]; then note "IPv6 forwarding is forced, and topos has no rules for it:$found (force_forwarding = 1)"; fi
+  note_bridges
+}
+
+# Prints the interfaces whose file has a value, after a space each.
+interfaces_with() {
+  local value=$1 each
+  shift
+  for each; do
+    if [ -r "$each" ] && [ "$(cat "$each")" = "$value" ]; then
+      each=${each%/*}
+      case ${each##*/} in all | default) ;; *) printf ' %s' "${each##*/}" ;; esac
+    fi
+  done
+}
+
+# Notes bridges, whose ports are on one segment.
+note_bridges() {
+  local found
+  found=$(ip -o link show type bridge 2>/dev/null | sed -n 's/^[0-9]*: \([^:@]*\).*/ \1/p' | tr -d '\n')
+  if [ -n "$found" ]; then
+    note "packets that a bridge forwards between its ports bypass FORWARD unless bridge-nf-call-iptables is 1:$found"
+  fi
+}
+
+# Notes what the rules of a host do not cover on this machine.
+note_machine() {
+  local found
+  if [ "$(cat /proc/sys/net/ipv4/ip_forward)" = 1 ]; then
+    note 'IPv4 forwarding is on (net.ipv4.ip_forward = 1), and FORWARD will drop all packets'
+  fi
+  found=$(ip -6 -o address show 2>/dev/null | grep -v ' ::1/128 ')
+  if [ -n "$found" ]; then
+    note 'this machine has IPv6 addresses, and topos has no rules for IPv6'
+  fi
+}
+
+# Notes the interfaces that accept forged sources.
+note_senders() {
+  local root=/proc/sys/net interface value all open=''
+  all=$(cat $root/ipv4/conf/all/rp_filter)
+  for interface in "$root"/ipv4/conf/*; do
+    interface=${interface##*/}
+    case $interface in all | default | lo) continue ;; esac
+    value=$(cat "$root/ipv4/conf/$interface/rp_filter")
+    if [ "$all" -gt "$value" ]; then value=$all; fi
+    if [ "$value" != 1 ]; then open+=" $interface ($value)"; fi
+  done
+  if [ -n "$open" ]; then note "forged sources are accepted by interfaces whose rp_filter is not 1:$open"; fi
+}
+
+# Notes the chains of other tools that are unused after the load.
+note_unused() {
+  local found
+  found=$(unused_others "$state/before")
+  if [ -z "$found" ]; then return; fi
+  note_lines 'after the load these chains of other tools are unused (iptables -F and -X remove them):' \
+    'chains of other tools are unused' "$found"
+}
+
+# Prints a table of a back end. Reading does not create it.
+table_of() {
+  if [ "$1" = legacy ] && ! grep -qx "$2" /proc/net/ip_tables_names 2>/dev/null; then return; fi
+  if command -v "iptables-$1-save" >/dev/null; then "iptables-$1-save" -t "$2" 2>/dev/null; fi
+}
+
+# Prints the other tables of iptables that have a line which matches: `the table TABLE (BACK END)` each.
+tables_with() {
+  local each
+  for each in {nft,legacy}:{nat,mangle,raw,security}; do
+    if prints "$1" table_of "${each%:*}" "${each#*:}"; then echo "the table ${each#*:} (${each%:*})"; fi
+  done
+}
+
+# Prints the back end that is not loaded.
+other_back_end() { if [ "$backend" = legacy ]; then echo nft; else echo legacy; fi; }
+
+# Notes the rules and policies of the other back end, and other tables of iptables.
+note_tables() {
+  local other each found both='a packet must pass both'
+  other=$(other_back_end)
+  found=$(table_of "$other" filter)
+  if grep -qE "^-A ($entries) " <<<"$found"; then
+    note "$changed: rules exist in the back end $other too: $both"
+  fi
+  for each in ${entries//|/ }; do
+    if ! grep -q "^:$each DROP " <<<"$found"; then continue; fi
+    note "the policy of $each in the back end $other is DROP: $both (iptables-$other -P $each ACCEPT changes it)"
+  done
+  if grep -q '^# Table .filter. is incompatible' <<<"$found"; then
+    note "the table filter has rules in the back end $other that iptables cannot read: $both"
+  fi
+  while read -r each; do
+    note "$each has rules: the proof does not cover packets that it rewrites or drops"
+  done < <(tables_with '^-A ')
+}
+
+# Prints the chains of nft that iptables does not show and that process packets of ours, a line each.
+nft_chains() {
+  local family table chain
+  if ! command -v nft >/dev/null; then return; fi
+  nft list chains 2>/dev/null | awk -v hook="hook ($hooks|prerouting|postrouting|ingress|egress) " '
+    $1 == "table" { table = $2 " " $3 }
+    $1 == "chain" { chain = $2 }
+    $0 !~ hook || table ~ /^(ip6|arp) / { next }
+    table ~ /^ip (filter|mangle|raw|nat|security)$/ &&
+      chain ~ /^(INPUT|FORWARD|OUTPUT|PREROUTING|POSTROUTING)$/ { next } # of iptables
+    { print table, chain }' |
+    while read -r family table chain; do
+      echo "$family $table $chain$(nft list table "$family" "$table" 2>/dev/null | drops_in "$chain")"
+    done
+}
+
+# Notes flow tables and chains of nft.
+note_nft() {
+  local found
+  if [ -z "$local" ] && prints flowtable nft list flowtables; then
+    note 'a flow table exists: packets that it forwards bypass FORWARD'
+  fi
+  found=$(nft_chains | sed 's/^/ /; s/$/;/' | tr -d '\n')
+  if [ -n "$found" ]; then note "other nft chains process $packets packets and may drop them:${found%;}"; fi
+}
+
+# Prints whether a chain of a table of nft drops packets: it, or a chain, map or set that it leads to.
+drops_in() {
+  awk -v chain="$1" "$closure"'
+    $1 ~ /^(chain|map|set)$/ { here = ($1 == "chain" ? "" : "@") $2; next }
+    {
+      text[here] = text[here] " " $0
+      count = split($0, word, "[ \t;,{}]+")
+      for (at = 1; at <= count; at++)
+        if (word[at] ~ /^@/) leads(here, word[at])
+        else if (word[at] ~ /^(jump|goto)$/) leads(here, word[at + 1])
+    }
+    /hook / && /policy drop/ && here == chain { policy = 1 }
+    END {
+      reached[chain]
+      reach()
+      for (each in reached) if (text[each] ~ /(^|[ \t:])(drop|reject|notrack)([ \t,;}]|$)/) rules = 1
+      if (policy) print " (policy drop)"
+      else if (rules) print " (has rules that drop)"
+    }'
+}
+
+# Prints what may drop packets besides the loaded rules: chains of nft, the other back end, other tables. A line each.
+others_that_drop() {
+  local other each found
+  other=$(other_back_end)
+  nft_chains | grep ')$'
+  found=$(table_of "$other" filter)
+  for each in ${entries//|/ }; do
+    if grep -q "^:$each DROP " <<<"$found"; then echo "$each in the back end $other (policy drop)"
+    elif grep -q "^-A $each " <<<"$found"; then echo "$each in the back end $other (has rules)"; fi
+  done
+  tables_with '^:[A-Z]+ DROP |^-A .*-j (DROP|REJECT|NOTRACK|CT --notrack)' | sed 's/$/ (has rules that drop)/'
+}
+
+# Prints why the rules of the table `filter` have no effect, or not where those of iptables have; else nothing.
+out_of_force() {
+  local each chains_of_nft
+  if [ "$backend" = legacy ] || ! command -v nft >/dev/null; then return; fi
+  if prints '"name": "filter", "handle": [0-9]*, "flags"' nft -j list tables ip &&
+    prints '^[[:space:]]*flags .*dormant' nft -t list table ip filter; then
+    echo 'the table filter is dormant, so its rules have no effect (nft add table ip filter activates it)'
+    return
+  fi
+  chains_of_nft=$(nft list chains ip 2>/dev/null | awk '
+    $1 == "table" { table = $3 }
+    $1 == "chain" { chain = $2 }
+    table == "filter" && $1 == "type" { print chain, $2, $4, $6, $7 }')
+  for each in ${entries//|/ }; do
+    if grep -q "^$each " <<<"$chains_of_nft" &&
+      ! grep -qE "^$each filter ${each,,} (filter|0);" <<<"$chains_of_nft"; then
+      echo "the chain $each of the table filter has a hook or priority other than that of iptables"
+    fi
+  done
+}
+
+# Refuses if the rules of iptables have no effect.
+refuse_out_of_force() {
+  local found
+  found=$(out_of_force)
+  if [ -n "$found" ]; then refuse "$found: nothing is changed"; fi
+}
+
+# Prints the routes to networks, except that to everybody, with addresses of no specific host: up to three ranges each.
+unlisted_networks() {
+  ip -4 route show table all | awk "$ranges"'
+    function dotted(number) {
+      return int(number / 16777216) "." int(number / 65536) % 256 "." int(number / 256) % 256 "." number % 256
+    }
+    # Where the first range at `address` or behind it ends, up to `last`: in `missing` the first address of no host.
+    function next_range(address, last, each, again) {
+      do {
+        again = 0
+        for (each = 1; each <= count; each++)
+          if (from[each] <= address && address <= to[each]) { address = to[each] + 1; again = 1 }
+      } while (again && address <= last)
+      missing = address
+      for (each = 1; each <= count; each++) if (from[each] > address && from[each] <= last) last = from[each] - 1
+      return last
+    }
+    function told(first, last, way, address, end, told_ranges, number, words) {
+      for (address = first; address <= last; address = end + 1) {
+        end = next_range(address, last)
+        if (missing > last) break
+        number += end - missing + 1
+        if (++told_ranges <= 3) words = words ", " dotted(missing) (end > missing ? "-" dotted(end) : "")
+        else if (told_ranges == 4) words = words ", .."
+      }
+      if (number == last - first + 1) print "  " way ": no address belongs to a specific host"
+      else if (number > 0) print "  " way ": " number " of " last - first + 1 " addresses belong to no specific host: " substr(words, 3)
+    }
+    /^-A FORWARD -s / { from[++count] = lowest($4); to[count] = highest($4) }
+    $1 ~ /^[0-9.]+(\/[0-9]+)?$/ && !seen[$1]++ {
+      way = ""
+      for (word = 2; word < NF; word++) if ($word == "via" || $word == "dev") way = way ", " $word " " $(word + 1)
+      told(lowest($1), highest($1), $1 (way == "" ? "" : " (" substr(way, 3) ")"))
+    }' "$1" -
+}
+
+# Notes these networks.
+note_networks() {
+  local found whose='packets with these addresses are dropped'
+  if [ "$from" != description ] || ! command -v ip >/dev/null; then return; fi
+  if grep -q '^-A FORWARD -j H' "$1"; then whose="the rest host has them"; fi
+  found=$(unlisted_networks "$1")
+  if [ -z "$found" ]; then return; fi
+  note_lines "these routes lead to addresses of no specific host, and $whose:" \
+    'routes lead to addresses of no specific host' "$found"
+}
+
+# Prints the flows without answers, first those that TCP could use, with their services of TCP. topos-query knows them.
+silent_flows() {
+  "$query" network "$wanted.description" | sed 's/},{/}\n{/g' | sed -nE '
+    s/.*\{"flow":\["([^"]*)","([^"]*)"\],"asked":[a-z]*,"permitted":true,"answered":false,"services":\[([^]]*)\].*/\1 \2 \3/p' |
+    tr -d '"' | awk -v host="$host" '
+      host != "" && $1 != host && $2 != host { next }
+      {
+        count = split($3, service, ","); words = count ? "" : " everything"
+        for (each = 1; each <= count; each++) if (service[each] ~ /^tcp/) words = words " " service[each]
+        print words == "" ? 2 : 1, $1 " -> " $2 " allowed" (words == "" ? "" : ":" words)
+      }' | sort -s -k1,1 | cut -d ' ' -f 2-
+}
+
+# Notes the flows without answers.
+note_silent() {
+  local silent found query
+  if ! find_query; then
+    note "$(grep -c ' allowed$' "$wanted.policy") flows allow no answers; cannot find topos-query, which has their services"
+    return
+  fi
+  silent=$(silent_flows)
+  found=$(grep ' allowed:' <<<"$silent")
+  if [ -n "$found" ]; then
+    note_lines 'these flows include TCP but allow no answers, so TCP connections fail:' \
+      'flows include TCP but allow no answers' "$found"
+  fi
+  found=$(grep ' allowed$' <<<"$silent")
+  if [ -n "$found" ]; then
+    note_lines 'these flows allow no answers and do not include TCP:' 'flows allow no answers and do not include TCP' "$found"
+  fi
+}
+
+# Notes the flows without answers, and with --repair those that are omitted.
+note_flows() {
+  local found
+  if [ "$from" != description ]; then return; fi
+  if grep -q ' allowed$' "$wanted.policy"; then note_silent; fi
+  found=$(grep ' denied by ' "$wanted.policy")
+  if [ -n "$repair" ] && [ -n "$found" ]; then
+    note_lines "these flows are omitted (all of them: topos policy $file | grep ' denied by '):" \
+      'flows are omitted' "$found"
+  fi
+}
+
+part=notes # a truncated file lacks this line

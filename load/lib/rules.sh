@@ -1,0 +1,262 @@
+# shellcheck shell=bash disable=SC2034,SC2154
+# Texts of rules, as iptables-save prints them and iptables-restore reads them: their form, and changes from one to another.
+
+# The form of the rules that topos writes. A service is a protocol, or ports of one.
+prefix='[0-9./]+' ports='[0-9]+(:[0-9]+)?'
+
+# Prints the pattern of a service: ports are destinations in flows (dport), and sources in answers (sport).
+service() { echo "( -p (icmp|tcp( -m tcp --$1 $ports)?|udp( -m udp --$1 $ports)?))?"; }
+passes="($(service dport)|$(service sport) -m conntrack --ctstate ESTABLISHED) -j ACCEPT"
+
+# What --log puts before a rule that drops: it names the host, and logs at most ten packets a minute.
+limited='-m limit --limit 10/min -j LOG --log-prefix'
+label='"topos [A-Za-z0-9_-]+: "'
+
+# Selects what is changed on a firewall: the built-in chains `entries`, and the chains of topos, `chains`. `entry` is a
+# rule of the first and `rule` one of the second; a `jump` exists where rules of topos are loaded; --log adds a `log`.
+change_box() {
+  wall=firewall remembered='' hooks=forward packets=forwarded
+  entries=FORWARD chains='H[0-9]+' named='the chains H0, H1 ..'
+  changed=FORWARD as_before='FORWARD is restored' whose='of topos' replacing=--replace-forward
+  jump="^-A FORWARD( -s $prefix)? -j H[0-9]+$" entry=$jump
+  rule="^-A H[0-9]+( -d $prefix)?($passes| -j DROP)$"
+  log="^-A (FORWARD|H[0-9]+( -d $prefix)?) $limited $label$"
+}
+
+# Selects the same on the machine of a host.
+change_machine() {
+  wall=machine remembered=local- hooks='(input|forward|output)' packets="this machine's"
+  entries='INPUT|FORWARD|OUTPUT' chains='IN|OUT' named='the chains IN and OUT'
+  changed='INPUT, FORWARD and OUTPUT' as_before='INPUT, FORWARD and OUTPUT are restored'
+  whose='of a host' replacing=--replace-rules
+  jump="^-A (INPUT -d $prefix -j IN|OUTPUT -s $prefix -j OUT)$"
+  entry="$jump|^-A (INPUT|OUTPUT) -s 127[.]0[.]0[.]0/8 -d 127[.]0[.]0[.]0/8 -j ACCEPT$"
+  rule="^-A (IN( -s $prefix)?|OUT( -d $prefix)?)($passes| -j DROP)$"
+  log="^-A (IN( -s $prefix)?|OUT( -d $prefix)?) $limited $label$"
+}
+
+# The least and the greatest address of a prefix as numbers, for awk.
+ranges='
+  function lowest(prefix, part) {
+    split(prefix, part, "[./]")
+    return ((part[1] * 256 + part[2]) * 256 + part[3]) * 256 + part[4]
+  }
+  function highest(prefix, part) {
+    return lowest(prefix) + (split(prefix, part, "/") == 2 ? 2 ^ (32 - part[2]) : 1) - 1
+  }'
+
+# The chains that rules lead to from those in `reached`, for awk. `leads` takes a jump, and `take_jumps` those of a rule.
+# shellcheck disable=SC2016
+closure='
+  function leads(chain, target) { from[++jumps] = chain; to[jumps] = target }
+  function take_jumps(word) { for (word = 3; word < NF; word++) if ($word ~ /^-[jg]$/) leads($2, $(word + 1)) }
+  function reach(each, more) {
+    do {
+      more = 0
+      for (each = 1; each <= jumps; each++)
+        if (from[each] in reached && !(to[each] in reached)) { reached[to[each]]; more = 1 }
+    } while (more)
+  }'
+
+# Prints the table `filter`. Fails unless the text is whole: with a truncated one the rules of other tools would be
+# overlooked. The back end nft has no chain until somebody uses it, and warns of tables of the other back end, which
+# note_tables reports.
+filter_now() {
+  local saved each
+  saved=$("$save" -t filter 2> >(grep -v '^# Warning: iptables-legacy tables present' >&2)) || return 1
+  if [ "$(printf '%s\n' "$saved" | grep '^[^#]' | tail -n 1)" != COMMIT ]; then return 1; fi
+  printf '%s\n' "$saved" || return 1
+  for each in INPUT FORWARD OUTPUT; do
+    if [[ $saved != *$'\n':$each\ * ]]; then echo ":$each ACCEPT [0:0]" || return 1; fi
+  done
+}
+
+# Writes the table `filter` into a file. Fails on a full disk, by the status of `cat`.
+read_filter() { filter_now | cat >"$1"; }
+
+# Writes the table `filter` into a file, and refuses if iptables cannot read it.
+save_filter() {
+  read_filter "$1" || refuse "$save cannot read the table filter: nothing is changed"
+  if grep -q '^# Table .filter. is incompatible' "$1"; then
+    refuse 'the table filter contains nft rules that iptables cannot read: nothing is changed'
+  fi
+}
+
+# Prints the chains of topos in a text.
+our_chains() { printf '%s\n' "$1" | sed -nE "s/^:($chains) .*/\1/p" | sort; }
+
+# Prints the rules of a text that a load replaces.
+our_rules() { printf '%s\n' "$1" | sed -nE "/^-A ($entries|$chains) /p"; }
+
+# Prints what a load replaces in a text: the policies, the rules chain by chain, and the chains of topos.
+essence() {
+  awk -v entries="^:($entries)$" -v chains="^:($chains)$" -v ours="^($entries|$chains)$" '
+    $1 ~ entries { print 1, $1, "policy of " substr($1, 2) ": " $2 }
+    $1 == "-A" && $2 ~ ours { print 2, $2, $0 }
+    $1 ~ chains { print 3, $1, "chain " substr($1, 2) }' "${1:--}" | sort -s -k1,2 | cut -d ' ' -f 3-
+}
+
+# Whether two texts agree in what a load replaces.
+is_same_text() { [ "$(printf '%s\n' "$1" | essence)" = "$(printf '%s\n' "$2" | essence)" ]; }
+
+# Whether two files agree in what a load replaces.
+is_same() { [ "$(essence "$1")" = "$(essence "$2")" ]; }
+
+# Whether two files agree in what a load replaces, apart from what --log adds.
+is_alike() { [ "$(without_logs "$1" | essence)" = "$(without_logs "$2" | essence)" ]; }
+
+# Prints a file without what --log adds.
+without_logs() { grep -Ev "$log" "$1"; }
+
+# Whether a text has all policies, rules and chains of a second one, in this order. Other tools may have added rules.
+has_all() {
+  awk 'FNR == NR { wanted[++count] = $0; next } $0 == wanted[found + 1] { found++ } END { exit found != count }' \
+    <(printf '%s\n' "$2" | essence) <(printf '%s\n' "$1" | essence)
+}
+
+# Prints the rules of a file that topos writes, without those of other tools in the same chains.
+written() { grep -E -e "$entry" -e "$rule" "$1" | sort -s -k2,2; }
+
+# Whether a file has rules that lead to a chain of topos.
+is_loaded() { grep -qE "$jump" "$1"; }
+
+# Whether a file is a complete rules file in the form of topos.
+is_written() {
+  awk -v entries="$entries" -v chains="$chains" -v entry="$entry" -v rule="$rule" '
+    $0 == "*filter" && NR == 1 { next }
+    ended { bad = 1 }
+    $0 ~ "^:(" entries ") DROP \\[0:0\\]$" { closed[$1]; next }
+    /^:(INPUT|OUTPUT) ACCEPT \[0:0\]$/ && entries == "FORWARD" { next }
+    $0 ~ "^:(" chains ") - \\[0:0\\]$" || $0 ~ entry || $0 ~ rule { next }
+    $0 == "COMMIT" { ended = 1; next }
+    { bad = 1 }
+    END {
+      for (each in closed) count++
+      exit bad || !ended || count != split(entries, _, "|")
+    }' "$1"
+}
+
+# Prints a file with a logging rule before each rule that drops, and one at the end of FORWARD if packets reach it. A name
+# that is too long for the kernel is replaced by the chain.
+with_logs() {
+  awk -v limited="$limited" -v wall="$wall" '
+    function logged(line, label) {
+      if (label == "" || length(label) > 21) label = chain
+      return line limited " \"topos " label ": \""
+    }
+    FILENAME == ARGV[1] { name[$1] = $2; next }
+    { chain = $2 }
+    /^-A FORWARD -j / { closed = 1 }
+    $0 == "COMMIT" && wall == "firewall" && !closed { chain = "FORWARD"; print logged("-A FORWARD ") }
+    /^-A .* -j DROP$/ { line = $0; sub(/-j DROP$/, "", line); print logged(line, name[chain]) }
+    { print }' <(host_names) "$1"
+}
+
+# Prints the text that changes the entries and the chains of topos from those of the first text, which the table has, to
+# those of the second one. On the way back, the third argument, chains of other tools that are gone are created empty. If a
+# step fails, COMMIT is missing, and nothing is loaded.
+change() {
+  local stale gone='' each
+  stale=$(comm -23 <(our_chains "$1") <(our_chains "$2")) || return 1
+  if [ "${3:-}" = back ]; then gone=$(gone_chains "$1" "$2"); fi
+  echo '*filter'
+  printf '%s\n' "$2" | sed -nE "s/^:(($entries) [A-Z]+).*/:\1 [0:0]/p; s/^:($chains) .*/:\1 - [0:0]/p" || return 1
+  for each in $gone; do echo ":$each - [0:0]"; done
+  removals "$1" || return 1
+  for each in $stale; do echo "-F $each"; done
+  for each in $stale; do echo "-X $each"; done
+  our_rules "$2" && echo COMMIT
+}
+
+# Prints what removes the rules of a text from the entries: each alone, so that a rule that another tool adds meanwhile stays.
+# iptables finds some rules of other tools only with `flush`, which removes all.
+removals() {
+  local each
+  if [ -z "$flush" ]; then printf '%s\n' "$1" | sed -nE "s/^-A (($entries) )/-D \1/p"
+  else for each in ${entries//|/ }; do echo "-F $each"; done
+  fi
+}
+
+# Prints the chains of other tools that rules of the second text lead to, and that the first text does not have.
+gone_chains() {
+  our_rules "$2" | sed -nE 's/.* -[jg] ([^ ]+)( .*)?$/\1/p' | sort -u | while read -r each; do
+    if [[ $each =~ ^($chains)$ ]] || [[ $'\n'$1 == *$'\n':$each\ * ]]; then continue; fi
+    if [[ $'\n'$2 == *$'\n':$each\ -* ]]; then echo "$each"; fi
+  done
+}
+
+# Prints the text that removes the rules from the entries and accepts everything.
+write_open() {
+  local each
+  echo '*filter'
+  for each in ${entries//|/ }; do printf ':%s ACCEPT [0:0]\n-F %s\n' "$each" "$each"; done
+  echo COMMIT
+}
+
+# Prints the chains and rules that forwarded packets can meet, as a text: FORWARD and the chains that it leads to.
+forwarding_rules() {
+  echo '*filter'
+  grep '^:' "$1"
+  awk "$closure"'
+    /^-A / { rule[++count] = $0; chain[count] = $2; take_jumps() }
+    END {
+      reached["FORWARD"]
+      reach()
+      for (each = 1; each <= count; each++) if (chain[each] in reached) print rule[each]
+    }' "$1"
+  echo COMMIT
+}
+
+# Prints the user chains of a file that no rule leads to from the built-in chains, except those in the first argument.
+unused_chains() {
+  awk -v replaced="^($1)$" "$closure"'
+    /^:/ && $2 == "-" { name[++chains] = substr($1, 2); next }
+    /^:/ { if (substr($1, 2) !~ replaced) reached[substr($1, 2)]; next }
+    $1 == "-A" { take_jumps() }
+    END {
+      reach()
+      for (each = 1; each <= chains; each++) if (!(name[each] in reached)) print name[each]
+    }' "$2" | sort
+}
+
+# Prints the chains of other tools that no rule leads to after a load.
+unused_others() { unused_chains "$entries" "$1" | grep -Evx -e "$chains"; }
+
+# Prints the chains of topos that no rule leads to and that have only rules in the form of topos, and the chain in which
+# rules are tried.
+idle_chains() {
+  awk -v ours="^($chains|topos-try)$" -v rule="$rule" -v logs="$log" '
+    /^:/ && $2 == "-" && substr($1, 2) ~ ours { chain[substr($1, 2)]; next }
+    $1 == "-A" && $2 != "topos-try" {
+      if ($2 in chain && $0 !~ rule && $0 !~ logs) delete chain[$2]
+      for (word = 3; word < NF; word++) if ($word ~ /^-[jg]$/) delete chain[$(word + 1)]
+    }
+    END { for (each in chain) print each }' "$1" | sort -V
+}
+
+# Prints the text that removes chains. The kernel rejects it as a whole if a rule leads to one of them by then.
+write_removal() {
+  echo '*filter'
+  printf '%s\n' "$1" | sed 's/^/-F /'
+  printf '%s\n' "$1" | sed 's/^/-X /'
+  echo COMMIT
+}
+
+# Prints how the lines of two files differ, in order: - only in the first, + only in the second, ~ elsewhere in the second.
+line_changes() {
+  diff "$1" "$2" | awk '
+    /^[<>] / {
+      sign[++count] = $1; line[count] = substr($0, 3)
+      if ($1 == "<") gone[line[count]]++; else come[line[count]]++
+    }
+    END {
+      for (each = 1; each <= count; each++) {
+        words = line[each]
+        moved = gone[words] < come[words] ? gone[words] : come[words]
+        if (sign[each] == ">") print ++shown[words] <= moved ? "~" : "+", words
+        else if (++left[words] > moved) print "-", words
+      }
+    }'
+}
+
+part=rules # a truncated file lacks this line

@@ -1,0 +1,160 @@
+# shellcheck shell=bash disable=SC2034,SC2154
+# The rules that are asked for: those of a description, or a rules file.
+
+# Writes the rules into a file, which `wanted` names. Of a description the policy and a copy are beside it.
+write_rules() {
+  wanted=$1
+  write_text "$1"
+  if ! is_loaded "$1"; then refuse 'these rules name no host: nothing is changed'; fi
+  if [ -n "$local" ]; then look_at_addresses "$1"; fi
+}
+
+# Copies a rules file, or lets topos write the rules of a description.
+write_text() {
+  if [ "$from" = text ]; then
+    cat -- "$file" >"$1" || refuse "cannot read $file: nothing is changed"
+    if ! is_written "$1"; then refuse "$file is not a complete rules file written by topos: nothing is changed"; fi
+    : >"$1.policy" || refuse "cannot write $1.policy: nothing is changed"
+    return
+  fi
+  find_program
+  copy_description "$1.description"
+  if [ -z "$every_flow" ] && ! grep -qE "^[[:space:]]*[\"']?flow[\"']?[[:space:]]*=" "$1.description"; then
+    refuse "$file has no key flow, which requests every flow: add flow = [..], or use --every-flow"
+  fi
+  if [ -n "$local" ]; then run_program "$1" local "$1.description" "$host"
+  elif [ -n "$repair" ]; then run_program "$1" repair iptables "$1.description"
+  else run_program "$1" rules iptables "$1.description"
+  fi
+  if ! is_written "$1"; then refuse "$program did not write valid rules: nothing is changed"; fi
+  "$program" policy "$1.description" >"$1.policy" || refuse 'cannot determine the policy: nothing is changed'
+}
+
+# Runs the program with its output in a file, the first argument. If it fails, ends with its status.
+run_program() {
+  local status=0
+  "$program" "${@:2}" >"$1" || status=$?
+  if [ "$status" = 0 ]; then return; fi
+  say 'topos wrote no rules: nothing is changed'
+  exit "$status"
+}
+
+# Copies the description once, so that the rules, the policy and the notes are of one text, even if the file changes.
+copy_description() {
+  if [ -e "$file" ] && [ ! -f "$file" ]; then refuse "$file is not a regular file: nothing is changed"; fi
+  if [ ! -r "$file" ]; then run_program /dev/stdout check "$file"; fi
+  head -c 100000000 -- "$file" >"$1" || refuse "cannot copy $file to $1: nothing is changed"
+  note_writers "$file"
+}
+
+# Names a file or its folder if a user other than root may change it.
+note_writers() {
+  local each mode owner
+  for each in "$(readlink -f "$1")" "$(dirname "$(readlink -f "$1")")"; do
+    read -r mode owner < <(stat -c '%A %u' "$each")
+    if [ "$owner" != 0 ]; then note "$each is owned by a user other than root, who can change the loaded rules"
+    elif [[ $mode == ?????w???? || $mode == ????????w[^tT] ]]; then
+      note "$each is writable by users other than root, who can change the loaded rules"
+    fi
+  done
+}
+
+# Prints the chains and their hosts, a line `H0 web` each; only a description has names.
+host_names() { awk '!seen[$1]++ { print "H" count++, $1 }' "$wanted.policy"; }
+
+# Prints the file with the rules of a firewall for the description, also on the machine of a host.
+of_box() { if [ -n "$local" ]; then echo "$wanted.others"; else echo "$wanted"; fi; }
+
+# Replaces the first two words of each line, which are addresses, by the names of their hosts.
+named() {
+  awk "$ranges"'
+    BEGIN { rest = "everybody-else" }
+    FNR == 1 { input++ }
+    input == 1 { called[$1] = $2; next }
+    input == 2 {
+      if (/^-A FORWARD -j H/) rest = called[$4]
+      if (/^-A FORWARD -s /) { from[++count] = lowest($4); to[count] = highest($4); whose[count] = called[$6] }
+      next
+    }
+    function owner(address, number, each) {
+      if (address in name) return name[address]
+      number = lowest(address)
+      for (each = 1; each <= count; each++)
+        if (from[each] <= number && number <= to[each]) return name[address] = whose[each]
+      return name[address] = rest
+    }
+    { $1 = owner($1); $2 = owner($2); print }' <(host_names) "$(of_box)" -
+}
+
+# Prints whose the addresses of this machine are: a line `WHO ADDRESS (INTERFACE)` for each except those of the loopback.
+# WHO is `own` by the first file, the rules of a host; by the second one, the rules of a firewall for the same network,
+# `other` or, if the rest host has the address, `rest`; else `nobody`.
+place_addresses() {
+  ip -4 -o address show | awk "$ranges"'
+    function is_among(from, to, count, address, each) {
+      for (each = 1; each <= count; each++) if (from[each] <= address && address <= to[each]) return 1
+      return 0
+    }
+    /^-A INPUT -d / { own_from[++owned] = lowest($4); own_to[owned] = highest($4) }
+    /^-A FORWARD -s / { from[++count] = lowest($4); to[count] = highest($4) }
+    /^-A FORWARD -j / { rest = 1 }
+    $3 == "inet" && $4 !~ /^127\./ {
+      sub("/.*", "", $4)
+      address = lowest($4)
+      if (is_among(own_from, own_to, owned, address)) who = "own"
+      else if (is_among(from, to, count, address)) who = "other"
+      else who = rest ? "rest" : "nobody"
+      print who, $4, "(" $2 ")"
+    }' "$1" "$2" -
+}
+
+# Refuses if no address of this machine is the host's, or if one is another host's.
+look_at_addresses() {
+  local placed found others=/dev/null
+  if [ "$from" = description ]; then
+    others=$1.others
+    "$program" repair iptables "$1.description" >"$others" || refuse 'cannot determine the addresses of the other hosts: nothing is changed'
+  fi
+  placed=$(place_addresses "$1" "$others")
+  if ! grep -q '^own ' <<<"$placed"; then
+    say "this machine has no address of ${host:-the host of these rules}: nothing is changed"
+    exit 72
+  fi
+  found=$(those_of 'other|rest' "$placed")
+  if [ -n "$found" ]; then refuse "these addresses of this machine belong to another host:$found: nothing is changed"; fi
+  found=$(those_of nobody "$placed")
+  if [ -z "$found" ]; then :
+  elif [ "$from" = text ]; then
+    note "packets from and to these addresses are dropped; they belong to another host or to none:$found"
+  else note "packets from and to these addresses, which belong to no host, are dropped:$found"
+  fi
+}
+
+# Prints the addresses of an owner, after a space each.
+those_of() { sed -nE "s/^($1) (.*)/ \2/p" <<<"$2" | tr -d '\n'; }
+
+# Refuses if the chains that are changed, or chains with the names of topos, are those of another tool.
+refuse_foreign() {
+  local others
+  others=$(
+    grep -E "^-A ($chains) " "$1" | grep -Ev -e "$rule" -e "$log"
+    grep -E "^-A .* -[jg] ($chains)( |$)" "$1" | grep -Ev "$entry"
+  )
+  if [ -n "$others" ]; then
+    say "$named have rules, or jumps to them, that topos does not write: nothing is changed. These commands remove the rules:"
+    printf '%s\n' "$others" | sed "s/^-A /${save%-save} -D /" >&2
+    if grep -q ' -j LOG' <<<"$others"; then say 'use --log to log dropped packets'; fi
+    exit 69
+  fi
+  others=$(grep -E "^-A ($entries) " "$1" | grep -Ev -e "$entry" -e "$log")
+  if [ -n "$others" ] && [ -z "$replace" ]; then
+    some_lines <<<"$others" >&2
+    if [ -n "$local" ] && grep -qE '^-A FORWARD .*-j H[0-9]+$' <<<"$others"; then
+      say 'these are the rules of a firewall: topos-load --remove removes them'
+    fi
+    say "these rules of $changed are not rules $whose, so the proof does not cover this $wall:"
+    refuse "nothing is changed; $replacing removes them"
+  fi
+}
+
+part=wanted # a truncated file lacks this line
