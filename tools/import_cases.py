@@ -4,6 +4,8 @@ from typing import NamedTuple
 BOTH, DOUBT, NONE = 'both', 'doubt', 'none'  # both bounds forward the packet, upper alone does, none does
 ROUTES = ('default via 192.0.2.1 dev eth0 proto static\n10.0.0.0/8 via 10.1.0.1 dev eth1\n'
           '10.1.0.0/24 dev eth2 proto kernel scope link\nblackhole 192.168.0.0/16\n')
+TABLES = ROUTES + ('local 10.1.0.7 dev eth2 table local proto kernel scope host src 10.1.0.7\n'
+                   'broadcast 10.2.0.7 dev eth1 table local\ndefault via 192.0.2.9 dev eth9 table 100\n')
 SETS = ('create a hash:net family inet hashsize 1024 maxelem 65536\nadd a 10.0.0.0/8\nadd a 10.1.0.0/16 nomatch\n'
         'add a 10.1.0.7\ncreate t hash:ip timeout 60\nadd t 10.1.0.7 timeout 5\ncreate p hash:ip,port\n'
         'add p 10.1.0.7,tcp:80\ncreate m hash:ip family inet netmask 24\nadd m 10.1.0.0\n'
@@ -12,6 +14,9 @@ SETS = ('create a hash:net family inet hashsize 1024 maxelem 65536\nadd a 10.0.0
 A, B, C = '10.1.0.7 8.8.8.8 tcp 1 80', '10.2.0.7 8.8.8.8 tcp 1 80', '8.8.8.8 10.1.0.7 tcp 1 80'
 SSH, DNS, HIGH = '10.1.0.7 8.8.8.8 tcp 1 22', '10.1.0.7 8.8.8.8 udp 1 53', '10.1.0.7 8.8.8.8 tcp 80 1'
 PING, ESP, OTHER = '10.1.0.7 8.8.8.8 icmp 0 0', '10.1.0.7 8.8.8.8 50 0 0', '8.1.1.1 2.2.2.2 icmp 0 0'
+NAT = ('\nCOMMIT\n*nat\n-A PREROUTING -p tcp -j DNAT --to-destination 10.1.0.3-10.1.0.7:80\n'
+       '-A PREROUTING -j NETMAP --to 10.9.0.0/24')
+CAST = '10.1.0.7 224.0.0.9 udp 1 53'
 LATER = f'{A};8.8.8.8 10.1.0.7 tcp 80 1'  # the verdict on the last packet counts
 LIMIT = '-m limit --limit 1/s'
 NOT_SYN = '-A FORWARD -p tcp -m state --state NEW -m tcp ! --tcp-flags FIN,SYN,RST,ACK SYN'
@@ -97,10 +102,34 @@ CASES = (
     Case('-A FORWARD -m conntrack --ctstate INVALID -j ACCEPT', {A: NONE}),
     Case('-A FORWARD -m conntrack ! --ctstate NEW -j DROP\n-A FORWARD -j ACCEPT', {A: BOTH, LATER: NONE}),
     Case('-A FORWARD -m conntrack --ctstate DNAT -j ACCEPT', {A: DOUBT}),
+    Case(f'-A FORWARD -m conntrack --ctstate DNAT -j ACCEPT{NAT}',
+         {A: NONE, C: DOUBT, '8.8.8.8 10.1.0.9 udp 1 1': NONE}),
+    Case(f'-A FORWARD -m conntrack --ctstate DNAT,SNAT -j ACCEPT{NAT}', {A: DOUBT}),
+    Case(f'-A FORWARD -m conntrack ! --ctstate DNAT -j ACCEPT{NAT}', {A: DOUBT}),
+    Case(f'-A FORWARD -i eth7 -m state --state NEW,DNAT -j ACCEPT{NAT}', {A: DOUBT}),
+    Case(f'-A FORWARD -m conntrack --ctstate DNAT -j ACCEPT{NAT}\n-A PREROUTING -j DNAT --to-destination :80',
+         {A: DOUBT}),
+    Case(f'-A FORWARD -m state --state ESTABLISHED -j RETURN\n-A FORWARD -m state --state DNAT -j DROP\n'
+         f'-A FORWARD -j ACCEPT{NAT}', {C: DOUBT, A: BOTH}),
+    Case(f'-A FORWARD -m state --state NEW -j ACCEPT\n-A FORWARD -m state --state DNAT -j ACCEPT{NAT}',
+         {f'{C};10.1.0.7 8.8.8.8 tcp 80 1': DOUBT, f'{B};8.8.8.8 10.2.0.7 tcp 80 1': NONE}),
     Case('-A FORWARD -m conntrack --ctstate NEW --ctdir ORIGINAL -j ACCEPT', {A: DOUBT}),
     Case('-A FORWARD -m conntrack --ctstate NEW -j ACCEPT\nCOMMIT\n*raw\n-A PREROUTING -p udp -j NOTRACK',
          {A: DOUBT, LATER: DOUBT}),
     Case('-A FORWARD -f -j ACCEPT', {A: DOUBT}),
+    Case('-A FORWARD -o old -j ACCEPT', {A: NONE}, ROUTES + 'old none\n'),
+    Case('-A FORWARD ! -o old -j ACCEPT', {A: BOTH}, ROUTES + 'old none\n'),
+    Case('-A FORWARD -m addrtype --dst-type BROADCAST -j DROP\n-A FORWARD -j ACCEPT', {A: BOTH, CAST: BOTH}),
+    Case('-A FORWARD -m addrtype --dst-type UNICAST -j ACCEPT', {A: BOTH, CAST: NONE}),
+    Case('-A FORWARD -m addrtype ! --dst-type UNICAST -j ACCEPT', {A: NONE, CAST: BOTH}),
+    Case('-A FORWARD -m addrtype --src-type BROADCAST -j DROP\n-A FORWARD -j ACCEPT',
+         {A: BOTH, '224.1.1.1 1.1.1.1 6 1 1': BOTH}),
+    Case('-A FORWARD -m addrtype --src-type MULTICAST,LOCAL -j ACCEPT', {A: NONE, '224.1.1.1 1.1.1.1 6 1 1': BOTH}),
+    Case('-A FORWARD -m addrtype ! --src-type LOCAL --dst-type UNICAST -j ACCEPT', {A: BOTH, CAST: NONE}),
+    Case('-A FORWARD -m addrtype --src-type UNICAST --limit-iface-in -j ACCEPT', {A: DOUBT, B: DOUBT}),
+    Case('-A FORWARD -i eth2 -j ACCEPT', {A: BOTH, B: NONE}, TABLES),
+    Case('-A FORWARD -p tcp -m tcp --tcp-flags FIN,SYN,PSH FIN,PSH -j DROP\n-A FORWARD -j ACCEPT', {A: BOTH}, syn=True),
+    Case('-A FORWARD -p tcp -m tcp --tcp-flags SYN,PSH SYN,PSH -j DROP\n-A FORWARD -j ACCEPT', {A: DOUBT}, syn=True),
     Case(f'-A FORWARD -i eth0 ! -o eth0 -p tcp -m multiport --dports 22,80 {LIMIT} -j c\n'
          '-A c ! -s 8.8.0.0/16 -j DROP\n-A c -m multiport -p tcp --sports 1:5,7 -j ACCEPT',
          {A: NONE, C: DOUBT, B: NONE}, ROUTES),
@@ -115,6 +144,9 @@ ACCEPTING = (  # whether every established packet is seen to be accepted
     (f'-A FORWARD {LIMIT} {EST} -j ACCEPT', False), (f'-A FORWARD -j c\n-A c -j LOG\n-A c {EST} -j ACCEPT', True),
     (f'-A FORWARD -p tcp -j c\n-A c {EST} -j ACCEPT', False), (f'-A FORWARD {LIMIT} -j c\n-A c {EST} -j ACCEPT', False),
     (f'-A FORWARD -j c\n-A c -p tcp -j RETURN\n-A c {EST} -j ACCEPT', False),
+    (f'-A FORWARD -j c\n-A FORWARD {EST} -j ACCEPT\n-A c -p tcp -j RETURN\n-A c -j ACCEPT', True),
+    (f'-A FORWARD -j c\n-A FORWARD {EST} -j ACCEPT\n-A c -p tcp -j RETURN\n-A c -j DROP', False),
+    (f'-A FORWARD -p tcp -j RETURN\n-A FORWARD {EST} -j ACCEPT', False),
     (f'-A FORWARD -p tcp -j c\n-A FORWARD {EST} -j ACCEPT\n-A c -p tcp -j ACCEPT', True),
     (f'-A FORWARD -p tcp -j c\n-A FORWARD {EST} -j ACCEPT\n-A c -p tcp -j DROP', False),
     (f'-A FORWARD -j NFQUEUE\n-A FORWARD {EST} -j ACCEPT', False))
@@ -135,7 +167,7 @@ REFUSED = (
         ('-A FORWARD ! -p all -j DROP', 'all protocols'), ('-A FORWARD -p tcp --dport 65536', 'a wrong value'),
         ('-A FORWARD -p tcp --dport 80:22', 'a wrong value'), ('-A FORWARD -p tcp --dport \u0661', 'a wrong value'),
         ('-A FORWARD -m conntrack --ctstate OPEN -j DROP', 'a wrong value'),
-        ('-A FORWARD -m icmp --icmp-type 256', 'wrong'),
+        ('-A FORWARD -m icmp --icmp-type 256', 'wrong'), ('-A FORWARD -m addrtype --src-type HOME', 'a wrong value'),
         ('-A FORWARD -m iprange --src-range 10.0.0.2-10.0.0.1', 'a wrong value'), ('-A FORWARD -g x', 'no user chain'),
         ('-A FORWARD -j INPUT', 'no user chain'), ('-A FORWARD -jACCEPT', 'no option'),
         ('-A FORWARD --jump=ACCEPT', 'no option'),
@@ -146,6 +178,7 @@ REFUSED = (
         (':d - [0:0]\n-A FORWARD -j c\n-A c -j d\n-A d -g c', 'cycle'),
         (f'-A FORWARD -j c\n-A c -p tcp -m multiport --ports {ODD} -m iprange --src-range 1.0.0.1-223.255.255.254'
          ' -m iprange --dst-range 1.0.0.1-223.255.255.254 -j RETURN', 'would be written'))))
+BAD_SETS = ('eth0 rest', '"" x', 'flush a')
 BAD_TABLES = ('eth0', 'eth0 10.0.0.0/33', 'eth0 x', 'default dev', 'eth0 rest\neth1 rest',
               'eth0 10.0.0.0/8\neth1 10.0.0.0/8')
 
@@ -196,5 +229,14 @@ WRONG = (
     ('a changed set is sure', 'save', 'if name not in changed}', '}'),
     ('untracked packets have a state', 'save', 'any(NOT_TRACKED.search(each.text) for each in self.others)', 'False'),
     ('ports of SCTP are forgotten', 'options', "self.doubt(f'{option} {word}')\n            return", 'return'),
-    ('a flag of a later packet is decided', 'options', 'or masked - DECIDED_FLAGS:', 'and masked - DECIDED_FLAGS:'),
+    ('a flag of a later packet is decided', 'options',
+     'or may_match and masked - DECIDED_FLAGS:', 'and masked - DECIDED_FLAGS:'),
+    ('another flag keeps a first packet from matching', 'options', 'wanted & DECIDED_FLAGS', 'wanted'),
+    ('the type of a sender is that of a receiver', 'options', "read_address_type('sources')",
+     "read_address_type('destinations')"),
+    ('the answers of written receivers are forgotten', 'options',
+     "self.pieces += restricted(in_states(before, unsure & {ESTABLISHED}), 'sources', receivers)", 'pass'),
+    ('a rule of nat that is not read writes no receiver', 'nat', 'return ALL_ADDRESSES', 'return ()'),
+    ('without the table nat no receiver is written', 'save', "if 'nat' in tables.names else ALL_ADDRESSES", ''),
+    ('a multicast address is UNICAST', 'types', 'complement(MULTICAST, MOST_ADDRESS)', 'complement((), MOST_ADDRESS)'),
 )

@@ -7,6 +7,7 @@ import ctypes
 import importlib.util
 import os
 import select
+import shutil
 import struct
 import subprocess
 from types import ModuleType
@@ -63,6 +64,13 @@ class Kernel:
         for name, value in settings.items():
             with open(f'/proc/sys/net/{name}', 'w', encoding='ascii') as file:
                 file.write(value)
+
+    def add_sets(self, text: str) -> bool:
+        """Adds the sets that `ipset save` printed. Returns whether the tool is here."""
+        if not shutil.which('ipset'):
+            return False
+        subprocess.run(['ipset', 'restore'], input=text, text=True, check=True)
+        return True
 
     def load(self, back_end: str, text: str) -> str | None:
         """Loads a text and forgets all connections. Returns what is saved, or None if the back end refuses the text."""

@@ -9,13 +9,16 @@ INTERFACES = 't0 rest\nt1 10.1.0.0/16\nt2 10.2.0.0/16\nt3 10.3.0.0/24 10.3.1.0/2
 DEVICES = ('t0', 't1', 't2', 't3', 't+')
 NETWORKS = (
     '10.1.0.0/16', '10.1.4.0/24', '10.1.4.8/30', '10.2.0.0/16', '10.2.128.0/17', '10.2.7.7/32', '10.3.0.0/24',
-    '10.3.0.0/23', '10.0.0.0/8', '198.51.100.0/24', '198.51.100.64/26', '172.20.0.0/16', '10.3.1.9/32', '10.1.0.0/28')
+    '10.3.0.0/23', '10.0.0.0/8', '198.51.100.0/24', '198.51.100.64/26', '172.20.0.0/16',
+    '10.3.1.9/32', '10.1.0.0/28')
 PORTS = (22, 53, 80, 443, 1024, 5000, 8080, 65535)
 STATES = ('NEW', 'ESTABLISHED', 'RELATED,ESTABLISHED', 'NEW,ESTABLISHED', 'INVALID', 'NEW,RELATED')
 DOUBTS = (
     '-m limit --limit 1/hour --limit-burst 3', '-m statistic --mode random --probability 0.5',
     '-m length --length 0:30', '-m ttl --ttl-gt 60', '-m mark --mark 0x1', '-m mark ! --mark 0x1',
     '-m statistic --mode nth --every 2 --packet 0')
+TYPES = ('--src-type BROADCAST', '! --src-type BROADCAST', '--src-type UNICAST,LOCAL', '--dst-type MULTICAST',
+         '! --dst-type UNICAST', '--src-type UNICAST --dst-type UNICAST')
 FLAGS = ('-m tcp --tcp-flags FIN,SYN,RST,ACK SYN', '-m tcp ! --tcp-flags FIN,SYN,RST,ACK SYN')
 ICMP = ('8', '! 8', '3', '13', '0', '! 3', '! 0')
 TARGETS = ('ACCEPT',) * 3 + ('DROP', 'DROP', 'REJECT', 'RETURN', 'RETURN', 'LOG', '') + ('chain',) * 4
@@ -66,6 +69,8 @@ class Chance(random.Random):
             words.append(self.port_match(protocol))
         if self.random() < 0.12:
             words.append(f'-m iprange {self.sign()}--{self.choice(("src", "dst"))}-range {self.range()}')
+        if self.random() < 0.1:
+            words.append(f'-m addrtype {self.choice(TYPES)}')
         if self.random() < 0.2:
             words.append(f'-m conntrack {self.sign()}--ctstate {self.choice(STATES)}')
         if self.random() < doubts:

@@ -5,6 +5,7 @@ from dataclasses import dataclass, field
 from .import_pieces import BOTH, ESTABLISHED, NEW, Action, Piece, Rule, in_doubt, in_states, restricted
 from .import_sets import ALL_ADDRESSES, MOST_ADDRESS, MOST_PORT, MOST_PROTOCOL, Numbers, complement, single
 from .import_tables import Interfaces
+from .import_types import addresses_of_types
 from .import_words import PROTOCOLS, Refused, Word, address_range, addresses, decimal, ports, protocol
 
 SPELLINGS = {
@@ -12,7 +13,7 @@ SPELLINGS = {
     '--out-interface': '-o', '--protocol': '-p', '--proto': '-p', '--match': '-m', '--jump': '-j', '--goto': '-g',
     '--fragment': '-f', '--source-port': '--sport', '--destination-port': '--dport', '--source-ports': '--sports',
     '--destination-ports': '--dports', '--set-counters': '-c', '--append': '-A'}
-KNOWN_MODULES = {'icmp', 'tcp', 'udp', 'conntrack', 'state', 'comment', 'multiport', 'iprange', 'set'}
+KNOWN_MODULES = {'addrtype', 'icmp', 'tcp', 'udp', 'conntrack', 'state', 'comment', 'multiport', 'iprange', 'set'}
 VERDICTS = {'ACCEPT': Action.ACCEPT, 'DROP': Action.DROP, 'REJECT': Action.DROP, 'RETURN': Action.RETURN}
 CONTINUING = set('''
     LOG NFLOG ULOG MARK CONNMARK SECMARK CONNSECMARK TCPMSS CLASSIFY DSCP TOS TTL SET TRACE CT NOTRACK AUDIT CHECKSUM
@@ -38,6 +39,7 @@ class Context:
     chains: set[str]
     interfaces: Interfaces | None = None
     sets: dict[str, Numbers] = field(default_factory=dict)
+    receivers: Numbers = ALL_ADDRESSES  # that the table nat may write
     is_untracked: bool = False  # whether the save exempts packets from connection tracking
     is_syn_first: bool = False  # whether a new TCP packet has SYN alone of FIN, SYN, RST and ACK
 
@@ -218,13 +220,19 @@ class RuleReader:
             matching, unsure = frozenset(), BOTH
         if self.is_negated:
             matching = BOTH - matching - unsure
-        self.split_states(matching, unsure, f'state {word}')
-        if not self.pieces:
+        before = self.pieces
+        is_written = not (self.is_negated or self.context.is_untracked or 'SNAT' in names)
+        self.split_states(matching, unsure, f'state {word}', self.context.receivers if is_written else ALL_ADDRESSES)
+        if before and not self.pieces:
             self.rule.never = f'state {word}: no new or established packet'
 
-    def split_states(self, matching: frozenset[str], unsure: frozenset[str], reason: str) -> None:
+    def split_states(self, matching: frozenset[str], unsure: frozenset[str], reason: str,
+                     receivers: Numbers = ALL_ADDRESSES) -> None:
+        """Keeps the packets in some states, and those in others in doubt, of connections to the receivers."""
         before = self.pieces
-        self.pieces = in_states(before, unsure)
+        self.pieces = restricted(in_states(before, unsure), 'destinations', receivers)
+        if receivers != ALL_ADDRESSES:
+            self.pieces += restricted(in_states(before, unsure & {ESTABLISHED}), 'sources', receivers)
         self.doubt(reason)
         self.pieces = in_states(before, matching) + self.pieces
 
@@ -239,10 +247,17 @@ class RuleReader:
         if number is None:
             self.doubt(f'icmp-type {word}')
             return
+        before = self.pieces
         unsure = BOTH if number in ICMP_QUERIES else frozenset({ESTABLISHED} if number in ICMP_REPLIES else ())
         self.split_states(BOTH - unsure if self.is_negated else frozenset(), unsure, f'icmp-type {word}')
-        if not self.pieces:
+        if before and not self.pieces:
             self.rule.never = f'icmp-type {word}: related or invalid, no new or established packet'
+
+    def read_address_type(self, dimension: str) -> None:
+        word, before = self.value(), self.pieces
+        self.restrict(dimension, addresses_of_types(word), MOST_ADDRESS)
+        if before and not self.pieces:
+            self.rule.never = f'type {word}: no forwarded packet has such an address'
 
     def read_flags(self) -> None:
         mask = self.value()
@@ -251,10 +266,11 @@ class RuleReader:
     def match_flags(self, mask: str, flags: str) -> None:
         masked, wanted = (ALL_FLAGS if word == 'ALL' else set(word.split(',')) - {'NONE'} for word in (mask, flags))
         reason = f'tcp-flags {mask} {flags}'
-        if not self.context.is_syn_first or masked - DECIDED_FLAGS:
+        may_match = masked & {'SYN'} == wanted & DECIDED_FLAGS
+        if not self.context.is_syn_first or may_match and masked - DECIDED_FLAGS:
             self.doubt(reason)
             return
-        is_matched = (masked & {'SYN'} == wanted) is not self.is_negated
+        is_matched = may_match is not self.is_negated
         self.split_states(frozenset({NEW} if is_matched else ()), frozenset({ESTABLISHED}), reason)
 
     def read_comment(self) -> None:
@@ -291,6 +307,8 @@ READERS: dict[str, Callable[[RuleReader], None]] = {
     '--src-range': lambda reader: reader.read_range('sources'),
     '--dst-range': lambda reader: reader.read_range('destinations'),
     '--match-set': RuleReader.read_set,
+    '--src-type': lambda reader: reader.read_address_type('sources'),
+    '--dst-type': lambda reader: reader.read_address_type('destinations'),
     '--tcp-flags': RuleReader.read_flags,
     '--syn': lambda reader: reader.match_flags('FIN,SYN,RST,ACK', 'SYN'),
     '--reject-with': lambda reader: reader.skip(1)}

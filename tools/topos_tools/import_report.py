@@ -3,6 +3,7 @@ from collections.abc import Iterator
 
 from .import_pieces import Action, Piece, Rule
 from .import_save import OtherRule, Save
+from .import_tables import NONE
 
 IN_DOUBT = {
     Action.ACCEPT: 'taken in upper, left out in lower', Action.DROP: 'left out in upper, taken in lower',
@@ -26,9 +27,9 @@ def report(save: Save, name: str) -> list[str]:
     exact = len(rules) - len(idle) - len(never) - len(doubtful)
     return [f'{name}: rules that FORWARD leads to: exact {exact}, in doubt {len(doubtful)}, never {len(never)}, '
             f'without effect {len(idle)}',
-            *left_lines(save), *doubtful_lines(doubtful), *never_lines(never), *idle_lines(idle),
-            *related_lines(rules), *shadowed_lines(save), *other_lines(save), *save.notes,
-            *list_lines(save)]
+            *left_lines(save), *doubtful_lines(save, doubtful), *never_lines(never), *idle_lines(idle),
+            *related_lines(rules), *type_lines(rules), *shadowed_lines(save), *other_lines(save), *save.notes,
+            *route_lines(save), *list_lines(save)]
 
 
 def shown(rule: Rule) -> str:
@@ -46,14 +47,23 @@ def left_lines(save: Save) -> Iterator[str]:
         yield f'not read, FORWARD does not lead there: {counts}'
 
 
-def doubtful_lines(rules: list[Rule]) -> Iterator[str]:
+def doubtful_lines(save: Save, rules: list[Rule]) -> Iterator[str]:
     for rule in rules:
         taken = IN_DOUBT.get(rule.action, 'both are possible')
         yield f'in doubt: line {rule.line}: {", ".join(rule.doubts())}: {taken}: {shown(rule)}'
+    yield from remedies(save, rules)
+
+
+def remedies(save: Save, rules: list[Rule]) -> Iterator[str]:
+    """Yields lines on the files that would decide what is in doubt."""
     doubts = {doubt.removeprefix('! ') for rule in rules for doubt in rule.doubts()}
-    unknown = sorted(doubt for doubt in doubts if doubt.startswith('interface '))
+    unknown = sorted(doubt.split()[1] for doubt in doubts if doubt.startswith('interface '))
     if unknown:
-        yield f'{", ".join(unknown)}: not in the table of interfaces (--interfaces)'
+        yield (f'not in the table of interfaces (--interfaces): {" ".join(unknown)}; a line `{unknown[0]} {NONE}` is '
+               'for one that is gone')
+    sets = sorted({doubt.split()[1] for doubt in doubts if doubt.startswith('set ')})
+    if sets and not save.context.sets:
+        yield f'sets without --sets (the output of `ipset save`): {" ".join(sets)}'
 
 
 def never_lines(rules: list[Rule]) -> Iterator[str]:
@@ -71,6 +81,12 @@ def related_lines(rules: list[Rule]) -> Iterator[str]:
     related = [rule for rule in rules if rule.pieces and any('RELATED' in word for word in rule.text.split())]
     if related:
         yield f'RELATED never matches, the other states do: {numbers_of(related)}'
+
+
+def type_lines(rules: list[Rule]) -> Iterator[str]:
+    typed = [rule for rule in rules if '--src-type' in rule.text.split()]
+    if typed:
+        yield f'no sender is taken for a broadcast address, as with rp_filter: {numbers_of(typed)}'
 
 
 def shadowed_lines(save: Save) -> Iterator[str]:
@@ -104,6 +120,12 @@ def effect_of(rule: OtherRule) -> str | None:
     if rule.target == 'NOTRACK' or rule.target == 'CT' and '--notrack' in rule.text:
         return 'exempts packets from tracking, so states are in doubt'
     return REWRITES.get(rule.target)
+
+
+def route_lines(save: Save) -> Iterator[str]:
+    if save.context.interfaces and save.context.interfaces.left:
+        yield (f'interfaces: the routes of table {" ".join(save.context.interfaces.left)} are not read: packets that '
+               'use them may be behind another interface')
 
 
 def list_lines(save: Save) -> Iterator[str]:

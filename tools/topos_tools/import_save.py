@@ -3,9 +3,10 @@ import graphlib
 import re
 from dataclasses import dataclass, field
 
+from .import_nat import written_receivers
 from .import_options import SPELLINGS, Context, RuleReader
 from .import_pieces import ESTABLISHED, NEW, Action, Piece, Rule
-from .import_sets import Numbers
+from .import_sets import ALL_ADDRESSES, Numbers
 from .import_tables import Interfaces
 from .import_words import Refused, Word, words_of
 
@@ -50,6 +51,7 @@ class Tables:
 
     def __init__(self, text: str) -> None:
         self.others: list[OtherRule] = []
+        self.names: set[str] = set()
         self.notes: list[str] = []
         self.filters: list[Filter] = []
         self.table = ''
@@ -86,6 +88,7 @@ class Tables:
         if self.table:
             raise Refused(f'line {number}: the table {self.table} has no COMMIT')
         self.table = table or '?'
+        self.names.add(self.table)
         if table == 'filter':
             if self.filters:
                 self.notes.append(f'line {number}: this table filter replaces the one above')
@@ -135,8 +138,10 @@ class Save:
         self.others, self.notes, table = tables.others, tables.notes, tables.filters[-1]
         self.policy = table.policies['FORWARD']
         changed = set(CHANGED_SET.findall(text))
+        written = written_receivers((each.target, each.text) for each in self.others if each.table == 'nat')
         self.context = Context(set(table.chains) - set(BUILT_IN), interfaces,
                                {name: each for name, each in (sets or {}).items() if name not in changed},
+                               written if 'nat' in tables.names else ALL_ADDRESSES,
                                any(NOT_TRACKED.search(each.text) for each in self.others), is_syn_first)
         self.rules: dict[str, list[Rule]] = {}
         self.read_rules(table)
@@ -176,13 +181,17 @@ class Save:
 
     def action_on_established(self, chain: str, found: dict[str, Action | None]) -> Action | None:
         """Returns whether a chain accepts all established packets, or continues with those it does not accept."""
+        may_return = False
         for rule in self.rules[chain]:
             if all(piece.states == {NEW} for piece in rule.pieces):
                 continue
             action = found[rule.target] if rule.action is Action.JUMP else rule.action
-            if action is Action.ACCEPT and any(piece.covers(ALL_ESTABLISHED) for piece in rule.sure_pieces()):
+            is_of_all = any(piece.covers(ALL_ESTABLISHED) for piece in rule.sure_pieces())
+            if action is Action.ACCEPT and is_of_all and not may_return:
                 return Action.ACCEPT
-            if action not in (Action.ACCEPT, Action.CONTINUE):
+            if action is Action.RETURN and chain != 'FORWARD':
+                may_return = True
+            elif action not in (Action.ACCEPT, Action.CONTINUE):
                 return None
         return Action.CONTINUE
 

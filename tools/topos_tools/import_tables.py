@@ -6,6 +6,7 @@ from .import_words import Refused, address, address_range, words_of
 
 NO_INTERFACE = {'local', 'broadcast', 'multicast', 'anycast', 'unreachable', 'blackhole', 'prohibit', 'throw', 'nat'}
 REST = {'rest', 'default', '0.0.0.0/0'}
+NONE = 'none'
 KINDS = {'hash:ip', 'hash:net', 'bitmap:ip'}
 WITHOUT_VALUE = {'counters', 'comment', 'skbinfo', 'forceadd'}
 WITH_VALUE = {'hashsize', 'maxelem', 'bucketsize', 'initval', 'range'}
@@ -14,26 +15,27 @@ WITH_VALUE = {'hashsize', 'maxelem', 'bucketsize', 'initval', 'range'}
 class Interfaces:
     """The addresses behind each interface.
 
-    The lines are `IFACE NET ..` and `IFACE rest`, or those of `ip -4 route`. An address is behind the interface with
-    the longest prefix that has it.
+    The lines are `IFACE NET ..`, `IFACE rest` and `IFACE none`, or those of `ip -4 route`, also of `table all`. An
+    address is behind the interface with the longest prefix that has it.
     """
 
     def __init__(self, text: str) -> None:
-        routes: dict[tuple[tuple[int, int], ...], str] = {}
+        routes: dict[Numbers, str] = {}
+        self.left: list[str] = []  # other tables of routes
+        unused: list[str] = []
         for number, line in enumerate(text.splitlines(), 1):
             words = line.split('#')[0].split()
+            table = words[words.index('table', 1) + 1] if 'table' in words[1:-1] else 'main'
             try:
-                for interface, network in _routes(words):
-                    if routes.setdefault(network, interface) != interface:
-                        raise ValueError
+                if words[1:] == [NONE]:
+                    unused.append(words[0])
+                elif table == 'main':
+                    add_routes(routes, _routes(words))
+                elif table not in ['local', *self.left]:
+                    self.left.append(table)
             except (ValueError, IndexError):
                 raise Refused(f'interfaces: line {number}: {line.strip()[:100]!r}') from None
-        self.networks: dict[str, Numbers] = {interface: () for interface in routes.values()}
-        taken: Numbers = ()
-        for network, interface in sorted(routes.items(), key=lambda route: route[0][0][1] - route[0][0][0]):
-            free = intersection(network, complement(taken, MOST_ADDRESS))
-            self.networks[interface] = joined(self.networks[interface] + free)
-            taken = joined(taken + network)
+        self.networks = {**dict.fromkeys(unused, ()), **by_longest(routes)}
 
     def behind(self, name: str) -> Numbers | None:
         """Returns the addresses behind the interfaces of a name, which may end with `+`; None if there are none."""
@@ -41,6 +43,23 @@ class Interfaces:
             found = [part for each, part in self.networks.items() if each.startswith(name[:-1])]
             return joined(interval for part in found for interval in part) if found else None
         return self.networks.get(name, () if name == 'lo' else None)  # the box forwards nothing from or to itself
+
+
+def add_routes(found: dict[Numbers, str], routes: Iterable[tuple[str, Numbers]]) -> None:
+    """Adds routes. Fails with ValueError if a network has another name already."""
+    for name, network in routes:
+        if found.setdefault(network, name) != name:
+            raise ValueError(name)
+
+
+def by_longest(routes: dict[Numbers, str]) -> dict[str, Numbers]:
+    """Returns the addresses of each name: the longest prefix that has an address decides."""
+    found: dict[str, Numbers] = {name: () for name in routes.values()}
+    taken: Numbers = ()
+    for network, name in sorted(routes.items(), key=lambda route: route[0][0][1] - route[0][0][0]):
+        found[name] = joined(found[name] + intersection(network, complement(taken, MOST_ADDRESS)))
+        taken = joined(taken + network)
+    return found
 
 
 def _routes(words: list[str]) -> Iterable[tuple[str, Numbers]]:
@@ -62,8 +81,10 @@ def read_sets(text: str) -> dict[str, Numbers]:
     """Returns the sets of addresses alone that have no timeout. Other sets are absent."""
     kinds: dict[str, str] = {}
     entries: dict[str, list[tuple[Numbers, bool]]] = {}
-    for line in text.splitlines():
+    for number, line in enumerate(text.splitlines(), 1):
         words = [word.text for word in words_of(line)]
+        if words and words[0] not in ('create', 'add') and not words[0].startswith('#'):
+            raise Refused(f'sets: line {number}: {line.strip()[:100]!r}')
         if words[:1] == ['create'] and len(words) > 2 and _is_plain(words[2], words[3:]):
             kinds[words[1]], entries[words[1]] = words[2], []
         elif words[:1] == ['add'] and len(words) > 2 and words[1] in entries:
