@@ -10,7 +10,7 @@ from .flows_services import MOST_SERVICE, number_of, of_words, told_services
 from .import_sets import MOST_ADDRESS, Numbers, complement, intersection, joined
 from .report_model import Flow, Source
 
-OLD_ADDRESSES = ' (old addresses)'  # behind a host that has others now
+OLD_ADDRESSES = ' (old addresses)'  # after a host with changed addresses
 Owner = str | dict[str, str] | None
 
 
@@ -56,7 +56,7 @@ class Side:
 
 
 class Changes:
-    """The changes of an answer, by pair of owners: hosts of NEW, else of OLD, else nobody."""
+    """The changes of an answer, by pair of owners: hosts of NEW, else of OLD, else None."""
 
     def __init__(self, old: Source, new: Source, answer: dict[str, Any]) -> None:
         self.old, self.new = Side(old), Side(new)

@@ -3,17 +3,19 @@ from collections.abc import Iterator
 
 from .flows_answer import Pair
 from .flows_list import Listing, lines_text
-from .flows_services import MOST_SERVICE, of_words, told_services
-from .import_sets import Numbers, complement, intersection
+from .flows_services import ALL_SERVICES, MOST_SERVICE, of_words, told_services
+from .import_sets import Numbers, complement, intersection, joined
 from .query import Programs
 
 
-def permitted(programs: Programs, description: bytes) -> dict[Pair, Numbers]:
-    """Returns the services of each permitted flow."""
+def permitted(programs: Programs, description: bytes, omitted: Numbers) -> dict[Pair, Numbers]:
+    """Returns the services of each permitted flow, without those omitted unless it has all."""
     found: dict[Pair, Numbers] = {}
     for each in programs.ask(description, 'network')['flows']:
         if each['permitted']:
-            found[each['flow'][0], each['flow'][1]] = of_words(each['services'])
+            services = of_words(each['services'])
+            found[each['flow'][0], each['flow'][1]] = services if services == ALL_SERVICES else intersection(
+                services, complement(omitted, MOST_SERVICE))
     return found
 
 
@@ -36,11 +38,18 @@ def lines_of(listing: Listing, pair: tuple[str, str], services: Numbers) -> Iter
     open_ = intersection(listing.upper.any(pair), complement(services, MOST_SERVICE))
     if open_:
         parts = [part for part in listing.upper.pairs[pair] if intersection(part.services, open_)]
-        whole = listing.lower.whole(pair)
-        doubt = '' if not intersection(open_, complement(whole, MOST_SERVICE)) else ', in part or in doubt'
         lines = lines_text({line for part in parts for line in part.lines})
-        yield open_, f'rules alone: {arrow}: {told_services(open_)}{doubt} ({lines}), as {parts[0].passes}'
+        yield open_, (f'rules alone: {arrow}: {told_services(open_)}{limits(listing, pair, open_)} ({lines}), '
+                      f'as {parts[0].passes}')
     closed = intersection(services, complement(listing.lower.whole(pair), MOST_SERVICE))
     if closed:
-        doubt = ', in part or in doubt' if intersection(closed, listing.upper.any(pair)) else ''
-        yield closed, f'description alone: {arrow}: {told_services(closed)}{doubt}'
+        yield closed, f'description alone: {arrow}: {told_services(closed)}{limits(listing, pair, closed)}'
+
+
+def limits(listing: Listing, pair: tuple[str, str], services: Numbers) -> str:
+    """Returns whether the rules let some of the services pass in part, or only in doubt."""
+    in_part = intersection(services, joined(each for part in listing.parts(pair) for each in part.services))
+    whole = intersection(services, listing.upper.whole(pair))
+    in_doubt = listing.doubtful(pair, whole) + intersection(in_part, complement(listing.lower.any(pair), MOST_SERVICE))
+    told = [name for name, found in (('in part', in_part), ('in doubt', in_doubt)) if found]
+    return ', ' + ' and '.join(told) if told else ''

@@ -5,10 +5,10 @@ import tempfile
 from dataclasses import dataclass
 from typing import Any
 
-from .flows_services import number_of
+from .flows_services import ALL_SERVICES, number_of
 from .import_bounds import Bound
 from .import_save import MARK, Save
-from .import_sets import Numbers, joined
+from .import_sets import Numbers, is_subset, joined
 from .query import VERSION, Programs, Stopped, answered
 
 Pair = tuple[str | None, str | None]  # None is for the addresses of no host
@@ -38,6 +38,12 @@ class Flows:
 
     def any(self, pair: Pair) -> Numbers:
         return joined(each for part in self.pairs.get(pair, ()) for each in part.services)
+
+    def without(self, omitted: Numbers) -> 'Flows':
+        """Returns the flows without the services, which stay where all services pass."""
+        pairs = {pair: parts if self.whole(pair) == ALL_SERVICES else
+                 [part for part in parts if not is_subset(part.services, omitted)] for pair, parts in self.pairs.items()}
+        return Flows({pair: parts for pair, parts in pairs.items() if parts}, self.lines, self.dead)
 
 
 Places = dict[tuple[str, int], int]  # the line of the save by chain and number of the rule

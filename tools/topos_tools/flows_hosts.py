@@ -16,10 +16,10 @@ MOST_SHOWN = 4
 
 
 def named_sets(save: Save) -> dict[Numbers, list[int]]:
-    """Returns the sets of addresses that rules name, with the lines that name them."""
+    """Returns the sets of addresses that rules name, with the lines that name them. A rule may have to match."""
     found: dict[Numbers, list[int]] = {}
     for rule in save.all_rules():
-        for numbers in rule.named:
+        for numbers in rule.named if rule.pieces else ():
             if numbers not in ((), ALL_ADDRESSES):
                 found.setdefault(numbers, []).append(rule.line)
     return found
@@ -52,6 +52,13 @@ def owned_addresses(table: dict[str, list[str]]) -> dict[str, Numbers]:
     return {host: numbers or rest for host, numbers in found.items()}
 
 
+def interfaces_of_hosts(save: Save | None, hosts: dict[str, Numbers]) -> dict[str, str]:
+    """Returns the interface of each host all of whose addresses are behind it."""
+    networks = save.context.interfaces.networks if save and save.context.interfaces else {}
+    return {host: interface for host, owned in hosts.items() for interface, behind in networks.items()
+            if is_subset(owned, behind)}
+
+
 # A proposal of hosts.
 
 def proposal(save: Save, interfaces: Interfaces) -> str:
@@ -66,9 +73,9 @@ def proposal(save: Save, interfaces: Interfaces) -> str:
             classes[interface, within] = numbers
     lines, names, count = [], set[str](), 0
     for (interface, within), numbers in classes.items():
-        if interface == rest and not within:
+        if not numbers or interface == rest and not within:
             continue
-        name = fresh_name(interface, within, names)
+        name = fresh_name(interface, numbers if within else (), names)
         at = [prefix_text(*each).removesuffix('/32') for each in prefixes(numbers)]
         count += len(at)
         reason = lines_text({line for each in within for line in named[each]}) or f'behind {interface}'
@@ -95,9 +102,9 @@ def split(networks: Numbers, sets: list[Numbers]) -> list[tuple[Numbers, tuple[N
     return parts
 
 
-def fresh_name(interface: str, within: tuple[Numbers, ...], names: set[str]) -> str:
-    """Returns a name of a host that is not taken: the interface, with the narrowest set that has its addresses."""
-    single = address_text(within[-1][0][0]).replace('.', '-') if within else ''
+def fresh_name(interface: str, numbers: Numbers, names: set[str]) -> str:
+    """Returns a name of a host that is not taken: the interface, with the first of the addresses if there are any."""
+    single = address_text(numbers[0][0]).replace('.', '-') if numbers else ''
     base = re.sub('[^A-Za-z0-9_-]', '-', f'{interface}-{single}' if single else interface)[:LONGEST_NAME - 4]
     numbered = (f'{base}-{number}' for number in itertools.count(2))
     name = next(each for each in itertools.chain([base], numbered) if each not in names | {REST})

@@ -1,7 +1,7 @@
 """Writes the flows that rules let pass as a list for a description."""
 import json
 from collections.abc import Iterator
-from dataclasses import dataclass
+from dataclasses import dataclass, field
 
 from .flows_answer import POLICY, Flows, Pair, Range
 from .flows_services import ALL_SERVICES, MOST_OF_FLOW, MOST_SERVICE, other_words, told_services, words_of_services
@@ -17,6 +17,7 @@ class Listing:
     upper: Flows
     lower: Flows
     has_parts: bool = False  # whether services that pass in part are listed too
+    interfaces: dict[str, str] = field(default_factory=dict)  # of hosts that are behind one
 
     def pairs(self) -> Iterator[tuple[str, str]]:
         for sender in self.hosts:
@@ -64,6 +65,9 @@ class Listing:
         """Yields the notes behind an entry."""
         yield lines_text({line for part in self.upper.pairs[pair] if self.has_parts or part.drops is None
                           for line in part.lines})
+        interface = self.interfaces.get(pair[0])
+        if interface and interface == self.interfaces.get(pair[1]):
+            yield f'both behind {interface}'
         doubtful = intersection(listed, complement(self.lower.any(pair), MOST_SERVICE)) if self.has_parts else \
             self.doubtful(pair, listed)
         if doubtful:
@@ -103,12 +107,17 @@ class Listing:
 
     def pair_tree(self, pair: Pair) -> dict[str, object]:
         whole = self.upper.whole(pair)
+        doubtful = self.doubtful(pair, whole)
         return {'from': pair[0], 'to': pair[1],
-                'services': ['everything'] if whole == ALL_SERVICES else words_of_services(whole),
-                'other': other_words(whole), 'in_doubt': words_of_services(self.doubtful(pair, whole)),
+                'services': service_words(whole),
+                'other': other_words(whole), 'in_doubt': service_words(doubtful) + other_words(doubtful),
                 'lines': sorted({line for part in self.upper.pairs[pair] for line in part.lines}),
                 'parts': [{'services': told_services(part.services), 'passes': part.passes, 'drops': part.drops,
                            'lines': list(part.lines)} for part in self.parts(pair)]}
+
+
+def service_words(services: Numbers) -> list[str]:
+    return ['everything'] if services == ALL_SERVICES else words_of_services(services)
 
 
 def is_flow(services: Numbers) -> bool:

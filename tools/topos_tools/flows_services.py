@@ -27,6 +27,14 @@ def of_word(word: str) -> Numbers:
     return ((protocol * PORTS + first, protocol * PORTS + last),)
 
 
+def of_list(words: str) -> Numbers:
+    """Returns the numbers of services with commas between them. Fails with ValueError."""
+    given = words.split(',') if words else []
+    if not {word.partition('/')[0] for word in given} <= set(NAMES.values()):
+        raise ValueError(words)
+    return joined(each for word in given for each in of_word(word))
+
+
 def of_words(words: list[str]) -> Numbers:
     """Returns the numbers of the services of a flow. No word means all services."""
     return joined(each for word in words for each in of_word(word)) or ALL_SERVICES
