@@ -77,7 +77,7 @@ def invariant_lines(chance: random.Random, number: int, names: list[str]) -> lis
 
 
 def network(seed: int, hosts: int = 0) -> str:
-    """Returns a random description, of two to eight hosts if no number is given."""
+    """Returns a random description, with two to eight hosts by default."""
     chance = random.Random(seed)
     count = hosts or chance.randrange(2, 9)
     names = [f'{chance.choice(["web", "db", "Desk", "x_y"])}-{number}' for number in range(count)]

@@ -43,7 +43,7 @@
     return `${names[from]} → ${names[to]}: ${SAID[state(from, to)]}${more}`;
   }
 
-  // The panel beside the matrix.
+  // The panel next to the matrix.
   function reason(from, to, number) {
     const each = data.invariants[number - 1], chain = (data.chains[key(from, to)] || {})[number];
     const attribute = host => each.said[each.of[host]] + (each.bare.includes(host) ? ' (default)' : '');

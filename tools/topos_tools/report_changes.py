@@ -3,7 +3,7 @@ from dataclasses import dataclass
 from typing import Any
 
 from .report_model import Flow, Network, Source
-from .report_words import DENIED, PERMITTED
+from .report_words import DENIED, PERMITTED, attribute_words
 
 SHOWN = PERMITTED + DENIED
 
@@ -19,6 +19,15 @@ class FlowChange:
 
 
 @dataclass
+class EntryChange:
+    """An attribute that changed in a changed invariant, by the newer number. An empty text: there is no entry."""
+    invariant: int
+    host: str
+    before: str
+    after: str
+
+
+@dataclass
 class Changes:
     """The differences from the older description to the newer one."""
     name: str
@@ -26,9 +35,11 @@ class Changes:
     hosts_added: list[str]
     hosts_removed: list[str]
     hosts_moved: list[str]  # other addresses
+    addresses_before: list[list[str]]  # of these hosts
     flows: list[FlowChange]
     invariants_added: list[int]  # numbers in the newer description
     invariants_removed: list[tuple[int, str]]  # numbers in the older one, and templates
+    entries: list[EntryChange]
     holds: list[tuple[int, bool]]  # numbers of unchanged invariants that hold now and did not, or the reverse
 
     def is_empty(self) -> bool:
@@ -60,19 +71,43 @@ def matched(old: list[dict[str, Any]], new: list[dict[str, Any]]) -> dict[int, i
     return found
 
 
+def attributes(invariant: dict[str, Any]) -> dict[str, str]:
+    """Returns the attribute of each host that has an entry."""
+    return {entry['host']: attribute_words({key: value for key, value in entry.items() if key != 'host'})
+            for entry in invariant.get('assign', [])}
+
+
+def entry_changes(old: list[dict[str, Any]], new: list[dict[str, Any]], same: dict[int, int]) -> list[EntryChange]:
+    """Lists the entries that differ. A changed invariant is compared with the next changed one of its template."""
+    free = [place for place in range(1, len(old) + 1) if place not in same.values()]
+    found = []
+    for number in (number for number in range(1, len(new) + 1) if number not in same):
+        template = new[number - 1]['template']
+        other = next((place for place in free if old[place - 1]['template'] == template), None)
+        if other is None:
+            continue
+        free.remove(other)
+        before, after = attributes(old[other - 1]), attributes(new[number - 1])
+        found += [EntryChange(number, host, before.get(host, ''), after.get(host, ''))
+                  for host in dict.fromkeys([*after, *before]) if before.get(host) != after.get(host)]
+    return found
+
+
 def changes_between(old: Source, new: Source) -> Changes:
     """Compares two descriptions by their answers and tables."""
     before, after = old.network, new.network
     at = [{host['name']: (sorted(host['at']), host['rest']) for host in each.hosts} for each in (before, after)]
     tables = [each.table.get('invariant', []) for each in (old, new)]
     same = matched(*tables)
+    moved = [name for name in after.names if name in before.number and at[0][name] != at[1][name]]
     return Changes(
         old.name, old.digest(),
         [name for name in after.names if name not in before.number],
         [name for name in before.names if name not in after.number],
-        [name for name in after.names if name in before.number and at[0][name] != at[1][name]],
+        moved, [at[0][name][0] for name in moved],
         flow_changes(before, after),
         [number for number in range(1, len(tables[1]) + 1) if number not in same],
         [(number, each['template']) for number, each in enumerate(tables[0], 1) if number not in same.values()],
+        entry_changes(*tables, same),
         [(number, after.invariants[number - 1]['holds']) for number, other in same.items()
          if after.invariants[number - 1]['holds'] != before.invariants[other - 1]['holds']])

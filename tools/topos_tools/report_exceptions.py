@@ -1,12 +1,12 @@
 """Which parts of entries are exceptions, and which permitted flows use them.
 
 A part of an entry is an exception if its invariant denies more pairs without it, and no fewer. No rule of a template
-stands here: each part is left out in a copy of the description, and `topos-query` judges the copy. In an entry without
-such a part the kind is replaced by one that another entry has. The copies are:
+is defined here: each part is left out in a copy of the description, and `topos-query` evaluates the copy. In an entry
+without an exception the kind is replaced by one that another entry has. The copies are:
 
 1. the permitted flows alone, with up to 16 changed invariants: a part is in use if its invariant fails;
 2. the flows that all of these permit, with the invariants and their changes: which pairs only a part opens. If no
-   changed invariant fails in the first copy, its answer says so;
+   changed invariant fails in the first copy, its answer reports it;
 3. the description with one part less, for a part that no flow uses: whether answers use it.
 """
 import functools
@@ -48,6 +48,8 @@ def smaller_entries(values: dict[str, Any]) -> Iterator[tuple[str, dict[str, Any
         elif value is True:
             has_parts = True
             yield key, {**values, key: False}
+        elif isinstance(value, int) and value and len(values) > 1 and 'kind' not in values:
+            yield f'{key} {value}', {other: each for other, each in values.items() if other != key}
     if not has_parts:
         yield attribute_words(values), None
 
@@ -76,7 +78,7 @@ def kinds_of(number: int, invariant: dict[str, Any], known: set[str]) -> Iterato
 
 
 class Judge:
-    """Judges parts on copies of a description until its time is over."""
+    """Evaluates parts on copies of a description until its time is over."""
 
     def __init__(self, programs: Programs, report: Report, seconds: float) -> None:
         self.programs, self.table, self.network = programs, report.source.table, report.network
@@ -100,7 +102,7 @@ class Judge:
         return answers
 
     def read_use(self, batches: list[list[Part]]) -> list[Part]:
-        """Sets whether the invariants fail on the permitted flows, and returns the parts to judge on fewer flows."""
+        """Sets whether the invariants fail on the permitted flows, and returns the parts to evaluate on fewer flows."""
         left: list[Part] = []
         texts = [self.copy(self.permitted, [part.invariant for part in parts]) for parts in batches]
         for parts, answer in zip(batches, self.ask(texts), strict=True):
@@ -135,7 +137,7 @@ class Judge:
         return found
 
     def read_opened(self, batches: list[list[Part]]) -> None:
-        """Sets which pairs only the parts open, beside flows on which the invariants hold with and without them."""
+        """Sets which pairs only the parts open, given flows on which the invariants hold with and without them."""
         texts, numbers = [], []
         for parts in batches:
             offending = {flow for part in parts for flow in part.uses}
@@ -232,7 +234,7 @@ def read_exceptions(programs: Programs, report: Report, seconds: float) -> None:
 
 
 def judged_parts(judge: Judge, report: Report, parts: list[Part]) -> list[Part]:
-    """Judges the first parts, as many as the time allows, and returns them."""
+    """Evaluates the first parts, as many as the time allows, and returns them."""
     for wave in waves(list(batches_of(parts, False))):
         if judge.is_late(2):
             break

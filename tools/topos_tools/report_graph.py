@@ -7,7 +7,7 @@ from .report_view import View
 from .report_words import ANSWERED, DENIED, ONE_WAY, PERMITTED, counted, esc
 
 MOST_EDGES = 1500
-MANY_DENIED = 40  # edges that are faint beside those of a chosen node
+MANY_DENIED = 40  # edges that are faint next to those of a selected node
 EDGE_WORDS = {ANSWERED: 'with answers', ONE_WAY: 'without answers', DENIED: 'denied'}
 TIPS = {'out': '#0072b2', 'in': '#00795a', 'no': '#c8420b'}
 

@@ -10,6 +10,8 @@ def section(view: View) -> str:
     each = ''.join(host_details(view, host) for host in range(view.size))
     return f'''<section id="hosts" aria-labelledby="hosts-title">
 <h2 id="hosts-title">Hosts {view.tag('fact')}</h2>
+<p>A host reaches another one over several flows if each host on the way opens connections to the next. Services and
+answers do not count.</p>
 <p class="js-only tools"><button type="button" id="open-all">Open all</button>
 <button type="button" id="close-all">Close all</button></p>
 {each or '<p>There are none.</p>'}
@@ -24,7 +26,8 @@ def host_details(view: View, number: int) -> str:
         at += f' and {len(host.at) - MOST_PREFIXES} more'
         more = f'<p class="soft wrap">All prefixes: {esc(" ".join(host.at))}</p>'
     title = f'<span>{esc(host.place.title)}</span>' if host.place.title else ''
-    columns = (peers(view, number, True), peers(view, number, False), attributes(view, host.name), shut(view, number))
+    columns = (peers(view, number, True), peers(view, number, False), steps(view, number), attributes(view, host.name),
+               shut(view, number))
     facts = (f'<b>{esc(host.name)}</b>{title}<span class="mono soft">{esc(at)}</span>'
              f'<span>{numbers(view, number)}</span><span class="soft">{at_line(host.place)}</span>')
     parts = ''.join(f'<div>{each}</div>' for each in columns if each)
@@ -72,6 +75,39 @@ def peer_row(view: View, members: list[str], key: tuple[str, ...], flow: Flow) -
     said = note(place, with_title=True) if place else ''
     return (f'<tr><th scope="row" class="names">{view.some(members, besides=0)}</th>'
             f'<td class="mono wrap">{esc(key[0])}</td><td>{answers}{said}</td></tr>')
+
+
+def steps(view: View, host: int) -> str:
+    """Returns the hosts that reach a host over several flows, but not over one, and those that it reaches so."""
+    name, reached = view.names[host], view.report.reached
+    if name not in reached:
+        return ''
+    direct = set(view.senders(host, PERMITTED)), set(view.receivers(host, PERMITTED))
+    inward = [other for other in reached[name] if other not in direct[0]]
+    outward = [other for other in view.names if name in reached.get(other, ()) and other not in direct[1]]
+    late = ' <span class="soft">There was no time to judge all hosts.</span>' if len(reached) < view.size else ''
+    return (f'<h4>Over several flows {view.tag("copy")}</h4>'
+            f'<p>Reached by {len(inward)} more: {ways(view, host, inward)}<br>'
+            f'Reaches {len(outward)} more: {view.some(outward, besides=0)}{late}</p>')
+
+
+def ways(view: View, host: int, senders: list[str]) -> str:
+    """Returns hosts that reach a host, each with the hosts between them on a shortest way."""
+    after: dict[int, int] = {}
+    pending = [host]
+    for receiver in pending:
+        for sender, state in enumerate(view.columns[receiver]):
+            if state in PERMITTED and sender != host and sender not in after:
+                after[sender] = receiver
+                pending.append(sender)
+    def way(sender: int) -> str:
+        between, step = [], after.get(sender, host)
+        while step != host:
+            between.append(view.names[step])
+            step = after[step]
+        return esc(' '.join(between))
+    said = [f'{view.link(name)} <span class="soft">(over {way(view.number[name])})</span>' for name in senders]
+    return ', '.join(said) or '<span class="soft">no host</span>'
 
 
 def attributes(view: View, name: str) -> str:

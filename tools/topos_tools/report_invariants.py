@@ -1,6 +1,6 @@
 """The sections of the page on invariants: what each guards, its entries and exceptions, and what it denies today."""
 from .report_model import Exempt, Guard, Invariant
-from .report_view import View, at_line, table
+from .report_view import View, at_line, note, table
 from .report_words import PERMITTED, counted, esc, template_words, verb
 
 MOST_ROWS = 300  # of one table
@@ -50,7 +50,7 @@ def card(view: View, one: Invariant) -> str:
 
 
 def reasons_above(one: Invariant) -> str:
-    """Returns the reason and the comment that stand above the invariant."""
+    """Returns the reason and the comment above the invariant."""
     why = f'<p class="why">{esc(one.place.why)}</p>' if one.place.why else ''
     comment = f'<p class="comment">{esc(one.place.comment)} <span class="soft">(comment in the file)</span></p>' \
         if one.place.comment else ''
@@ -104,7 +104,8 @@ def guard_row(view: View, guard: Guard) -> str:
 
 
 def exceptions(view: View, one: Invariant) -> str:
-    rows = ''.join(exception_row(view, each) for each in one.exceptions[:MOST_ROWS])
+    notes = {entry.host: note(entry.place, with_title=True) for entry in one.entries}
+    rows = ''.join(exception_row(view, each, notes.get(each.host, '')) for each in one.exceptions[:MOST_ROWS])
     late = ''
     if one.unjudged:
         late = f'<p class="soft">There was no time to judge {counted(one.unjudged, "part")} of entries.</p>'
@@ -116,7 +117,7 @@ def exceptions(view: View, one: Invariant) -> str:
             + view.more(len(one.exceptions), MOST_ROWS, 'exception') + late)
 
 
-def exception_row(view: View, part: Exempt) -> str:
+def exception_row(view: View, part: Exempt, above: str) -> str:
     if part.in_use is None:
         use = '<span class="soft">not judged</span>'
     elif not part.in_use:
@@ -125,13 +126,14 @@ def exception_row(view: View, part: Exempt) -> str:
         said = [view.few_flows(part.flows, 8)] if part.flows else []
         said += [f'answers of {view.few_flows(part.answers, 8)}'] if part.answers else []
         use = f'<span class="used">in use</span> {"; ".join(said)}'
-    return (f'<tr><th scope="row">{view.link(part.host)}</th><td class="wrap">{esc(part.part)}</td>'
+    return (f'<tr><th scope="row">{view.link(part.host)}</th><td class="wrap">{esc(part.part)}{above}</td>'
             f'<td class="n">{part.opens}</td><td>{use}</td></tr>')
 
 
 def entries(view: View, one: Invariant) -> str:
-    rows = ''.join(f'<tr><th scope="row">{view.link(each.host)}</th><td class="wrap">{esc(each.attribute)}</td>'
-                   f'<td class="soft">{at_line(each.place)}</td></tr>' for each in one.entries)
+    rows = ''.join(f'<tr><th scope="row">{view.link(each.host)}</th><td class="wrap">{esc(each.attribute)}'
+                   f'{note(each.place, with_title=True)}</td><td class="soft">{at_line(each.place)}</td></tr>'
+                   for each in one.entries)
     others = counted(len(one.default_hosts), 'other host')
     rows += (f'<tr><th scope="row" class="default">{others}</th><td class="default">{esc(one.default)} (default)</td>'
              '<td></td></tr>')
@@ -165,7 +167,22 @@ def classes(view: View, one: Invariant) -> str:
                 line[of_host[receiver]][2] += state in PERMITTED
     for sender_name, receiver_name in one.denied:
         cells[of_host[view.number[sender_name]]][of_host[view.number[receiver_name]]][1] += 1
-    return square(order, cells)
+    return square(order, cells) + between(view, attributes)
+
+
+def between(view: View, attributes: list[str]) -> str:
+    """Returns a table of the permitted flows between hosts of different attributes. A large network has none."""
+    found: dict[tuple[str, str], list[str]] = {}
+    for flow in view.network.of_state(PERMITTED) if view.is_small else ():
+        pair = attributes[view.number[flow[0]]], attributes[view.number[flow[1]]]
+        if pair[0] != pair[1]:
+            found.setdefault(pair, []).append(f'{view.arrow(flow)} ({esc(view.services(flow))})')
+    if not found:
+        return ''
+    rows = ''.join(f'<tr><td class="wrap">{esc(sender)}</td><td class="wrap">{esc(receiver)}</td>'
+                   f'<td>{", ".join(flows)}</td></tr>' for (sender, receiver), flows in found.items())
+    return ('<details><summary>Permitted flows between different attributes</summary>'
+            + table(('From', 'To', 'Flows'), rows) + '</details>')
 
 
 def square(order: list[str], cells: list[list[list[int]]]) -> str:

@@ -1,4 +1,4 @@
-"""The data of a report: the answers of `topos-query network`, and what the text of the description adds.
+"""The data of a report: the answers of `topos-query network`, and additions from the description.
 
 Nothing here decides whether a flow may pass. `Report.tree` is the output of `topos-report --json`.
 """
@@ -153,7 +153,7 @@ class Source:
     table: dict[str, Any]
     page: Page
     network: Network
-    seconds: float  # that the answer took
+    seconds: float  # of the answer
 
     @classmethod
     def read(cls, programs: Programs, path: str) -> 'Source':
@@ -228,6 +228,7 @@ class Report:
     reasons: dict[Flow, dict[int, list[Flow]]] = field(default_factory=dict)
     groups: list[list[int]] = field(default_factory=list)
     orders: dict[str, list[int]] = field(default_factory=dict)
+    reached: dict[str, list[str]] = field(default_factory=dict)  # for each judged host, the hosts that reach it
     changes: Any = None  # report_changes.Changes
 
     @property
@@ -252,7 +253,8 @@ class Report:
             'file': {'name': self.source.name, 'bytes': len(self.source.data), 'sha256': self.source.digest()},
             'program': self.program, 'has_flow_key': self.source.has_flow_key,
             'answers': self.source.table.get('answers', 'all'), 'lines_known': self.source.page.is_known,
-            'counts': self.counts(), 'hosts': [placed(each) for each in self.hosts],
+            'counts': self.counts(), 
+            'hosts': [{**placed(each), 'reached_from': self.reached.get(each.name)} for each in self.hosts],
             'flows': [placed(each) for each in self.flows],
             'states': network.rows,
             'denied': [{'flow': flow, 'denied_by': each['denied_by']}
@@ -268,7 +270,7 @@ class Report:
 
 
 def placed(item: Any) -> dict[str, Any]:
-    """Returns an item as plain values, with the keys of its place beside its own."""
+    """Returns an item as plain values, with the keys of its place and its own."""
     found = asdict(item)
     place = found.pop('place')
     return {**found, 'line': place['line'], 'title': place['title'], 'why': place['why']}
@@ -281,6 +283,19 @@ def invariant_tree(invariant: Invariant) -> dict[str, Any]:
     return {**found, 'comment': invariant.place.comment, 'denied_pairs': len(invariant.denied)}
 
 
+def rules_program(programs: Programs) -> dict[str, Any]:
+    """Returns the SHA-256 of `topos`, which writes rules, and whether the list `topos.proved` beside it has it."""
+    with open(programs.topos, 'rb') as file:
+        digest = hashlib.sha256(file.read()).hexdigest()
+    try:
+        beside = os.path.dirname(os.path.realpath(programs.topos))
+        with open(os.path.join(beside, 'topos.proved'), encoding='utf-8') as file:
+            listed = f'{digest}  program' in file.read().splitlines()
+    except OSError:
+        listed = False
+    return {'sha256': digest, 'proved': listed}
+
+
 def read_report(programs: Programs, path: str) -> Report:
     """Reads a description, and returns its report without exceptions, reasons and orders."""
     source = Source.read(programs, path)
@@ -289,7 +304,7 @@ def read_report(programs: Programs, path: str) -> Report:
     listed = [Listed(flow, network.services(flow), network.states[flow], page.flow(*flow))
               for flow in network.of_state(PERMITTED + DENIED)] if source.has_flow_key else []
     made = datetime.datetime.now(datetime.UTC).strftime('%Y-%m-%d %H:%M UTC')
-    program = {'sha256': programs.digest(), 'proved': programs.is_listed()}
+    program = {'sha256': programs.digest(), 'proved': programs.is_listed(), 'topos': rules_program(programs)}
     return Report(source, made, program, hosts, listed, [invariant_of(source, each) for each in network.invariants])
 
 

@@ -25,7 +25,7 @@ def by_address(network: Network) -> list[int]:
 
 
 def marks_of(network: Network) -> list[list[int]]:
-    """Returns a number for each pair: two pairs have the same one if their states and services are shown alike."""
+    """Returns a number for each pair: two pairs have the same one if their cells look the same."""
     numbers: dict[tuple[str, tuple[str, ...]], int] = {('', ()): 0}
     marks = iter([numbers.setdefault((state, tuple(network.services(flow))), len(numbers)) if state in SHOWN else 0
                   for flow, state in network.states.items()])
@@ -105,7 +105,7 @@ def clustered(groups: list[list[int]], rows: list[str]) -> list[int]:
 
 
 def merge(trees: dict[int, Tree], apart: list[list[float]], last: int, near: int) -> None:
-    """Replaces two clusters by one, which keeps the number of the first."""
+    """Replaces two clusters by one, which has the number of the first."""
     one, other = trees.pop(last), trees.pop(near)
     sizes = len(one.members), len(other.members)
     for each in trees:

@@ -1,12 +1,16 @@
 """The summary of the page: counts, points to check, and what changed since an older description."""
+import functools
 from collections.abc import Iterator
+from ipaddress import IPv4Address, IPv4Network, collapse_addresses, summarize_address_range
 
-from .report_changes import FlowChange
+from .report_changes import Changes, EntryChange, FlowChange
 from .report_model import Flow
-from .report_view import FEW, View, table
+from .report_view import FEW, View, note, table
 from .report_words import FORBIDDEN, GAP, PERMITTED, STATES, counted, esc, verb
+from .rest import PRIVATE
 
 MOST_CHANGES = 400
+WHOLE = {'tcp', 'udp', 'tcp/0-65535', 'udp/0-65535'}
 
 
 def section(view: View) -> str:
@@ -58,20 +62,43 @@ def points_to_check(view: View) -> Iterator[str]:
                'a file.')
     denied = view.denied_flows()
     if denied:
-        yield f'<b>{counted(len(denied), "flow")} asked for and denied</b>: {view.few_flows(denied)}.'
+        yield f'<b>{counted(len(denied), "flow")} asked for and denied</b>: {denied_words(view, denied)}.'
     silent = [flow for flow in view.network.silent if view.network.lacks_tcp(flow)]
     if silent:
         yield f'<b>TCP passes and gets no answers</b> on {counted(len(silent), "flow")}: {view.few_flows(silent)}.'
+    lacking = set(silent)
+    others = [flow for flow in view.network.silent if flow not in lacking]
+    if others:
+        yield f'{counted(len(others), "other flow") if silent else counted(len(others), "flow")} without answers: ' \
+              f'{view.few_flows(others)}.'
     yield from rest_points(view)
     yield from gap_points(view)
+    yield from service_points(view)
     yield from exception_points(view)
     yield from host_points(view)
 
 
+def denied_words(view: View, denied: list[Flow]) -> str:
+    """Returns a list of denied flows, the first ones with the invariants that deny them."""
+    said = [f'{view.arrow(flow)} (by {", ".join(map(view.invariant_link, view.network.denied_by(flow)))})'
+            for flow in denied[:FEW]]
+    return ', '.join(said) + (f' and {len(denied) - FEW:,} more' if len(denied) > FEW else '')
+
+
 def rest_points(view: View) -> Iterator[str]:
+    if not any(host.rest for host in view.report.hosts):
+        yield 'There is no rest host: no packet from or to an address of no host passes.'
     for number, host in enumerate(view.report.hosts):
         if not host.rest:
             continue
+        private = private_prefixes(view)
+        if private:
+            widest = sorted(private, key=lambda each: each.prefixlen)
+            more = f' and {len(private) - FEW} more' if len(private) > FEW else ''
+            yield (f'{counted(len(private), "private prefix", "private prefixes")} of no other host '
+                   f'{verb(len(private), "belongs", "belong")} to {view.link(host.name)}: '
+                   f'<span class="mono">{" ".join(map(str, widest[:FEW]))}</span>{more}. A machine there that nobody '
+                   'listed counts as this host.')
         gaps, reached = view.receivers(number, GAP), view.receivers(number, PERMITTED)
         if gaps:
             yield (f'No invariant prevents flows from <b>{view.link(host.name)}</b> (all addresses of no other host) '
@@ -82,6 +109,24 @@ def rest_points(view: View) -> Iterator[str]:
             yield f'{view.link(host.name)} opens no connection to another host.'
 
 
+def private_prefixes(view: View) -> list[IPv4Network]:
+    """Returns the private addresses of no host, but the rest host."""
+    used = sorted(collapse_addresses(IPv4Network(prefix) for host in view.report.hosts for prefix in host.at))
+    return [free for network in map(IPv4Network, PRIVATE)
+            for free in free_prefixes(network, [each for each in used if each.overlaps(network)])]
+
+
+def free_prefixes(network: IPv4Network, used: list[IPv4Network]) -> Iterator[IPv4Network]:
+    """Yields the prefixes of a network between other prefixes, which are disjoint and in ascending order."""
+    start, end = int(network[0]), int(network[-1])
+    for each in used:
+        if int(each[0]) > start:
+            yield from summarize_address_range(IPv4Address(start), each[0] - 1)
+        start = int(each[-1]) + 1
+    if start <= end:
+        yield from summarize_address_range(IPv4Address(start), IPv4Address(end))
+
+
 def gap_points(view: View) -> Iterator[str]:
     gaps = view.network.of_state(GAP)
     if gaps:
@@ -89,9 +134,21 @@ def gap_points(view: View) -> Iterator[str]:
         told = ', '.join(f'{view.link(view.names[-host])} (from {number})' for number, host in widest[:5] if number)
         yield (f'Only the list of flows prevents {counted(len(gaps), "flow")}, no invariant does. '
                f'The widest gaps: {told}.')
-    whole = [each.flow for each in view.report.flows if not each.services and each.state in PERMITTED]
+
+
+def service_points(view: View) -> Iterator[str]:
+    permitted = [each for each in view.report.flows if each.state in PERMITTED]
+    whole = [each.flow for each in permitted if not each.services]
     if whole:
         yield f'{counted(len(whole), "permitted flow")} without services, for all traffic: {view.few_flows(whole)}.'
+    ports = [each.flow for each in permitted if not WHOLE.isdisjoint(each.services)]
+    if ports:
+        yield f'{counted(len(ports), "permitted flow")} for all ports of TCP or UDP: {view.few_flows(ports)}.'
+    bare = [each.flow for each in permitted if not (each.place.title or each.place.why)]
+    if bare and view.report.source.page.is_known:
+        listed = f': {view.few_flows(bare)}' if len(bare) < len(permitted) else ''
+        yield (f'{len(bare):,} of {len(permitted):,} permitted flows without a title or a reason in the file '
+               f'(<code># topos: title</code>, <code># topos: why</code>){listed}.')
 
 
 def exception_points(view: View) -> Iterator[str]:
@@ -130,7 +187,7 @@ def changes(view: View) -> str:
     lines = [
         ('Hosts added', view.few(found.hosts_added, 60) if found.hosts_added else ''),
         ('Hosts removed', esc(' '.join(found.hosts_removed))),
-        ('Hosts with other addresses', view.few(found.hosts_moved, 60) if found.hosts_moved else ''),
+        ('Hosts with other addresses', moved_words(view, found)),
         ('Invariants added or changed', ', '.join(map(view.invariant_link, found.invariants_added))),
         ('Invariants removed or changed, by their old numbers',
          ', '.join(f'{number} {esc(template)}' for number, template in found.invariants_removed)),
@@ -142,19 +199,42 @@ def changes(view: View) -> str:
     rows = ''.join(change_row(view, each) for each in found.flows[:MOST_CHANGES])
     flows = table(('Flow', 'Before', 'Now', 'Services before', 'Services now'), rows,
                   f'{counted(len(found.flows), "flow")} changed.') if rows else ''
+    rows = ''.join(map(functools.partial(entry_row, view), found.entries))
+    entries = table(('Invariant', 'Host', 'Attribute before', 'Attribute now'), rows,
+                    'Entries of changed invariants.') if rows else ''
     return f'''<section id="changes" aria-labelledby="changes-title">
 <h2 id="changes-title">Changes since {esc(found.name)} {view.tag('fact')}</h2>
 <p class="soft">SHA-256 of {esc(found.name)}: <span class="mono">{found.sha256}</span></p>
 {nothing}<ul>{listed}</ul>
-{flows}{view.more(len(found.flows), MOST_CHANGES, 'flow')}
+{entries}{flows}{view.more(len(found.flows), MOST_CHANGES, 'flow')}
 </section>'''
+
+
+def moved_words(view: View, found: Changes) -> str:
+    """Returns the hosts with other addresses, and the prefixes that each lost and got."""
+    at = {host.name: host.at for host in view.report.hosts}
+    def words(name: str, before: list[str]) -> str:
+        lost = [each for each in before if each not in at[name]]
+        got = [each for each in at[name] if each not in before]
+        return (f'{view.link(name)} (<span class="mono">{esc(" ".join(lost)) or "none"}</span> before, '
+                f'<span class="mono">{esc(" ".join(got)) or "none"}</span> now)')
+    return ', '.join(map(words, found.hosts_moved, found.addresses_before))
+
+
+def entry_row(view: View, change: EntryChange) -> str:
+    def said(attribute: str) -> str:
+        return esc(attribute) or '<span class="soft">no entry</span>'
+    return (f'<tr><th scope="row">{view.invariant_link(change.invariant)}</th><td>{view.link(change.host)}</td>'
+            f'<td class="wrap">{said(change.before)}</td><td class="wrap">{said(change.after)}</td></tr>')
 
 
 def change_row(view: View, change: FlowChange) -> str:
     style = f'{mark(change.before)}-{mark(change.after)}'
     def said(services: list[str], state: str) -> str:
         return esc(' '.join(services)) or ('all traffic' if state and state not in GAP + FORBIDDEN else '')
-    return (f'<tr class="change {style}"><th scope="row">{view.arrow(change.flow)}</th>'
+    place = view.places.get(change.flow)
+    said_above = note(place, with_title=True) if place else ''
+    return (f'<tr class="change {style}"><th scope="row">{view.arrow(change.flow)}{said_above}</th>'
             f'<td>{esc(STATES.get(change.before, "no such host"))}</td>'
             f'<td>{esc(STATES.get(change.after, "no such host"))}</td>'
             f'<td class="mono wrap">{said(change.services_before, change.before)}</td>'
