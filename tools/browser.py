@@ -52,7 +52,7 @@ class Browser:
         self.profile.cleanup()
 
     def read(self) -> dict[str, Any]:
-        """Returns the next message, and keeps the addresses that the page asks for."""
+        """Returns the next message, and stores the addresses that the page requests."""
         while b'\0' not in self.rest:
             more = os.read(self.read_end, 1 << 16)
             if not more:
@@ -88,7 +88,7 @@ class Browser:
                    "done(1) : addEventListener('load', () => done(1)))")
 
     def processor_seconds(self) -> float:
-        """Returns the processor time that the main thread of the page took for its tasks."""
+        """Returns the processor time of the tasks of the page's main thread."""
         metrics = self.send('Performance.getMetrics')['metrics']
         return float(next(each['value'] for each in metrics if each['name'] == 'TaskDuration'))
 

@@ -117,7 +117,7 @@ class Review:
             file.write(text)
 
     def judge(self, name: str, status: int, wanted: str, files: dict[str, str]) -> None:
-        """Judges the review of a branch on which files differ."""
+        """Checks the review of a branch on which files differ."""
         self.shell('git checkout -q -B change main && git reset -q --hard main')
         for path, text in files.items():
             self.file(path, text)
@@ -147,7 +147,7 @@ class Review:
         self.same('review: closed', (ended.returncode, ended.stdout[ended.stdout.find('## Packets'):]), (2, CLOSED))
 
     def refused(self) -> None:
-        """A faulty description is shown with its place; without a base nothing is judged."""
+        """A faulty description is shown with its position; without a base nothing is compared."""
         self.shell('git checkout -q -B change main')
         self.file('net.toml', NET.replace('tcp/443', 'tcp/http'))
         ended = self.shell('git commit -q -a -m change; ci/review origin/main')

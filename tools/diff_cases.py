@@ -66,7 +66,7 @@ REQUEST = [
     ('from = ["lab1", "admin"]', 'from = ["lab1", "admin", "hpc"]'),
     ('{ host = "lab1", kind = "lab" }', '{ host = "lab1", kind = "lab" }, { host = "hpc", kind = "lab" }')]
 
-# unlisted, which had the addresses of hpc, was a master from nobody and of the kind outside.
+# unlisted, which had the addresses of hpc, was a master with an empty list and of the kind outside.
 REQUEST_TEXT = '''3 invariants are weaker, 3 gaps are new, no invariant fails
 weaker: invariant 2 "Management": students lab1 admin -> hpc (hpc was unlisted)
 weaker: invariant 3 "Zones": hpc -> lab1 (hpc was unlisted)

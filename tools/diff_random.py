@@ -81,7 +81,7 @@ def shuffle(chance: random.Random, table: Table) -> None:
 
 
 def rename(chance: random.Random, table: Table) -> None:
-    """Gives a host another name, in flows and invariants too."""
+    """Renames a host, in flows and invariants too."""
     old, new = chance.choice(names_of(table)), f'n{chance.randrange(1000)}'
 
     def named(value: Any) -> Any:
@@ -94,7 +94,7 @@ def rename(chance: random.Random, table: Table) -> None:
 
 
 def move(chance: random.Random, table: Table) -> None:
-    """Moves a prefix to another host, to a new one, or takes it away."""
+    """Moves a prefix to another host or to a new one, or removes it."""
     givers = [host for host in table['host'] if len(host.get('at', [])) > 1]
     if not givers:
         return
@@ -147,7 +147,7 @@ def owner(network: Table, address: int) -> str | None:
 
 
 def addresses(*networks: Table) -> list[int]:
-    """Returns an address of each range that the networks tell apart."""
+    """Returns an address of each range that the networks distinguish."""
     found = {0}
     for network in networks:
         for host in network['hosts']:

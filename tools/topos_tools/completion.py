@@ -1,7 +1,7 @@
 """Completes the command lines of `topos` and the tools, from the usage that each command prints.
 
 A usage has forms, as `topos trace iptables|openflow RULES EVENTS` or `topos-why [--program TOPOS] FILE FROM TO`. Words
-in small letters stand for themselves, HOST, FROM and TO for a host of the description that is named, N, SECONDS and
+in lower case denote themselves, HOST, FROM and TO for a host of the description that is named, N, SECONDS and
 NAME for words that are not known, and other words in capital letters for files. `[--option VALUE]` may be left out.
 """
 import os
@@ -13,7 +13,7 @@ from dataclasses import dataclass
 from .query import UNAVAILABLE, Stopped, find_program, find_query
 
 SECONDS = 3  # for what a command is asked
-FILES = '@files'  # stands for the files of the folder
+FILES = '@files'  # denotes the files of the folder
 HOSTS = {'HOST', 'FROM', 'TO', 'RECEIVER', 'SENDER'}
 FREE = {'N', 'SECONDS', 'NAME', 'NETWORK'}  # what nothing is known of
 OPTION = re.compile(r'(?<![\w-])(--?[a-z][a-z-]*)(?:[ =]([A-Z][A-Z.]*|[a-z]+(?:\|[a-z]+)+))?')
@@ -94,7 +94,7 @@ def hosts(words: list[str]) -> list[str]:
 
 
 def candidates(words: list[str], place: int) -> list[str]:
-    """Returns the words that may stand at a place of a command line."""
+    """Returns the possible words at a position of a command line."""
     usage, before = usage_of(words[0]), words[1:place]
     current = words[place] if place < len(words) else ''
     if current.startswith('-'):

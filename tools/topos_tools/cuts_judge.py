@@ -1,4 +1,4 @@
-"""Judges saved connections by `topos trace`, and gives the reason by `topos-query network`."""
+"""Evaluates saved connections by `topos trace`, and finds the reason by `topos-query network`."""
 import bisect
 from collections.abc import Iterable
 from dataclasses import asdict, dataclass, field
@@ -136,7 +136,7 @@ def service_of(connection: Connection) -> str:
 
 
 def without_ports(cuts: Iterable[Cut]) -> list[Cut]:
-    """Joins the connections of a flow and a reason, whatever the service."""
+    """Joins the connections of a flow and a reason, for any service."""
     found: dict[tuple[object, ...], Cut] = {}
     for each in cuts:
         whole = found.setdefault((each.flow, each.reason), Cut(each.flow, '', each.reason, example=each.example))

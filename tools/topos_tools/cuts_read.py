@@ -1,8 +1,8 @@
 """Reads saved connections: what `conntrack` prints, or five fields on each line of a log.
 
-A line of `conntrack` has the two tuples of a connection. Its first packet is judged as FORWARD sees it: with the sender
-before SNAT and the receiver after DNAT. Five fields are the source, the destination, the protocol, the source port and
-the destination port, between blanks or commas. A line that answers an earlier one belongs to its connection.
+A line of `conntrack` has the two tuples of a connection. Its first packet is evaluated as FORWARD receives it: with the
+sender before SNAT and the receiver after DNAT. Five fields are the source, the destination, the protocol, the source
+port and the destination port, between blanks or commas. A line that answers an earlier one belongs to its connection.
 """
 import ipaddress
 import re

@@ -47,7 +47,7 @@ def renamed(old: Owned, new: Owned) -> dict[str, str]:
 
 
 def host_changes(old: Network, new: Network) -> list[HostChange]:
-    """Lists the changes of hosts. Addresses that one host loses to another are told once."""
+    """Lists the changes of hosts. Addresses that one host loses to another are listed once."""
     before, after = owned_by(old), owned_by(new)
     names = renamed(before, after)
     found = [HostChange(host, 'renamed', '', [name]) for host, name in names.items()]
@@ -65,13 +65,13 @@ def host_changes(old: Network, new: Network) -> list[HostChange]:
 
 
 def _told_of(hosts: list[str], owned: Owned) -> Numbers:
-    """Returns the addresses of which the lines of new or removed hosts tell."""
+    """Returns the addresses in the lines of new or removed hosts."""
     return joined(each for host in hosts for each in owned[host])
 
 
 def _moved(host: str, before: Owned, after: Owned, came: Numbers, went: Numbers, rest: set[str]
            ) -> Iterator[HostChange]:
-    """Yields what a host gains, and what it loses to the rest host or to nobody."""
+    """Yields what a host gains, and what it loses to the rest host or to no host."""
     gains = _without(_without(after[host], before[host]), went)
     if gains:
         yield HostChange(host, 'gains', told(gains), owners(gains, before))

@@ -1,4 +1,4 @@
-"""The difference of two descriptions: the answers of `topos-query`, and what the texts add.
+"""The difference of two descriptions: the answers of `topos-query`, and additions from the files.
 
 Nothing here decides whether a flow may pass, or whether an invariant denies it.
 """

@@ -10,7 +10,7 @@ from .report_model import Flow, Source
 from .report_words import counted
 
 MOST_LINES = 6  # of a section
-UNKNOWN = 'this topos-query does not say which invariants are weaker and which gaps are new'
+UNKNOWN = 'this topos-query does not report which invariants are weaker and which gaps are new'
 MARKS = {'comes': '+ flow', 'goes': '- flow', 'changes': '~ flow', 'answers come': 'answers come:',
          'answers go': 'answers go:'}
 SPECIAL = re.compile(r'([\\`*_{}\[\]<>()#+|~&!])')
@@ -42,7 +42,7 @@ class View:
         return '\n'.join(lines) + '\n'
 
     def markdown(self) -> str:
-        """Returns the difference for the text of a merge request."""
+        """Returns the difference for the description of a merge request."""
         lines = [f'**{escaped(self.verdict())}**']
         for section in self.sections():
             lines += ['', f'{section.title}:', '', *(f'- {escaped(line)}' for line in section.shown(self.is_whole))]

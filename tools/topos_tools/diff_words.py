@@ -6,7 +6,7 @@ from .report_model import Flow, Source
 
 MOST_NAMES = 8  # that are shown of a list
 MOST_TITLE = 60  # letters of a comment in place of a title
-MANY = 4000  # flows, beyond which the search for the widest product takes too long
+MANY = 4000  # flows, above which the search for the widest product is too slow
 Product = tuple[tuple[str, ...], tuple[str, ...]]  # all flows from the first hosts to the second
 
 

@@ -1,13 +1,18 @@
 """Lists the flows that only the list of flows prevents: pairs of hosts that no invariant separates.
 
-These are the flows that `topos-query network` marks as gaps: not asked for, and each beside all flows that are allowed
+These are the flows that `topos-query network` marks as gaps: not asked for, and each together with all allowed flows
 breaks no invariant.
 """
+from __future__ import annotations
+
 import json
-from collections.abc import Iterator
-from typing import Any
 
 from .query import USAGE, VERSION, Programs, Stopped, read_bytes, read_words, toml, write_text
+
+TYPE_CHECKING = False
+if TYPE_CHECKING:
+    from collections.abc import Iterator
+    from typing import Any
 
 USAGE_TEXT = '''usage: topos-gaps [--program TOPOS] [--json] FILE
            prints a line for each receiver: its name, the number of hosts that only the list of flows denies, and their
@@ -15,7 +20,7 @@ USAGE_TEXT = '''usage: topos-gaps [--program TOPOS] [--json] FILE
        topos-gaps [--program TOPOS] --open FILE
            prints the description without its key `flow`: for `topos policy`, never to load
        --json   prints the receivers as JSON
-       the program topos-query is that of TOPOS_QUERY, else the one beside topos, else that of the path
+       topos-query is the program in TOPOS_QUERY, else the one next to topos, else the one on the PATH
 '''
 SCHEMA = 'topos-gaps 1'
 

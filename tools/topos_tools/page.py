@@ -1,6 +1,6 @@
 """The text of a description with its places: lines of hosts, flows, invariants and entries, and the comments above.
 
-`tomllib` keeps no lines. `Document` reads the text with places, and the result is compared with the table of the same
+`tomllib` stores no lines. `Document` reads the text with places, and the result is compared with the table of the same
 description. If the two differ, the page has no places: no line is better than a wrong one.
 
 A comment directly above an element that begins its line belongs to the element. A comment line `# topos: title ..`
@@ -50,7 +50,7 @@ class Document(Scanner):
         return bisect.bisect_right(self.starts, at)
 
     def is_first(self, at: int) -> bool:
-        """Whether only blanks stand before a place on its line."""
+        """Whether only blanks precede a position on its line."""
         return not self.text[self.starts[self.line(at) - 1]:at].strip(' \t\r')
 
     def items(self, key: str) -> list[Node]:
@@ -127,7 +127,7 @@ def _flow(node: Node) -> list[str]:
 
 
 def _shape(document: Document) -> list[Any]:
-    """Returns the names that stand in a description, in its order."""
+    """Returns the names in a description, in its order."""
     invariants = document.items('invariant')
     return [[_text(each, 'name') for each in document.items('host')], list(map(_flow, document.items('flow'))),
             [_text(each, 'template') for each in invariants],

@@ -1,35 +1,38 @@
 """Finds `topos` and `topos-query`, and asks them about a description.
 
-A description goes to a program by its standard input: a changed copy needs no file. A program that refuses its
-input ends the tool with the same line and the same status. `run` is the frame of every tool.
+A description is sent to the standard input of a program: a changed copy needs no file. If a program refuses its input,
+the tool ends with the same line and the same status. `run` is the frame of every tool.
+
+Every tool imports this module at its start, so it imports little, and other modules only where they are used.
 """
-import hashlib
+from __future__ import annotations
+
+import itertools
 import json
 import os
 import resource
-import shutil
 import signal
 import stat
-import subprocess
 import sys
-from collections.abc import Callable, Iterable, Sequence
-from dataclasses import dataclass
-from typing import Any, BinaryIO
 
-try:
-    import tomllib
-except ModuleNotFoundError:
+TYPE_CHECKING = False  # as typing.TYPE_CHECKING, without the import
+if TYPE_CHECKING:
+    from collections.abc import Callable, Iterable, Mapping, Sequence
+    from typing import Any, BinaryIO
+
+if sys.version_info < (3, 11):
     sys.stderr.write(f'{os.path.basename(sys.argv[0])}: Python 3.11 or newer is needed, for tomllib\n')
     sys.exit(69)
 
-USAGE, NO_REFUSAL, UNAVAILABLE = 64, 65, 69  # exit statuses of sysexits.h, beside those of the programs
+USAGE, NO_REFUSAL, UNAVAILABLE = 64, 65, 69  # exit statuses of sysexits.h, in addition to those of the programs
 NO_FILE, NO_OUTPUT = 6, 7  # statuses that `topos` uses for the same causes
 REFUSED = 3  # the status of the programs for a description that they refuse
 DIFFERS = 2  # the status of `topos-query` for an answer that lists differences
 LONGEST = 1_048_576  # bytes of a description
 MEMORY = 2 << 30  # bytes that a tool may use
-SECONDS = 600  # that a tool may take
+SECONDS = 600  # that a tool may run
 VERSION = 1  # of the answers of `topos-query`
+NOTHING: dict[int, str] = {}
 
 
 class Stopped(Exception):
@@ -41,12 +44,12 @@ class Stopped(Exception):
 
 
 def find_program(given: str | None) -> str:
-    """Returns the path of `topos`: as given, by TOPOS, beside the tool, built in the repository, or on the path."""
+    """Returns the path of `topos`: as given, by TOPOS, next to the tool, built in the repository, or on the PATH."""
     return _find(given or os.environ.get('TOPOS'), 'topos', _beside_tool(), 'name the program with --program')
 
 
 def find_query(program: str) -> str:
-    """Returns the path of `topos-query`: by TOPOS_QUERY, beside `topos`, or on the path."""
+    """Returns the path of `topos-query`: by TOPOS_QUERY, next to `topos`, or on the PATH."""
     return _find(os.environ.get('TOPOS_QUERY'), 'topos-query', [os.path.dirname(program)],
                  'name the program with TOPOS_QUERY')
 
@@ -61,25 +64,33 @@ def _beside_tool() -> list[str]:
 def _find(given: str | None, name: str, folders: Iterable[str], advice: str) -> str:
     candidates = [given] if given else [*(os.path.join(folder, name) for folder in folders), name]
     for candidate in candidates:
-        found = shutil.which(candidate)
-        if found:
-            return found
+        for path in _paths(candidate):
+            if os.access(path, os.X_OK) and not os.path.isdir(path):
+                return path
     raise Stopped(f'{candidates[-1]} is missing here: {advice}')
 
 
-@dataclass(frozen=True)
+def _paths(name: str) -> list[str]:
+    """Lists the paths that a shell tries for a command."""
+    if os.path.dirname(name):
+        return [name]
+    return [os.path.join(folder, name) for folder in os.environ.get('PATH', os.defpath).split(os.pathsep)]
+
+
 class Programs:
     """The two programs that a tool asks."""
-    topos: str
-    query: str
+
+    def __init__(self, topos: str, query: str) -> None:
+        self.topos, self.query = topos, query
 
     @classmethod
-    def find(cls, given: str | None) -> 'Programs':
+    def find(cls, given: str | None) -> Programs:
         topos = find_program(given)
         return cls(topos, find_query(topos))
 
     def table(self, text: bytes) -> dict[str, Any]:
-        """Returns the description as a table of version 2, whatever version of TOML and of the format the text has."""
+        """Returns the description as a table of version 2, for any version of TOML and of the format."""
+        import tomllib
         return tomllib.loads(answered([self.topos, 'migrate', '/dev/stdin'], text))
 
     def ask(self, text: bytes, form: str, *names: str) -> dict[str, Any]:
@@ -88,9 +99,8 @@ class Programs:
 
     def ask_changes(self, old: bytes, new: bytes) -> dict[str, Any]:
         """Returns the answer of `topos-query changes` on two descriptions."""
-        with _memory_file(new) as file:
-            words = [self.query, 'changes', '/dev/stdin', f'/dev/fd/{file.fileno()}']
-            return self._read(answered(words, old, (0, DIFFERS), (file.fileno(),)))
+        asked = Question([self.query, 'changes', '/dev/stdin'], old, new)
+        return self._read(asked.answer((0, DIFFERS)))
 
     def rules(self, text: bytes) -> bytes:
         """Returns the rules of the permitted flows of a description."""
@@ -98,9 +108,8 @@ class Programs:
 
     def trace(self, rules: bytes, events: str) -> list[str]:
         """Returns what rules do with each event: `forward`, `drop` or `forgotten`."""
-        with _memory_file(rules) as file:
-            words = [self.topos, 'trace', 'iptables', f'/dev/fd/{file.fileno()}', '/dev/stdin']
-            return [line.split()[1] for line in answered(words, events.encode(), (0,), (file.fileno(),)).splitlines()]
+        asked = Question([self.topos, 'trace', 'iptables', '/dev/stdin'], rules, events.encode())
+        return [line.split()[1] for line in asked.answer().splitlines()]
 
     def _read(self, output: str) -> dict[str, Any]:
         answer: dict[str, Any] = json.loads(output)
@@ -111,29 +120,33 @@ class Programs:
 
     def ask_if_accepted(self, text: bytes, form: str, *names: str) -> dict[str, Any] | None:
         """Returns the answer, or None if the program refuses the description."""
+        return self._read_if_accepted(Question([self.query, form, '/dev/stdin', *names], text))
+
+    def ask_all(self, texts: list[bytes], form: str) -> list[dict[str, Any] | None]:
+        """Returns the answers for several descriptions, asked in parallel; None for one that the program refuses."""
+        answers: list[dict[str, Any] | None] = []
+        at_once = os.cpu_count() or 1
+        for start in range(0, len(texts), at_once):
+            asked = [Question([self.query, form, '/dev/stdin'], text) for text in texts[start:start + at_once]]
+            answers += [self._read_if_accepted(each) for each in asked]
+        return answers
+
+    def _read_if_accepted(self, asked: Question) -> dict[str, Any] | None:
         try:
-            return self.ask(text, form, *names)
+            return self._read(asked.answer())
         except Stopped as stopped:
             if stopped.status != REFUSED:
                 raise
             return None
 
-    def ask_all(self, texts: list[bytes], form: str) -> list[dict[str, Any] | None]:
-        """Returns the answers for several descriptions, asked side by side; None for one that the program refuses."""
-        answers: list[dict[str, Any] | None] = []
-        at_once = os.cpu_count() or 1
-        for start in range(0, len(texts), at_once):
-            asked = [_Question([self.query, form, '/dev/stdin'], text) for text in texts[start:start + at_once]]
-            answers += [each.answer() for each in asked]
-        return answers
-
     def digest(self) -> str:
         """Returns the SHA-256 of `topos-query`."""
+        import hashlib
         with open(self.query, 'rb') as file:
             return hashlib.sha256(file.read()).hexdigest()
 
     def is_listed(self) -> bool:
-        """Whether the list `topos.proved` beside the program has the digest of `topos-query`."""
+        """Whether the list `topos.proved` next to the program has the digest of `topos-query`."""
         try:
             with open(os.path.join(os.path.dirname(os.path.realpath(self.query)), 'topos.proved'),
                       encoding='utf-8') as file:
@@ -142,27 +155,39 @@ class Programs:
             return False
 
 
-class _Question:
-    """A program that runs on a text, with files in memory as its input and output."""
+class Question:
+    """A program that runs on texts: on its standard input, and on further files, whose paths follow its words.
 
-    def __init__(self, words: list[str], text: bytes) -> None:
-        self.words = words
-        self.output = _memory_file(b'')
-        with _memory_file(text) as given:
-            self.process = subprocess.Popen(words, stdin=given, stdout=self.output, stderr=subprocess.PIPE,
-                                            preexec_fn=unlimited)
+    All are files in memory, as are its output and its errors: nothing has to be read while it runs.
+    """
 
-    def answer(self) -> dict[str, Any] | None:
-        """Waits for the end, and returns the answer, or None if the program refuses the text."""
-        _, errors = self.process.communicate()
-        with self.output as output:
-            if self.process.returncode == REFUSED:
-                return None
-            if self.process.returncode:
-                raise Stopped(errors.decode().strip() or f'{self.words[0]} fails', self.process.returncode)
-            output.seek(0)
-            answer: dict[str, Any] = json.loads(output.read())
-            return answer
+    def __init__(self, words: list[str], text: bytes, *others: bytes) -> None:
+        given = _memory_file(text)
+        self.output, self.errors = _memory_file(b''), _memory_file(b'')
+        files = [_memory_file(other) for other in others]
+        self.words = [*words, *(f'/dev/fd/{file.fileno()}' for file in files)]
+        streams = enumerate((given, self.output, self.errors))
+        with given:
+            for file in files:
+                os.set_inheritable(file.fileno(), True)
+            self.process = _spawn(self.words, [(os.POSIX_SPAWN_DUP2, file.fileno(), place) for place, file in streams])
+        for file in files:
+            file.close()
+
+    def answer(self, statuses: Sequence[int] = (0,)) -> str:
+        """Waits for the end, and returns the output; with another status, the first error line stops the tool."""
+        try:
+            _, ended = os.waitpid(self.process, 0)
+        except BaseException:  # raised by the handler of a signal
+            os.kill(self.process, signal.SIGKILL)
+            os.waitpid(self.process, 0)
+            raise
+        status = os.waitstatus_to_exitcode(ended)
+        with self.output as output, self.errors as errors:
+            if status not in statuses:
+                line = _content(errors).strip()
+                raise Stopped(line or f'{" ".join(self.words[:2])} ends with status {status}', status)
+            return _content(output)
 
 
 def _memory_file(text: bytes) -> BinaryIO:
@@ -172,31 +197,47 @@ def _memory_file(text: bytes) -> BinaryIO:
     return file
 
 
-def answered(words: list[str], text: bytes, statuses: Sequence[int] = (0,), files: Sequence[int] = ()) -> str:
-    """Returns the output of a program for a text on its standard input, and for open files."""
+def _content(file: BinaryIO) -> str:
+    file.seek(0)
+    return file.read().decode()
+
+
+def _spawn(words: list[str], actions: list[tuple[int, int, int]]) -> int:
+    """Starts a program without the memory limit of this process: it has its own limits."""
+    soft, hard = resource.getrlimit(resource.RLIMIT_AS)
     try:
-        ended = subprocess.run(words, input=text, capture_output=True, check=False, timeout=SECONDS,
-                               preexec_fn=unlimited, pass_fds=files)
-    except (OSError, subprocess.TimeoutExpired) as error:
+        resource.setrlimit(resource.RLIMIT_AS, (hard, hard))
+        return os.posix_spawn(words[0], words, os.environ, file_actions=actions,
+                              setsigdef=(signal.SIGPIPE, signal.SIGXFSZ))  # which Python ignores
+    except OSError as error:
         raise Stopped(f'{words[0]} does not run: {error}') from None
-    if ended.returncode not in statuses:
-        line = ended.stderr.decode().strip()
-        raise Stopped(line or f'{" ".join(words[:2])} ends with status {ended.returncode}', ended.returncode)
-    return ended.stdout.decode()
+    finally:
+        resource.setrlimit(resource.RLIMIT_AS, (soft, hard))
 
 
-def toml(value: Any) -> str:
-    """Returns a value as a part of a TOML document."""
+def answered(words: list[str], text: bytes, statuses: Sequence[int] = (0,)) -> str:
+    """Returns the output of a program for a text on its standard input."""
+    return Question(words, text).answer(statuses)
+
+
+def toml(value: Any, known: Mapping[int, str] = NOTHING) -> str:
+    """Returns a value as a part of a TOML document; `known` has the texts of some tables, by their id()."""
     if isinstance(value, dict):
-        return '{ ' + ', '.join(f'{key} = {toml(inner)}' for key, inner in value.items()) + ' }'
-    if isinstance(value, list):
-        return '[' + ', '.join(map(toml, value)) + ']'
-    return json.dumps(value)
+        return known.get(id(value)) or '{ ' + ', '.join(
+            [f'{key} = {toml(inner, known)}' for key, inner in value.items()]) + ' }'
+    if isinstance(value, list) and any(isinstance(inner, (dict, list)) for inner in value):
+        return '[' + ', '.join([toml(inner, known) for inner in value]) + ']'
+    return json.dumps(value)  # as in JSON
+
+
+def line_of(key: str, value: Any, known: Mapping[int, str] = NOTHING) -> str:
+    """Returns a key of a description with its value as a line."""
+    return f'{key} = {toml(value, known)}'
 
 
 def text_of(table: dict[str, Any]) -> bytes:
     """Returns a table as the text of a description."""
-    return '\n'.join(f'{key} = {toml(value)}' for key, value in table.items()).encode()
+    return '\n'.join(itertools.starmap(line_of, table.items())).encode()
 
 
 def read_bytes(path: str, longest: int = LONGEST) -> bytes:
@@ -247,16 +288,18 @@ def read_words(given: list[str], valued: set[str], plain: set[str]) -> tuple[dic
 
 
 def limit(seconds: int = SECONDS) -> None:
-    """Bounds the memory and the time of this process."""
+    """Limits the memory and the time of this process."""
     def end(*_: object) -> None:
         raise Stopped(f'this took longer than {seconds} seconds')
-    resource.setrlimit(resource.RLIMIT_AS, (MEMORY, resource.RLIM_INFINITY))
+    _, hard = resource.getrlimit(resource.RLIMIT_AS)
+    most = MEMORY if hard == resource.RLIM_INFINITY else min(MEMORY, hard)
+    resource.setrlimit(resource.RLIMIT_AS, (most, hard))
     signal.signal(signal.SIGALRM, end)
     signal.alarm(seconds)
 
 
 def tell_when_slow(name: str) -> None:
-    """Says on a terminal, a second after the start of a tool, that it is still at work."""
+    """Prints on a terminal, a second after the start of a tool, that it is still running."""
     def tell(*_: object) -> None:
         sys.stderr.write(f'{name}: asking topos and topos-query ..\n')
         limit(SECONDS - 1)
@@ -266,7 +309,7 @@ def tell_when_slow(name: str) -> None:
 
 
 def unlimited() -> None:
-    """Removes the bound of the memory from a program that is started: it has bounds of its own."""
+    """Removes the memory limit of a program that is started: it has its own limits."""
     resource.setrlimit(resource.RLIMIT_AS, (resource.RLIM_INFINITY, resource.RLIM_INFINITY))
 
 

@@ -1,16 +1,20 @@
-"""Prints a host that stands for all private addresses, or all of some networks, that no host of a description has.
+"""Prints a host with all private addresses, or all of some networks, that no host of a description has.
 
 The prefixes are the fewest that cover exactly these addresses. A host of that name that the description has already
-is not counted: what is printed takes its place.
+is not counted: the printed host replaces it.
 """
+from __future__ import annotations
+
 import json
-import tomllib
-from collections.abc import Iterable
 from ipaddress import IPv4Network, collapse_addresses
-from typing import Any
 
 from .query import (
     USAGE, VERSION, Programs, Stopped, limit, read_bytes, read_words, text_of, write_text)
+
+TYPE_CHECKING = False
+if TYPE_CHECKING:
+    from collections.abc import Iterable
+    from typing import Any
 
 USAGE_TEXT = '''usage: topos-rest [--program TOPOS] [--name NAME] [--json] FILE [NETWORK ..]
            prints a host named `unlisted`, or NAME, with all addresses of the networks that belong to no other host;
@@ -26,7 +30,7 @@ WIDTH = 112  # of a line of prefixes
 
 
 def left(networks: Iterable[IPv4Network], taken: Iterable[IPv4Network]) -> list[IPv4Network]:
-    """Returns the fewest prefixes that cover exactly what lies in a network and in nothing that is taken."""
+    """Returns the smallest list of prefixes that cover exactly the addresses of the networks that are not taken."""
     used = list(collapse_addresses(taken))
     pending, found = list(collapse_addresses(networks))[::-1], []
     while pending:
@@ -63,6 +67,7 @@ def others(programs: Programs, text: bytes, name: str) -> list[dict[str, Any]]:
 
 def moved(text: bytes, name: str, refused: Stopped) -> bytes:
     """Returns the description with the host of this name elsewhere."""
+    import tomllib
     limit(LONGEST_READING)
     try:
         table = tomllib.loads(text.decode())
@@ -86,7 +91,7 @@ def written(prefix: IPv4Network) -> str:
 
 
 def printed(name: str, prefixes: list[IPv4Network], is_table: bool) -> str:
-    """Returns the host as a table of its own, or as an element of `host = [..]`."""
+    """Returns the host as a separate table, or as an element of `host = [..]`."""
     lines = ['']
     for word in (f'"{written(prefix)}",' for prefix in prefixes):
         if len(lines[-1]) + len(word) > WIDTH:
@@ -116,7 +121,7 @@ def main(given: list[str]) -> int:
         write_text(None, f'{SCHEMA}, reads answers of topos-query in version {VERSION}\n')
         return 0
     if not words:
-        raise Stopped('a file is wanted', USAGE)
+        raise Stopped('a file is required', USAGE)
     name, text = values.get('--name', 'unlisted'), read_bytes(words[0])
     networks = list(map(read_network, words[1:] or PRIVATE))
     hosts = others(Programs.find(values.get('--program')), text, name)

@@ -1,19 +1,28 @@
 """Changes of a description with which a flow, or its answers, are allowed.
 
-No rule of a template stands here: the entries that are tried have the keys and values of other entries, and a change is
-printed only if `topos-query network` allows the flow in a copy with the change.
+This module knows no rule of a template: the entries that are tried have the keys and values of other entries, and a
+change is printed only if `topos-query network` allows the flow in a copy with the change.
 """
+from __future__ import annotations
+
 import itertools
-from collections.abc import Iterator
-from dataclasses import dataclass
-from typing import Any
 
 from .query import toml
-from .why_network import ANSWERS, Description, Flow, Network, Table, Thing, counted, joined, say
-from .why_reasons import FEW, SHOWN, Given, hosts_of
+from .why_network import ANSWERS, Description, Network, counted, joined, say
+from .why_reasons import FEW, SHOWN, hosts_of
+
+TYPE_CHECKING = False
+if TYPE_CHECKING:
+    from collections.abc import Iterator
+    from typing import Any
+
+    from .why_network import Flow, Table, Thing
+    from .why_reasons import Given
+
+    Change = Entry | Without
 
 AT_ONCE = 16  # invariants of a description
-SCREENED = 2 * AT_ONCE  # entries that are judged side by side before changes are tried one by one; half on paths
+SCREENED = 2 * AT_ONCE  # entries that are screened together before changes are tried one by one; half on paths
 TRIED = 5  # changes that are tried one by one, each in a copy
 
 
@@ -44,7 +53,7 @@ def other_values(own: Table, used: list[Table]) -> Iterator[Table]:
 
 
 def entries_for(description: Description, given: Given, host: str, others: list[str]) -> list[Table]:
-    """Entries of an invariant that a host may have in place of its own, first those that differ least."""
+    """Entries of an invariant that may replace that of a host, those with the smallest difference first."""
     template, entries = given['template'], description.entries(given['invariant'])
     own = entries.get(host, {})
     used = [entries[other] for other in others if other in entries]
@@ -77,16 +86,17 @@ class Entry:
         return f'{words} for {self.host} in {self.number} {self.invariant["template"]}'
 
 
-@dataclass(frozen=True)
 class Without:
-    """A flow that is not listed any more."""
-    flow: Flow
+    """A flow that is no longer listed."""
+
+    def __init__(self, flow: Flow) -> None:
+        self.flow = flow
+
+    def __eq__(self, other: object) -> bool:
+        return isinstance(other, Without) and self.flow == other.flow
 
     def said(self) -> str:
         return f'{say(self.flow)} not asked for'
-
-
-Change = Entry | Without
 
 
 def said_change(key: str, old: Any, new: Any) -> str:
@@ -101,7 +111,7 @@ def said_change(key: str, old: Any, new: Any) -> str:
 
 
 def said_changed(after: Network, flows: list[Flow]) -> str:
-    """What becomes of flows after a change."""
+    """Returns a sentence on the flows that differ after a change."""
     said = [f'{say(flow)} is {after.state(flow)}' for flow in flows[:FEW]]
     more = len(flows) - FEW
     said += [f'{counted(more, "more flow")} {"changes" if more == 1 else "change"}'] if more > 0 else []
@@ -124,8 +134,8 @@ class Changes:
         self.denied = {other: set(by) for other, by in self.before.denied.items() if by and numbers.issuperset(by)}
 
     def screened(self, entries: list[Entry]) -> list[Entry]:
-        """The entries with which the thing is not denied. The invariants with them stand side by side in a copy, in
-        which the flows are those that are allowed."""
+        """The entries with which the thing is not denied. A copy has an invariant for each of them, and the flows that
+        are allowed."""
         flows = self.before.allowed()
         network = self.description.tried(flow=[list(flow) for flow in flows],
                                          invariant=[each.invariant for each in entries])
@@ -138,7 +148,7 @@ class Changes:
                            if place not in network.denied.get(thing, network.denied[thing[1::-1]])}
             each.closed = {flow for flow in flows if place in network.denied[flow]}
         others = [each for each in entries if not each.closed]
-        if self.on_ways and len(others) < len(entries):  # the rest take flows from the ways of these
+        if self.on_ways and len(others) < len(entries):  # the rest remove flows from the paths of these
             return self.screened(others) if others else []
         return [each for each in entries if self.thing in each.opened]
 
@@ -174,7 +184,7 @@ class Changes:
         return sum(numbers >= self.denied[thing] for thing in opened), len(closed) + len(changes) - len(entries)
 
     def combined(self) -> list[list[Change]]:
-        """Lists of changes, one for each of the reasons, first those that open least."""
+        """Lists of changes, one for each of the reasons, those that open the fewest flows first."""
         found: list[list[Change]] = [[]]
         for given, entries in zip(self.reasons, self.entries(), strict=True):
             found = [changes if each in changes else [*changes, each]
@@ -196,7 +206,7 @@ class Changes:
         return network if network and network.is_allowed(self.thing) else None
 
     def told(self) -> list[str]:
-        """A line for each change that allows the thing, first those that open least."""
+        """A line for each change that allows the thing, those that open the fewest flows first."""
         found: list[tuple[int, int, str, str]] = []
         is_alone = any(len(each['flows']) == 1 for each in self.reasons)
         alone: list[list[Change]] = [] if self.is_asked or is_alone else [[]]
@@ -208,7 +218,7 @@ class Changes:
         return [said + words for opened, others, words, said in sorted(found, key=lambda each: each[:2])]
 
     def effects(self, after: Network, changes: list[Change]) -> tuple[int, int, str]:
-        """How many flows that nobody asks for the changes open, how many others they change, and both in words."""
+        """How many gaps the changes open, how many other flows they change, and both in words."""
         left_out = {self.flow} | {each.flow for each in changes if isinstance(each, Without)}
         opened = [flow for flow, each in after.flows.items() if each['gap'] and flow not in left_out
                   and not self.before.flows[flow]['gap']]

@@ -1,15 +1,23 @@
 """Sentences on the invariants that deny a flow: the flows on which each fails, and the entries of their hosts."""
-import itertools
-from typing import Any
+from __future__ import annotations
 
-from .page import Place
+import itertools
+
 from .query import toml
-from .why_network import Description, Flow, Table, counted, joined, say
+from .why_network import Description, counted, joined, say
+
+TYPE_CHECKING = False
+if TYPE_CHECKING:
+    from typing import Any
+
+    from .page import Place
+    from .why_network import Flow, Table
+
+    Given = Table  # an invariant that fails, with the flows on which it does
+    Step = tuple[str, bool, str]  # a host, whether it is the sender, and the next host
 
 FEW = 3  # elements that a sentence lists, and changes that are printed
 SHOWN = 6  # hosts of a failing set whose entries are printed
-Given = Table  # an invariant that fails, with the flows on which it does
-Step = tuple[str, bool, str]  # a host, whether it is the sender, and the next host
 
 
 def chain(flows: list[Flow]) -> list[Step] | None:
@@ -63,7 +71,7 @@ def said_entry(host: str, entry: Table | None, hosts: list[str]) -> str:
 
 
 def noted(place: Place) -> list[str]:
-    """The title and the reason that a comment gives to a flow or an invariant, as a line."""
+    """The title and the reason of a flow or an invariant, from its comment, as a line."""
     words = ': '.join(filter(None, (place.title, place.why)))
     return [f'  {words}'] if words else []
 
