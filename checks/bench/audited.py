@@ -1,4 +1,4 @@
-"""Descriptions with rules texts to audit, at the limit of the classes of packets."""
+"""Descriptions and rule sets to audit, at the limit of the number of packet classes."""
 import itertools
 
 from descriptions import LIMIT, quoted, small_description
@@ -6,12 +6,12 @@ from traced import RULES, table
 
 SERVED, ASKED = 235, 21  # hosts of a prefix each, and how many later ones each asks for a port
 MANY, EACH = 250, 4  # hosts, and prefixes of each
-FEW = 22  # hosts of the text of many rules
+FEW = 22  # hosts of the large rule set
 TOP = '255.255.255.255'
 
 
 def address(number):
-    """Of no two numbers are the addresses neighbours, so each makes two cuts."""
+    """Returns an address. No two of them are adjacent, so each adds two interval boundaries."""
     return f'10.{number // 100}.{number % 100}.1'
 
 
@@ -28,7 +28,7 @@ def served():
 
 
 def last_class_passes(rules):
-    """The lines of rules with one that passes the packets of the last class alone: from the last host to itself."""
+    """The lines of rules with one that accepts only the packets of the last class: from the last host to itself."""
     rule = f'-A FORWARD -s {TOP}/32 -d {TOP}/32 -p tcp -m tcp --sport 81: --dport 81: -j ACCEPT'
     first = next(place for place, line in enumerate(rules) if line.startswith('-A'))
     return [*rules[:first], rule, *rules[first:]]
@@ -52,7 +52,7 @@ def few_hosts():
 
 
 def many_rules():
-    """What `few_hosts` asks for, behind very many rules of each chain that only count."""
+    """Yields the rules for `few_hosts`, in each chain after many rules that only count packets."""
     chains = [f'c{host}' for host in range(FEW)]
     jumps = [f'-A FORWARD -s {address(host)} -j c{host}' for host in range(FEW)]
     flows = [f'-A c{i} -d {address(j)} -j ACCEPT' for i in range(FEW) for j in range(i + 1, FEW)]

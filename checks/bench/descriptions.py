@@ -1,4 +1,4 @@
-"""Descriptions at the limits, and some beyond them: up to 1,048,576 bytes, in which short names have to do."""
+"""Descriptions at the limits, and some beyond them: up to 1,048,576 bytes, so most names are short."""
 import re
 
 HOSTS, HALF, PREFIXES, REST = 256, 127, 1024, 255
@@ -40,7 +40,7 @@ def hosts():
 
 
 def invariant(template, attributes):
-    """`attributes` maps the hosts that have an entry to what stands after their name."""
+    """Returns an invariant. `attributes` maps each host with an entry to the text after its name."""
     lines = [f'[[invariant]]\ntemplate = "{template}"\nassign = [']
     for host, attribute in attributes.items():
         lines.append(f'  {{ host = "{name(host)}", {attribute} }},')
@@ -53,7 +53,7 @@ def each(attribute):
 
 
 def description(flows, invariants, version=1):
-    """`flows` are lists of words; where they are None, the key `flow` is left out."""
+    """Returns a description. `flows` are lists of words; if they are None, the key `flow` is omitted."""
     head = f'topos = {version}\n'
     if flows is not None:
         head += 'flow = [\n' + ''.join(f'  {quoted(flow)},\n' for flow in flows) + ']\n'
@@ -122,13 +122,13 @@ def rising():
 
 
 def served():
-    """Of `rising` as many as fit with a service each: one of four, of which two have ports."""
+    """Returns the flows of `rising` with a service each, one of four, until the description is full."""
     services = ('tcp/80', 'udp/53-60', 'icmp', 'tcp')
     return [(*flow, services[number % 4]) for number, flow in enumerate(rising()) if number % 4 != 3]
 
 
 def at_the_limits():
-    """What each command runs on, besides `sample`."""
+    """Returns the inputs of all commands except `sample`."""
     return {
         'all-asked': long_names(description(None, mixed_invariants())),
         'given-breaks': description(pairs(lambda i, j: (7 * i + 5 * j) % 3 != 0), mixed_invariants()),
@@ -144,7 +144,7 @@ def every_listed():
 
 
 def largest():
-    """Every host asks all later ones, so that answers are told apart from flows in each chain."""
+    """Every host asks all later ones, so each chain has to distinguish answers from flows."""
     return description(pairs(lambda i, j: i < j), [])
 
 
@@ -158,7 +158,7 @@ def small_description(flows, host_lines, more='', version=1):
 
 
 def most_services():
-    """As many flows as fit, each with as many services as a flow may have."""
+    """The largest number of flows, each with the largest number of services."""
     services = ','.join(f'"tcp/{number}"' for number in range(SERVICES))
     listed, room = [], LIMIT - len(small_description('', single_hosts(HOSTS)))
     for i, j in ((i, j) for i in range(HOSTS) for j in range(HOSTS) if i != j):
@@ -213,7 +213,7 @@ def sample_description(count):
 
 
 def up_to(limit, text):
-    """The text again and again, not beyond this many bytes."""
+    """Repeats the text, up to this number of bytes."""
     return text * (limit // len(text))
 
 
@@ -231,7 +231,7 @@ def many_entries():
 
 
 def refused():
-    """What `check` refuses: the head of checks/bench/run says for what."""
+    """Returns descriptions that `check` refuses; the head of checks/bench/run lists the reasons."""
     some, all_hosts, room = single_hosts(HOSTS // 2), single_hosts(HOSTS), LIMIT - 20000
     every, last = ''.join(short_pairs(HOSTS)), '["h255","h254"],'
     prefixes = ''.join(f'"10.{number // 250}.{number % 250}.0/24",' for number in range(50000))

@@ -1,11 +1,11 @@
-"""Descriptions of 256 hosts, and texts of edits of them."""
+"""Descriptions of 256 hosts, and edits of them."""
 import random
 
 from descriptions import HOSTS, description, each, mixed_invariants, name, pairs
 
 EDITS, WALK_EDITS, SAME_EDITS, ANEW_EDITS = 10000, 1000, 100, 20
-SPARSE, DENSE = 217, 8  # one of so many pairs of hosts is asked for: some 300 flows, and some 8,200
-EDGE_WISE = 8  # the first of the mixed invariants that judges flows alone
+SPARSE, DENSE = 217, 8  # one of this number of pairs is asked for: some 300 flows, and some 8,200
+EDGE_WISE = 8  # the first of the mixed invariants that is edge-wise
 
 
 def asked(share):
@@ -13,17 +13,17 @@ def asked(share):
 
 
 def alone(share):
-    """Eight invariants that judge flows alone."""
+    """Eight edge-wise invariants."""
     return description(asked(share), mixed_invariants()[EDGE_WISE:])
 
 
 def walks(share):
-    """Sixteen invariants, of which half look at walks."""
+    """Sixteen invariants, half of which depend on paths."""
     return description(asked(share), mixed_invariants())
 
 
 def flow_edits(share, count, chosen):
-    """Flows that come and go by turns, so that as many as before are left."""
+    """Adds and removes flows in turn, so their number stays the same."""
     flows = asked(share)
     there, every = set(flows), pairs(lambda i, j: True)
     for number in range(count):

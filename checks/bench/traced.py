@@ -1,4 +1,4 @@
-"""Rules texts, flow tables and events at the limits, as lines."""
+"""Rule sets, flow tables and events at the limits, as lines."""
 from descriptions import PREFIXES, network
 
 CHAINS, RULES, TEXT_LIMIT, EVENTS_LIMIT = 4093, 1000000, 67108864, 16777216
@@ -7,7 +7,7 @@ SENDERS, RECEIVERS, PORTS = 22, 23, 16  # 8,096 flows of services
 
 
 def table(chains, rules, policy='DROP'):
-    """The lines of a rules text: its head, these user chains, and these rules."""
+    """Yields the lines of a rule set: its head, these user chains, and these rules."""
     yield from ('*filter', ':INPUT ACCEPT [0:0]', f':FORWARD {policy} [0:0]', ':OUTPUT ACCEPT [0:0]')
     yield from (f':{chain} - [0:0]' for chain in chains)
     yield from rules
@@ -33,7 +33,7 @@ def many_jumps(chains):
 
 
 def late_fault():
-    """As long as may be; the last line names a chain that was not declared."""
+    """Yields a rule set of the maximum length; its last line names a chain that is not declared."""
     begin, fault = '*filter', '-A nowhere -j DROP'
     rules = RULES * (len(next(many_rules())) + 1)
     yield begin
@@ -73,7 +73,7 @@ def flow_texts():
 
 
 def many_events():
-    """Packets between all prefixes and an address outside of them, each of a connection of its own, and its answer."""
+    """Yields packets between all prefixes and an outside address, each of a new connection, and their answers."""
     size = number = 0
     while size <= EVENTS_LIMIT - 100:
         one, other = number % (PREFIXES + 1), number * 11 % (PREFIXES + 1)
@@ -98,7 +98,7 @@ def short_events():
 
 
 def served_events():
-    """From each prefix of the sender to each of the receiver, at each port of a service and one beside them."""
+    """Yields packets between all prefixes of both hosts, to each port of a service and to one other."""
     size = number = 0
     while size <= EVENTS_LIMIT - 40:
         one, other = number % SENDERS + 1, number * 7 % RECEIVERS + 101
@@ -109,5 +109,5 @@ def served_events():
 
 
 def shuffled(lines):
-    """In an order in which flows of one sender do not stand together."""
+    """Reorders the flows: those of one sender are not adjacent."""
     return [lines[number * 89 % len(lines)] for number in range(len(lines))]

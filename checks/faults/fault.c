@@ -1,10 +1,10 @@
-/* Loaded before a program, this counts the calls by which it takes memory and reaches files, and lets some
- * of them fail. It reads these variables of the environment:
+/* Preloaded into a program, this library counts its calls that allocate memory and access files, and injects
+ * faults into some of them. It reads these environment variables:
  *
  *   FAULT_CALL    memory, open, read or write: the calls that may fail
  *   FAULT_FIRST   the number of the first call that fails, counted from 1
  *   FAULT_LAST    the number of the last one
- *   FAULT_WAY     how: the number of an error, `short` (one byte is moved) or `end` (none is)
+ *   FAULT_WAY     how: the number of an error, `short` (one byte is transferred) or `end` (none is)
  *   FAULT_COUNTS  a file that gets the counts, as numbers of 8 bytes in the order of `struct counts`
  */
 #define _GNU_SOURCE
@@ -21,10 +21,10 @@ enum call { MEMORY, OPEN, READ, WRITE, CALLS };
 
 struct counts {
     long calls[CALLS];
-    long memory_at_open; /* calls for memory before the first file was opened, or before the end */
+    long memory_at_open; /* allocations before the first file was opened, or before the end */
     long failed;         /* calls that were made to fail */
     long file;           /* the file that was opened last when the first of them failed, counted from 1 */
-    long taken;          /* the bytes that were read of it until then */
+    long taken;          /* the bytes that were read from it before */
     long sink;           /* the stream that this call would have written to */
 };
 
@@ -63,7 +63,7 @@ __attribute__((constructor)) static void begin(void) {
         if (strcmp(call, names[i]) == 0) failing = (enum call)i;
 }
 
-/* Counts a call, and says whether it is to fail. */
+/* Counts a call, and returns whether it has to fail. */
 static int fails(enum call call, int sink) {
     long number = ++counts->calls[call];
     if (call == MEMORY && counts->calls[OPEN] == 0) counts->memory_at_open = number;
@@ -102,7 +102,7 @@ static int open_at(int folder, const char *name, int flags, int mode) {
     return (int)syscall(SYS_openat, folder, name, flags, mode);
 }
 
-/* The mode stands behind the flags of a call that may create a file. */
+/* The mode follows the flags of a call that may create a file. */
 #define OPENS(name)                                      \
     int name(const char *path, int flags, ...) {         \
         va_list rest;                                    \
@@ -126,7 +126,7 @@ OPENS(__open64)
 OPENS_AT(openat)
 OPENS_AT(openat64)
 
-/* A read or a write: the size that it asks for, or -1 where it fails. */
+/* Returns the size that a read or a write requests, or -1 if it fails. */
 static long size_or_fault(enum call call, int stream, size_t size) {
     if (!fails(call, stream)) return (long)size;
     if (strcmp(way, "short") == 0) return size > 0;

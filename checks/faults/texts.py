@@ -1,4 +1,4 @@
-"""The texts that both scripts start from, and one run of a program."""
+"""The inputs from which both scripts start, and a run of a program."""
 import os
 import resource
 import subprocess
@@ -16,13 +16,13 @@ host = [{ name = "web", at = ["10.0.0.2", "10.0.0.3"] }, { name = "db", at = ["1
         { name = "lan", at = ["10.1.0.0/16"] }, { name = "inet", rest = true }]
 invariant = [{ template = "sink", assign = [{ host = "db", kind = "sink" }] }]
 """
-# What a switch can do: no answers and no ranges.
+# What a switch can enforce: no answers and no ranges.
 PORTS = b"""topos = 2
 answers = "none"
 flow = [["web", "db", "tcp/5432", "icmp"], ["inet", "web", "tcp/443", "udp/443"], ["web", "inet", "udp/53"], ["db", "web"]]
 host = [{ name = "web", at = ["10.0.0.2", "10.0.0.3"] }, { name = "db", at = ["10.0.0.1"] }, { name = "inet", rest = true }]
 """
-# Templates of one's own, of either strategy.
+# Custom templates of both strategies.
 TABLES = b"""topos = 2
 flow = [["web", "app", "tcp/9000"], ["app", "db", "tcp/5432"], ["inet", "web", "tcp/443"], ["db", "log", "udp/514"]]
 host = [{ name = "web", at = ["10.0.0.2", "10.0.0.3"] }, { name = "app", at = ["10.0.1.0/28"] },
@@ -62,7 +62,7 @@ USAGE = b'usage: topos check FILE\n'
 
 
 class Ended(NamedTuple):
-    """How a run ended: a status below 0 is the number of a signal, None a run that took too long."""
+    """How a run ended: a negative status is the number of a signal, None a timeout."""
     status: int
     out: bytes
     err: bytes
@@ -74,7 +74,7 @@ def bytes_of(*path):
 
 
 def examples(suffix):
-    """The texts of `examples/` by their names, the largest first."""
+    """Returns the files of `examples/` by name, the largest first."""
     names = [name for name in os.listdir(EXAMPLES) if name.endswith(suffix)]
     texts = {name: bytes_of(EXAMPLES, name) for name in sorted(names)}
     return dict(sorted(texts.items(), key=lambda pair: -len(pair[1])))
@@ -97,12 +97,12 @@ def run(program, words, folder, environment=None):
 
 
 def most_memory():
-    """The most megabytes that any run has held so far."""
+    """Returns the maximum resident memory of the runs so far, in megabytes."""
     return resource.getrusage(resource.RUSAGE_CHILDREN).ru_maxrss / 1024
 
 
 def texts(suffix):
-    """The texts of `examples/`, and those of version 2 of this file."""
+    """Returns the files of `examples/`, and the descriptions of version 2 of this module."""
     more = {'.toml': [SERVICES, PORTS, TABLES], '.events': [SERVICE_EVENTS]}
     return [*examples(suffix).values(), *more[suffix]]
 

@@ -1,18 +1,20 @@
-"""A box of its own: a network namespace that forwards from one interface to another one, with tracked connections.
+"""A gateway: a network namespace that forwards from one interface to another one, with tracked connections.
 
-Both interfaces are of the kind TUN, so packets of any sender can be put into the first, and what comes out of the
-second was forwarded. After each packet a marker of IPv6 follows, which no rule sees: once it has arrived, what
-has not arrived before was dropped, and nothing has to be waited for.
+Both are TUN interfaces: packets of any sender can be written to the first, and the packets that are read from the
+second were forwarded. After each packet an IPv6 marker follows, which no rule matches. A packet that has not arrived
+before the marker was dropped, so no timeout is needed.
 """
 import ctypes
 import fcntl
 import os
 import select
+import socket
 import struct
 import subprocess
 
 NEW_NETWORK, SET_NAME, TUN, WITHOUT_HEAD = 0x40000000, 0x400454ca, 0x0001, 0x1000
 MARKER = bytes.fromhex('600000000000' '3b40' + '20010db8' + '00' * 11 + '01' + '20010db8' + '00' * 11 + '02')
+NETLINK_NETFILTER, DELETE_CONNECTIONS, REQUEST_AND_ACK = 12, 0x102, 5
 PATIENCE = 5.0
 CLOSED = '*filter\n:FORWARD DROP [0:0]\n-A FORWARD -m conntrack --ctstate ESTABLISHED -j DROP\nCOMMIT\n'
 HOUR = '3600'
@@ -31,7 +33,7 @@ SETTINGS = {
 
 
 class Failed(Exception):
-    """A tool that does not do what it is to do, or is not there."""
+    """A tool failed, or is not installed."""
 
 
 def run(words, given=None, also=()):
@@ -42,7 +44,7 @@ def run(words, given=None, also=()):
 
 
 class Box:
-    """The process moves into the namespace of the box that it made last."""
+    """The process moves into the namespace of the newest gateway."""
 
     def __init__(self, back_end):
         self.restore, self.save = f'iptables-{back_end}-restore', f'iptables-{back_end}-save'
@@ -61,7 +63,7 @@ class Box:
         except OSError as fault:
             raise Failed(str(fault)) from fault
         if self.send(b''):
-            raise Failed('something comes out of the box by itself')
+            raise Failed('the gateway sends packets by itself')
 
     def version(self):
         return run([self.restore, '--version']).strip()
@@ -74,7 +76,7 @@ class Box:
         return run([self.save, '-t', 'filter'])
 
     def send(self, packet):
-        """The packets of IPv4 that come out once this one went in."""
+        """Sends a packet, and returns the IPv4 packets that are forwarded."""
         if packet:
             os.write(self.way_in, packet)
         os.write(self.way_in, MARKER)
@@ -82,7 +84,7 @@ class Box:
         while True:
             ready, _, _ = select.select([self.way_out], [], [], PATIENCE)
             if not ready:
-                raise Failed('no packet of IPv6, which marks the end, comes out of the box')
+                raise Failed('the gateway does not forward the IPv6 marker')
             came = os.read(self.way_out, 65536)
             if came[8:40] == MARKER[8:40]:
                 return arrived
@@ -91,7 +93,7 @@ class Box:
 
 
 def forget(event):
-    """Makes the kernel forget the connection of a packet, whoever began it."""
+    """Removes the connection of a packet from the kernel's table, in both directions."""
     for one in (event, event.answer()):
         words = ['conntrack', '-D', '-p', str(one.protocol), '-s', one.source, '-d', one.destination]
         if one.protocol == 1:
@@ -101,8 +103,17 @@ def forget(event):
         run(words, also=[1])  # 1: there was none
 
 
+def empty_connections():
+    """Empties the connection table of the network namespace of this process, as `conntrack -F`, without a process."""
+    with socket.socket(socket.AF_NETLINK, socket.SOCK_RAW, NETLINK_NETFILTER) as netlink:
+        netlink.send(struct.pack('=IHHIIBBH', 20, DELETE_CONNECTIONS, REQUEST_AND_ACK, 1, 0, 0, 0, 0))
+        error, = struct.unpack_from('=i', netlink.recv(4096), 16)
+    if error:
+        raise Failed(f'the connection table is not emptied: {os.strerror(-error)}')
+
+
 def interface(name):
-    """A TUN interface of this name, as the file that its packets are read from and written to."""
+    """Creates a TUN interface of this name, and returns the file for its packets."""
     opened = os.open('/dev/net/tun', os.O_RDWR)
     fcntl.ioctl(opened, SET_NAME, struct.pack('16sH22x', name.encode(), TUN | WITHOUT_HEAD))
     return opened

@@ -7,7 +7,7 @@ KINDS = ('flow comes', 'flow goes', 'answers come', 'answers go')
 
 
 def variant(chance, network, flows):
-    """The text of a changed network: other flows, and hosts and invariants that move, go or have another name."""
+    """Returns a changed description: other flows, and moved, removed or renamed hosts and invariants."""
     hosts, invariants, head = list(network.hosts), list(network.invariants), list(network.head)
     if chance.random() < 0.7:
         head = [line for line in head if not line.startswith('flow')] + [f'flow = [{flows}]']
@@ -23,7 +23,7 @@ def variant(chance, network, flows):
 
 
 def moved(chance, text):
-    """The same with the prefixes of two hosts exchanged."""
+    """Returns the description with the prefixes of two hosts exchanged."""
     lists = re.findall(r'^at = .*$', text, re.MULTILINE)
     if len(lists) < 2:
         return text
@@ -38,7 +38,7 @@ class Changes:
         self.old, self.new, self.classes, self.event_of = old, new, classes, event_of
 
     def name(self, address):
-        """The host of the new description, else that of the old one, else nobody."""
+        """Returns the host of the new description, else that of the old one, else None."""
         if (owner := self.new.owner(address)) is not None:
             return self.new.names[owner]
         owner = self.old.owner(address)
@@ -48,7 +48,7 @@ class Changes:
         return self.name(packet['source']), self.name(packet['destination'])
 
     def changes(self, packet):
-        """The kinds by which the packet changes."""
+        """Yields the kinds of changes of the packet."""
         event = self.event_of(packet)
         for kinds, flows in ((KINDS[:2], 'permitted'), (KINDS[2:], 'answered')):
             before, after = (policy.is_of(event, getattr(policy, flows)) for policy in (self.old, self.new))
@@ -63,7 +63,7 @@ class Changes:
         return self.new.names.index(name)
 
     def found(self, ranges_of):
-        """For each kind and pair in order, the maximal ranges of services of which packets change."""
+        """Returns for each kind and pair, in order, the maximal ranges of services of which packets change."""
         packets, services, names = collections.defaultdict(list), collections.defaultdict(list), {}
         for packet in self.classes.packets():
             pair = self.pair(packet)
@@ -83,7 +83,7 @@ class Changes:
         return listed
 
     def pairs(self):
-        """The pairs of hosts that packets have in the new and in the old network."""
+        """Returns the pairs of hosts of packets in the new and in the old network."""
         addresses = self.classes.addresses
         for source, destination in itertools.product(addresses, addresses):
             yield tuple(self.flow(policy, source, destination) for policy in (self.new, self.old))
@@ -94,13 +94,13 @@ class Changes:
         return None if None in ends or ends[0] == ends[1] else tuple(policy.names[end] for end in ends)
 
     def weaker(self, before, after):
-        """The flows that no invariant of the new network denies, each with flows that the old network denied."""
+        """Lists the flows that no invariant of the new network denies, each with flows that the old network denied."""
         return sorted({(self.place(self.new, new), self.place(self.old, old)): (new, old, before[old]['denied_by'])
                        for new, old in self.pairs()
                        if new and old and before[old]['denied_by'] and not after[new]['denied_by']}.items())
 
     def gaps(self, before, after):
-        """The gaps of the new network of which some packet was in no gap of the old one."""
+        """Lists the gaps of the new network of which some packet was in no gap of the old one."""
         return sorted({(self.place(self.new, new), new) for new, old in self.pairs()
                        if new and after[new]['gap'] and not (old and before[old]['gap'])})
 
@@ -110,5 +110,5 @@ class Changes:
 
 
 def facts(answer):
-    """The facts of each flow in an answer of `topos-query network`."""
+    """Returns the facts of each flow in an answer of `topos-query network`."""
     return {tuple(each['flow']): each for each in answer['flows']}

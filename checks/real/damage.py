@@ -1,4 +1,4 @@
-"""Rules texts of iptables that somebody has touched: one rule of a text that topos wrote is changed at random."""
+"""Damaged iptables rule sets: one rule of a rule set that topos wrote is changed at random."""
 import ipaddress
 import re
 
@@ -8,7 +8,7 @@ OTHERWISE = {'ACCEPT': 'DROP', 'DROP': 'ACCEPT', 'REJECT': 'ACCEPT'}
 
 
 class Damage:
-    """What may happen to the rules of a text. Each change leaves a text that a kernel takes."""
+    """Random changes of a rule set. A kernel accepts the rule set after each change."""
 
     def __init__(self, chance, text):
         self.chance = chance
@@ -17,7 +17,7 @@ class Damage:
         self.rules = [line for line in lines if line.startswith('-A')]
 
     def text(self):
-        """The text with some change, and in words what was changed."""
+        """Returns the rule set with a change, and a description of the change."""
         while True:
             place = self.chance.randrange(len(self.rules))
             change = self.chance.choice([self.dropped, self.doubled, self.moved, self.readdressed, self.readdressed,
@@ -39,12 +39,12 @@ class Damage:
         return self.inserted(self.replaced(place), rule)
 
     def inserted(self, rules, rule):
-        """With the rule at some place. Only its place in its own chain makes a difference."""
+        """Inserts the rule at a random position. Only the position in its chain has an effect."""
         place = self.chance.randint(0, len(rules))
         return [*rules[:place], rule, *rules[place:]]
 
     def readdressed(self, rule, place):
-        """With another prefix, or all addresses but those of the prefix."""
+        """Replaces a prefix by another one, or negates it."""
         found = self.some(PREFIX, rule)
         if not found:
             return None
@@ -56,7 +56,7 @@ class Damage:
         return self.replaced(place, rule[:found.start()] + changed + rule[found.end():])
 
     def near(self, prefix):
-        """A half of the prefix, what it is a half of, the one beside it, or one that stands elsewhere."""
+        """Returns a half of the prefix, the prefix of which it is a half, the other half, or one of another rule."""
         choices = [ipaddress.ip_network(found.group(3)) for line in self.rules for found in PREFIX.finditer(line)]
         if prefix.prefixlen < 32:
             choices += list(prefix.subnets()) * len(choices)
@@ -66,7 +66,7 @@ class Damage:
         return self.chance.choice(choices)
 
     def reported(self, rule, place):
-        """With a port more or less, all ports but these, or the ports of the other end."""
+        """Adds or removes a port, negates the range, or exchanges source and destination port."""
         found = self.some(PORTS, rule)
         if not found:
             return None
@@ -88,7 +88,7 @@ class Damage:
         return self.replaced(place, rule[:found.start()] + changed + rule[found.end():])
 
     def restated(self, rule, place):
-        """Of another state, of any state, or of one where it was of any."""
+        """Replaces, removes or adds a match on the state."""
         state = self.chance.choice(['', ' -m conntrack --ctstate NEW', ' -m conntrack --ctstate ESTABLISHED',
                                     ' -m conntrack ! --ctstate ESTABLISHED', ' -m conntrack ! --ctstate NEW'])
         before, target = STATE.sub('', rule).split(' -j ')

@@ -1,4 +1,4 @@
-"""Random descriptions of networks, and events that go with them."""
+"""Random descriptions of networks, and events for them."""
 import ipaddress
 import tomllib
 
@@ -10,7 +10,7 @@ LENGTHS = (2, 5, 8, 12, 16, 20, 23, 24, 26, 28, 30, 31, 32, 32, 32)
 
 
 class Network:
-    """A description, as text, with its prefixes."""
+    """A random description and its prefixes."""
 
     def __init__(self, chance, version, most=8):
         self.chance, self.prefixes = chance, []
@@ -44,7 +44,7 @@ class Network:
         return f'name = "{name}"\nat = [{", ".join(chr(34) + str(prefix) + chr(34) for prefix in at)}]'
 
     def prefix(self):
-        """A prefix that shares no address with the others, often the neighbour of one."""
+        """Returns a prefix that is disjoint from the others, often adjacent to one."""
         while True:
             found = ipaddress.ip_network((self.start(), self.chance.choice(LENGTHS)), strict=False)
             first, last = str(found[0]), str(found[-1])
@@ -72,7 +72,7 @@ class Network:
 
 
 class Template:
-    """A table of kinds, of which each denied pair has its partner with the default."""
+    """A custom template: with each denied pair, the pair with the default is denied too."""
 
     def __init__(self, chance, name):
         self.name, self.strategy = name, chance.choice(['access', 'information'])
@@ -93,7 +93,7 @@ class Template:
 
 
 class Traffic:
-    """Random events between the hosts of a description, and others, often of its flows and of the ports beside them."""
+    """Random events between the hosts of a description and others, often of its flows and of adjacent ports."""
 
     def __init__(self, chance, description):
         table = tomllib.loads(description)
@@ -102,7 +102,7 @@ class Traffic:
         self.prefixes = [prefix for at in self.at.values() for prefix in at]
 
     def address(self, prefixes):
-        """An address of these prefixes, often the first or last of one, or one beside it, or any."""
+        """Returns an address of these prefixes, often the first or last of one, an adjacent one, or any other."""
         while True:
             prefix = self.chance.choice(prefixes) if prefixes else ipaddress.ip_network('0.0.0.0/0')
             first, last = int(prefix[0]), int(prefix[-1])
@@ -112,7 +112,7 @@ class Traffic:
                 return address
 
     def events(self, count):
-        """Packets of a few connections at a time, from either end, with forgettings in between."""
+        """Returns packets of a few connections at a time, from either end, with some forget events."""
         addresses = [self.address(self.prefixes) for _ in range(12)]
         talks, events = [], []
         for _ in range(count):
@@ -138,7 +138,7 @@ class Traffic:
         return Event(False, source, destination, protocol, self.ports(protocol, self.chance.choice(PORTS)))
 
     def asked(self):
-        """A packet of an asked flow: of one of its services, or with the port beside it or another protocol."""
+        """Returns a packet of a flow: of one of its services, or with an adjacent port or another protocol."""
         source, destination, *services = self.chance.choice(self.flows)
         name, low, high = spelled(self.chance.choice(services or ['tcp', 'udp', 'icmp']))
         protocol = self.chance.choice([NUMBERS[name]] * 7 + [TCP, UDP])
@@ -148,13 +148,13 @@ class Traffic:
         return Event(False, *ends, protocol, self.ports(protocol, port))
 
     def ports(self, protocol, port):
-        """The ports of a packet to this one."""
+        """Returns the ports of a packet to this port."""
         if protocol == ICMP:
             return port, port
         return (0, 0) if protocol in BARE else (self.chance.choice(PORTS), port)
 
     def astray(self, answer):
-        """The answer from another port, where its protocol has ports."""
+        """Returns the answer from another port, if its protocol has ports."""
         if answer.protocol not in (TCP, UDP):
             return answer
         ports = (answer.ports[0] + self.chance.choice([-1, 1, 1000])) % 2 ** 16, answer.ports[1]

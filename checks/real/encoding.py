@@ -1,8 +1,8 @@
-"""A description and a rules text of iptables, as a question to a solver of bit vectors (SMT-LIB 2).
+"""Encodes a description and an iptables rule set for an SMT solver with bit vectors (SMT-LIB 2).
 
-The question is whether some packet p shows a difference: alone, behind the packet that it answers, or behind itself
-and its answer. Where none does, no list of packets does; that is proved of audits, and taken over here. What is
-permitted, and what is stateful, is read from what `topos policy` prints.
+The question is whether a packet p shows a difference: by itself, after the packet that it answers, or after itself and
+its answer. If none does, no list of packets does; this is proved for audits, and assumed here. The permitted and the
+stateful flows are read from the output of `topos policy`.
 """
 import ipaddress
 import re
@@ -42,7 +42,7 @@ def covered(field, prefix):
 
 
 class Rules:
-    """The chains of a text, each a function from a packet and whether it is established to an outcome."""
+    """The chains of a rule set, each a function from a packet and whether it is established to an outcome."""
 
     def __init__(self, text):
         self.policy, self.chains = {}, {}
@@ -62,7 +62,7 @@ class Rules:
                           f'(or (= (FORWARD {FIELDS} est) {ACCEPTED}){end}))']
 
     def write(self, chain, written):
-        """Each chain behind those that it jumps to."""
+        """Lists each chain after the chains that it jumps to."""
         body = RETURNED
         for words in reversed(self.chains[chain]):
             *_, option, target = words
@@ -106,7 +106,7 @@ class Rules:
 
 
 class Policy:
-    """What `topos policy` says of a description, as functions of a packet."""
+    """The output of `topos policy` for a description, as functions of a packet."""
 
     def __init__(self, description, policy):
         table = tomllib.loads(description)
@@ -121,7 +121,7 @@ class Policy:
                 f'(define-fun stateful ({PACKET}) Bool {self.some(self.stateful)})']
 
     def some(self, flows):
-        """That a packet is of one of these flows, which are told apart by their senders first."""
+        """The packet belongs to one of these flows, grouped by sender."""
         parts = []
         for one in self.at:
             receivers = [self.received(one, other) for sender, other in flows if sender == one]
@@ -135,7 +135,7 @@ class Policy:
         return f'(not {joined("or", [covered(field, prefix) for at in self.at.values() for prefix in at])})'
 
     def pair(self, one, other):
-        """That a packet goes from one owner to another. None owns the addresses of no host."""
+        """The packet is from one owner to another. None owns the addresses of no host."""
         return f'(and {self.owner("source", one)} {self.owner("target", other)})'
 
     def owner(self, field, host):
@@ -153,7 +153,7 @@ class Policy:
 
 
 def differences():
-    """For each kind of list, whether the rules forward its last packet, and what the policy expects."""
+    """Returns for each kind of list whether the rules forward its last packet, and what the policy expects."""
     alone, answers = f'(passes {FIELDS} false)', f'(passes {SWAPPED} false)'
     expected = f'(or (permitted {FIELDS}) (stateful {SWAPPED}))'
     return {'new': (alone, f'(permitted {FIELDS})'),
@@ -167,14 +167,14 @@ def of(policy, rules, asserted):
 
 
 def question(description, policy, rules):
-    """Satisfiable exactly if the rules and the policy differ."""
+    """Satisfiable if and only if the rules and the policy differ."""
     return of(Policy(description, policy), rules,
               joined('or', [f'(distinct {passes} {expected})' for passes, expected in differences().values()]))
 
 
 def question_of_pairs(description, policy, rules, listed):
-    """Satisfiable exactly if a packet differs in a kind of list and a direction that are not listed for its owners.
-    What is listed are the owners of source and destination, the kind, and whether the rules forward or drop."""
+    """Satisfiable if and only if a packet differs in a kind of list and a direction that are not listed for its owners.
+    `listed` has the owners of source and destination, the kind, and whether the rules forward or drop."""
     policy, parts = Policy(description, policy), []
     for kind, (passes, expected) in differences().items():
         for direction, differs in (('forward', f'(and {passes} (not {expected}))'),

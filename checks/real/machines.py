@@ -1,13 +1,13 @@
-"""The machines of hosts, each a network namespace with tracked connections, and the wire that joins them.
+"""The machines of hosts, each a network namespace with tracked connections, and the wire between them.
 
-A machine has one interface, of the kind TUN. What a raw socket of the machine sends goes through OUTPUT and comes out
-of the interface; what is put into the interface goes through INPUT, whatever its receiver is, and the raw sockets of
-the machine get what was let in. The wire between the interfaces is this process: it carries every packet to the
-machine of its receiver and enforces nothing. A marker of IPv6, which no rule sees, follows each packet: once it has
-arrived, what has not arrived before was dropped.
+A machine has one TUN interface. Packets from a raw socket of the machine traverse OUTPUT and leave by the interface.
+Packets that are written to the interface traverse INPUT for any receiver, and the raw sockets of the machine receive
+those that are accepted. The wire between the interfaces is this process: it carries every packet to the machine of its
+receiver and enforces nothing. An IPv6 marker, which no rule matches, follows each packet. A packet that has not arrived
+before the marker was dropped.
 
-The kernel of a machine would answer by itself, with a reset of TCP or an error of ICMP. Such packets lack the mark that
-those of the raw socket have, and are dropped before they are tracked.
+The kernel of a machine would answer by itself, with a TCP reset or an ICMP error. These packets do not have the mark of
+the raw socket, and are dropped before they are tracked.
 """
 import ctypes
 import os
@@ -34,7 +34,7 @@ SETTINGS = {
 
 
 class Machine:
-    """The process moves into the namespace of the machine that it works on."""
+    """The process moves into the namespace of the machine in use."""
 
     def __init__(self, back_end):
         self.restore = f'iptables-{back_end}-restore'
@@ -78,7 +78,7 @@ class Machine:
         forget(event)
 
     def send(self, packet, receiver):
-        """The packets of IPv4 that are on the wire once the machine was to send this one."""
+        """Sends a packet from the machine, and returns the IPv4 packets on the wire."""
         try:
             self.sender.sendto(packet, (receiver, 0))
         except PermissionError:
@@ -94,7 +94,7 @@ class Machine:
                 return sent
 
     def take(self, packet):
-        """The packets that the machine lets in once this one is there."""
+        """Writes a packet to the interface, and returns the packets that the machine accepts."""
         os.write(self.wire, packet)
         os.write(self.wire, MARKER[:6] + bytes([MARKING]) + MARKER[7:])
         await_one(self.marker)
@@ -105,7 +105,7 @@ class Machine:
 def await_one(source):
     ready, _, _ = select.select([source], [], [], PATIENCE)
     if not ready:
-        raise Failed('no packet of IPv6, which marks the end, comes through a machine')
+        raise Failed('a machine does not pass on the IPv6 marker')
 
 
 def waiting(receiver):
@@ -121,7 +121,7 @@ def library():
 
 
 class Machines:
-    """As many machines as a description of this mode has hosts, used again for each."""
+    """A machine for each host of a description, reused for the next description."""
 
     def __init__(self, back_end, count):
         self.back_end, self.all = back_end, [Machine(back_end) for _ in range(count)]
@@ -130,7 +130,7 @@ class Machines:
         return f'{self.all[0].version()}, {len(self.all)} machines'
 
     def load(self, texts):
-        """One text for each host in the order of the description, nothing for one that enforces nothing."""
+        """Loads the rules of each host in the order of the description; None for a host that enforces nothing."""
         self.there = {host: machine for host, machine in enumerate(self.all[:len(texts)]) if texts[host]}
         for host, machine in self.there.items():
             machine.load(texts[host])
@@ -144,7 +144,7 @@ class Machines:
             machine.forget(event)
 
     def pass_on(self, packet, event, sender, receiver):
-        """What arrives of a packet between two hosts; an end that has no machine enforces nothing."""
+        """Sends a packet between two hosts, and returns what arrives. An end without a machine enforces nothing."""
         carried = [packet]
         if sender in self.there:
             carried = self.there[sender].send(packet, event.destination)

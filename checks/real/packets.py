@@ -1,8 +1,8 @@
-"""Packets of IPv4, as real machines send them for the events of a trace.
+"""IPv4 packets as real machines send them, for the events of a trace.
 
-An event tells addresses, protocol and ports. What else stands in the packet depends on what its connection has
-seen: who opens it with TCP sends a SYN and is answered with SYN and ACK, who opens it with ICMP sends an echo
-request and is answered with an echo reply. `Conversations` keeps that in mind from what really arrived.
+An event has addresses, a protocol and ports. The rest of the packet depends on the state of its connection: TCP opens
+with SYN and the answer is SYN and ACK, ICMP opens with an echo request and the answer is an echo reply. `Conversations`
+tracks this state by the packets that arrived.
 """
 import ipaddress
 import struct
@@ -10,13 +10,13 @@ import zlib
 
 NUMBERS = {'icmp': 1, 'tcp': 6, 'udp': 17}
 ICMP, TCP, UDP = 1, 6, 17
-BARE = (50, 89, 253)  # protocols without ports, which the kernel tells apart by addresses alone
+BARE = (50, 89, 253)  # protocols without ports, which the kernel distinguishes only by addresses
 SYN, ACK = 0x02, 0x10
 REPLY, REQUEST = 0, 8
 
 
 class Event:
-    """A packet that is sent, or a connection that is forgotten."""
+    """A packet that is sent, or a connection that is removed."""
 
     def __init__(self, forgets, source, destination, protocol, ports):
         self.forgets, self.source, self.destination = forgets, source, destination
@@ -46,7 +46,7 @@ class Event:
         return self.protocol, *ends
 
     def why_not_sent(self):
-        """Why such a packet cannot be sent here; nothing where it can."""
+        """Returns why the packet cannot be sent here; None if it can."""
         if not all(is_routed(address) for address in (self.source, self.destination)):
             return 'a kernel forwards no packets from or to such an address'
         if self.protocol == ICMP and self.ports[0] != self.ports[1]:
@@ -75,7 +75,7 @@ def checksum(content):
 
 
 def header(event, length, number, hops=64):
-    """The header of IPv4; `number` tells the packets of one run apart."""
+    """Returns the IPv4 header; `number` identifies the packet within a run."""
     parts = [0x45, 0, 20 + length, number, 0x4000, hops, event.protocol]
     ends = bytes_of(event.source) + bytes_of(event.destination)
     sum_ = checksum(struct.pack('!BBHHHBBH', *parts, 0) + ends)
@@ -83,14 +83,14 @@ def header(event, length, number, hops=64):
 
 
 def with_sum(event, head, place, rest):
-    """The content of TCP or UDP with its checksum, which counts the addresses."""
+    """Returns the content of TCP or UDP with its checksum, which covers the addresses."""
     content = head + rest
     pseudo = bytes_of(event.source) + bytes_of(event.destination) + struct.pack('!BBH', 0, event.protocol, len(content))
     return content[:place] + struct.pack('!H', checksum(pseudo + content) or 0xffff) + content[place + 2:]
 
 
 class Conversations:
-    """Who opened each connection, and whether it was answered."""
+    """The opener of each connection, and whether it was answered."""
 
     def __init__(self):
         self.opened = {}
@@ -113,7 +113,7 @@ class Conversations:
         return b'text'
 
     def saw(self, event, forwarded):
-        """What the box learns of a packet, forwarded or not."""
+        """Updates the state of the connection after a packet that was forwarded or dropped."""
         opener, _ = self.opened.get(event.connection(), (None, False))
         if opener is None and forwarded:
             self.opened[event.connection()] = event.opener(), False
@@ -125,7 +125,7 @@ class Conversations:
 
 
 def segment(event, opens, answered):
-    """A segment of TCP. Half of the connections are seen from their beginning on, half from their middle."""
+    """Returns a TCP segment. Half of the connections start with SYN, half in their middle."""
     whole = zlib.crc32(repr(event.connection()).encode()) % 2
     if not whole or answered:
         flags = ACK
@@ -140,6 +140,6 @@ def segment(event, opens, answered):
 
 
 def is_same(sent, arrived):
-    """Whether it is the same packet, perhaps one hop further."""
+    """Whether it is the same packet, possibly one hop later."""
     rest = [packet[:8] + packet[9:10] + packet[12:] for packet in (sent, arrived)]
     return rest[0] == rest[1] and arrived[8] in (sent[8], sent[8] - 1)  # a switch is no hop

@@ -1,4 +1,4 @@
-"""What a policy and its answers expect of packets, by what `topos policy` prints and the services of a network."""
+"""The verdicts that a policy expects, by the output of `topos policy` and the services of a network."""
 import ipaddress
 import tomllib
 
@@ -7,7 +7,7 @@ from services import spelled
 
 
 class Policy:
-    """Which packets are expected to pass along a list of events, said without rules and without connections."""
+    """The packets of a list of events that are expected to pass, defined without rules and connections."""
 
     def __init__(self, description, printed):
         table = tomllib.loads(description)
@@ -25,7 +25,7 @@ class Policy:
         self.seen = set()
 
     def owner(self, address):
-        """The number of the host that has an address, or nothing."""
+        """Returns the number of the host that has an address, or None."""
         address = ipaddress.ip_address(address)
         for place, prefixes in enumerate(self.at):
             if any(address in prefix for prefix in prefixes):

@@ -1,7 +1,7 @@
-"""What an audit tells, as packets that a kernel can be sent.
+"""The packets of an audit report, as packets that can be sent through a kernel.
 
-An audit tells the least packet of a class, and all packets of a class are treated alike. Where a kernel forwards no
-packets from or to its address, or no machine sends its protocol, another packet of the class is sent.
+An audit reports the smallest packet of an equivalence class. If a kernel forwards no packets from or to its address, or
+no machine sends its protocol, another packet of the class is sent.
 """
 import ipaddress
 import re
@@ -12,7 +12,7 @@ FIRST_ROUTED = [int(ipaddress.ip_address(address)) for address in ('1.0.0.0', '1
 
 
 class Replay:
-    """Made of the prefixes of a description and of the rules text beside it."""
+    """Selects packets by the prefixes of a description and by a rule set."""
 
     def __init__(self, prefixes, text):
         named = [ipaddress.ip_network(found, strict=False) for found in re.findall(r' -[sd] (\S+)', text)]
@@ -20,7 +20,7 @@ class Replay:
         self.protocols = {NUMBERS.get(name) or int(name) for name in re.findall(r' -p (\S+)', text)}
 
     def events(self, report):
-        """The packets of the report, and whether the rules forward the last one."""
+        """Returns the packets of the report, and whether the rules forward the last one."""
         _, *packets, end = report.splitlines()
         return [self.sent(Event.read(line)) for line in packets], end == 'text forwards'
 
@@ -30,7 +30,7 @@ class Replay:
         return Event(False, *ends, BARE[-1] if bare else event.protocol, event.ports)
 
     def routed(self, address):
-        """The least routed address of the class of this one, or itself where there is none."""
+        """Returns the smallest routed address of the class of this one, or itself if there is none."""
         number = int(ipaddress.ip_address(address))
         behind = [first for first in FIRST_ROUTED if first > number]
         if is_routed(address) or not behind or any(number < cut <= behind[0] for cut in self.cuts):

@@ -1,11 +1,11 @@
-"""Random flows of version 2, and what their services say."""
+"""Random flows of version 2, and the meaning of their services."""
 PORTS = (0, 1, 22, 80, 443, 50000, 65535)
 WHOLE = ('icmp', 'tcp', 'udp')
 MOST = 16  # services of a flow
 
 
 class Flows:
-    """Flows between hosts of these names, with services of a few that come again and again in a network.
+    """Flows between hosts of these names, with services of a short list for the whole network.
 
     Of each style are some: any services; those that a switch can do where there are no answers, which are single
     ports; and those that it can do with answers, where the way back has every port of each protocol.
@@ -26,7 +26,7 @@ class Flows:
         return [(a, b, self.some(menu, self.chance.choice([0, 1, 2, 4]))) for a, b in self.pairs]
 
     def covered(self):
-        """Pairs with their way back: both whole, or with the same protocols whole, and single ports of these."""
+        """Returns pairs in both directions: unrestricted, or with the same protocols, and single ports of these."""
         listed = []
         for a, b in sorted({tuple(sorted(pair)) for pair in self.pairs}):
             both = self.chance.sample(WHOLE, self.chance.choice([0, 1, 2, 3]))
@@ -52,7 +52,7 @@ class Flows:
         return f'{protocol or self.protocol()}/{self.number()}'
 
     def ranged(self):
-        """Often all ports but one, or but none, and often two."""
+        """Returns a range of ports: often all except one, all, or two."""
         low, high = sorted((self.number(), self.number()))
         low, high = self.chance.choice([(low, high), (low, low + 5), (low, low + 1), (0, high), (low, 65535)])
         return self.ranged() if not low < high < 2 ** 16 else f'{self.protocol()}/{low}-{high}'
@@ -64,7 +64,7 @@ class Flows:
 
 
 def spelled(service):
-    """The name of a service's protocol, and its first and last port."""
+    """Returns the name of a service's protocol, and its first and last port."""
     protocol, _, ports = service.partition('/')
     low, _, high = ports.partition('-')
     return (protocol, int(low), int(high or low)) if ports else (protocol, 0, 65535)

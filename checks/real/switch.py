@@ -1,4 +1,4 @@
-"""A bridge of Open vSwitch in a folder of its own, with ports that are none of the machine's."""
+"""A bridge of a separate Open vSwitch in a folder, without ports of the machine."""
 import json
 import os
 import socket
@@ -15,7 +15,7 @@ PATIENCE, AT_ONCE = 10.0, 30
 
 
 class Switch:
-    """The bridge `br0`: frames go in at `p1`, and what is forwarded comes out at `p2`."""
+    """The bridge `br0`: frames enter at `p1`, and forwarded frames leave at `p2`."""
 
     def __init__(self, folder):
         self.folder, self.daemons, self.read = folder, [], 0
@@ -74,7 +74,7 @@ class Switch:
         return self.run('ovs-vswitchd', '--version').splitlines()[0]
 
     def load(self, path):
-        """Loads a flow text in place of all flows, and returns what differs between it and the flows then."""
+        """Replaces all flows by those of a file, and returns the differences between the file and the loaded flows."""
         self.run('ovs-ofctl', '-O', 'OpenFlow14', '--bundle', 'replace-flows', 'br0', path)
         return self.run('ovs-ofctl', 'diff-flows', 'br0', path)
 
@@ -83,12 +83,12 @@ class Switch:
         return ''.join(line for line in lines if 'actions=' in line)
 
     def forwards(self, frame):
-        """Whether a frame, by its fields, would be forwarded."""
+        """Whether the bridge would forward a frame with these fields."""
         told = self.run('ovs-appctl', '-t', self.control, 'ofproto/trace', 'br0', f'in_port=1,{frame}')
         return 'Datapath actions: drop' not in told
 
     def send(self, packets):
-        """The packets that come out once these went in. A frame of ARP, which the flows let pass, marks the end."""
+        """Sends packets, and returns those that are forwarded. An ARP frame, which the flows forward, marks the end."""
         arrived = []
         with socket.socket(socket.AF_UNIX) as control:
             control.connect(self.control)
@@ -128,7 +128,7 @@ class Switch:
         raise Failed('no frame of ARP, which marks the end, comes out of the switch')
 
     def frames(self):
-        """The frames that came out since the last time; none while one is being written."""
+        """Returns the frames that left since the last call; none while one is being written."""
         with open(self.out, 'rb') as file:
             content = file.read()
         frames, place = [], max(self.read, 24)

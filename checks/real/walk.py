@@ -1,4 +1,4 @@
-"""What the rules of an iptables-save text do with a packet: an interpreter of its own, by iptables(8)."""
+"""The verdict of a rule set of iptables-save on a packet: an independent interpreter, by iptables(8)."""
 import ipaddress
 
 from packets import NUMBERS
@@ -8,7 +8,7 @@ ENDS = {'ACCEPT': True, 'DROP': False, 'REJECT': False}
 
 
 def packet_of(event):
-    """The numbers of a packet."""
+    """Returns the fields of a packet as numbers."""
     ends = int(ipaddress.ip_address(event.source)), int(ipaddress.ip_address(event.destination))
     return dict(zip(FIELDS, (*ends, event.protocol, *event.ports)))
 
@@ -49,7 +49,7 @@ class Rule:
 
 
 class Chains:
-    """The chains of a text, with the numbers of their rules as `iptables -L --line-numbers` prints them."""
+    """The chains of a rule set, with rules numbered as in `iptables -L --line-numbers`."""
 
     def __init__(self, text):
         self.policy, self.rules = {}, {}
@@ -62,7 +62,7 @@ class Chains:
                 self.rules[chain].append(Rule(words))
 
     def walk(self, chain, packet, state, met):
-        """The verdict and the rule that decides; nothing if the chain returns. Adds the rules that fit to `met`."""
+        """Returns the verdict and the rule that decides; None if the chain returns. Adds matching rules to `met`."""
         for number, rule in enumerate(self.rules[chain], start=1):
             if not rule.matches(packet, state):
                 continue
@@ -86,6 +86,6 @@ class Chains:
                 if field == 'protocol'}
 
     def cuts(self, *fields):
-        """The first numbers of ranges, and the first ones after them."""
+        """Returns the first number of each range, and the first one after it."""
         return {end for rules in self.rules.values() for rule in rules for field, low, high, _ in rule.parts
                 if field in fields for end in (low, high + 1)}
