@@ -5,7 +5,7 @@ use Rattle.std.proofs.lemmas.List.{take-append-le}
 use Rattle.std.proofs.lemmas.Option.{slice_get_within}
 use Rattle.std.specs.Prelude.{if◌then◌else◌, IsSomeAnd}
 use Rattle.attr_core.specs.Assigns.{Given}
-use Rattle.attr_core.specs.inner.FirstBad.{IsFirstBad, NoneIsBad, TellsFirstBad}
+use Rattle.attr_core.specs.inner.FirstBad.{IsFirstBad, NoneIsBad, IsFirstBadOrNone}
 use Rattle.attr_core.specs.Forms.{bad_from}
 
 -- One more that specifies something.
@@ -74,21 +74,21 @@ said_good o x Bad is silent bad = let never : Some x ≡ None = sym is ∙ silen
 look_at : {A : Type 0} (says : List Given → Given → Option A) (IsBad : List Given → Given → Type 0) (earlier : List Given) (a : Given) (rest : List Given) (o : Option A)
     → AreSilent says IsBad → says earlier a ≡ o → bad_from says [] earlier ≡ None → NoneIsBad IsBad earlier
     → (bad_from says [] (earlier ++ a ∷ []) ≡ None → NoneIsBad IsBad (earlier ++ a ∷ [])
-    → TellsFirstBad IsBad ((earlier ++ a ∷ []) ++ rest) (bad_from says (earlier ++ a ∷ []) rest))
-    → TellsFirstBad IsBad (earlier ++ a ∷ rest) (if is_some o then bad_from says (earlier ++ a ∷ []) rest else Some (length earlier))
+    → IsFirstBadOrNone IsBad ((earlier ++ a ∷ []) ++ rest) (bad_from says (earlier ++ a ∷ []) rest))
+    → IsFirstBadOrNone IsBad (earlier ++ a ∷ rest) (if is_some o then bad_from says (earlier ++ a ∷ []) rest else Some (length earlier))
 look_at says IsBad earlier a rest None law is none good behind = first_here IsBad earlier a rest good ((law earlier a none).0 is)
 look_at says IsBad earlier a rest (Some x) law is none good behind =
-    subst (λ all. TellsFirstBad IsBad all (bad_from says (earlier ++ a ∷ []) rest)) (append_assoc earlier (a ∷ []) rest)
+    subst (λ all. IsFirstBadOrNone IsBad all (bad_from says (earlier ++ a ∷ []) rest)) (append_assoc earlier (a ∷ []) rest)
     (behind (bad_from_more says [] earlier a none (ap is_some is)) (none_more IsBad earlier a good (said_good (says earlier a) x (IsBad earlier a) is (law earlier a none).1)))
 
 told_from : {A : Type 0} (says : List Given → Given → Option A) (IsBad : List Given → Given → Type 0) (earlier rest : List Given)
     → AreSilent says IsBad
-    → bad_from says [] earlier ≡ None → NoneIsBad IsBad earlier → TellsFirstBad IsBad (earlier ++ rest) (bad_from says earlier rest)
+    → bad_from says [] earlier ≡ None → NoneIsBad IsBad earlier → IsFirstBadOrNone IsBad (earlier ++ rest) (bad_from says earlier rest)
 told_from says IsBad earlier [] law none good = subst (λ all. NoneIsBad IsBad all) (sym (append-nil earlier)) good
 told_from says IsBad earlier (a ∷ rest) law none good =
     look_at says IsBad earlier a rest (says earlier a) law refl none good (λ still more. told_from says IsBad (earlier ++ a ∷ []) rest law still more)
 
 pub first_told : {A : Type 0} (says : List Given → Given → Option A) (IsBad : List Given → Given → Type 0) → AreSilent says IsBad
     → (assigns : List Given)
-    → TellsFirstBad IsBad assigns (bad_from says [] assigns)
+    → IsFirstBadOrNone IsBad assigns (bad_from says [] assigns)
 first_told says IsBad law assigns = told_from says IsBad [] assigns law refl (λ k a there bad. cc)

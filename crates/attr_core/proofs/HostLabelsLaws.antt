@@ -10,7 +10,7 @@ use Rattle.inv_any.specs.declared.any_inv.AnyInv.TheVariants as any
 use Rattle.tmpl_levels.specs.Tainting.{untainted}
 use Rattle.tmpl_levels.specs.declared.tainting.Labels.{Labels}
 use Rattle.attr_core.specs.Assigns.{Given}
-use Rattle.attr_core.specs.Forms.{attributes_in, bad_assign, bad_from, last_said, says}
+use Rattle.attr_core.specs.Forms.{attributes_in, bad_assign, bad_from, last_assigned, says}
 use Rattle.attr_core.specs.laws.FormLaws.{attribute_at}
 use Rattle.attr_core.specs.inner.LabelBits.{HasItsLabels, HasListed, HaveTheirLabels, assign_of}
 use Rattle.attr_core.specs.laws.LabelBitsLaws.{Extends, bits_mark, extends_both, extends_self, keeps_place, place_of}
@@ -108,7 +108,7 @@ good_here (Some x) later n good = (x, refl, good)
 
 hosts_said : (hosts : List Host) (all : List (List ℕ)) (earlier : List Given) (host : ℕ) (rest : List Given)
     → Extends all (labels_of (earlier ++ rest)) → bad_from (says tainting_form hosts) earlier rest ≡ None
-    → IsSaid all (last_said (λ before a. Some a) earlier host rest) (last_said (says tainting_form hosts) earlier host rest)
+    → IsSaid all (last_assigned (λ before a. Some a) earlier host rest) (last_assigned (says tainting_form hosts) earlier host rest)
 hosts_said hosts all earlier host [] extends good = tt
 hosts_said hosts all earlier host (a ∷ rest) extends good =
     let said : Option Labels = says tainting_form hosts earlier a in
@@ -118,8 +118,8 @@ hosts_said hosts all earlier host (a ∷ rest) extends good =
     let here : Extends all (labels_of (earlier ++ a ∷ [])) =
     extends_both all (labels_of ((earlier ++ a ∷ []) ++ rest)) (labels_of (earlier ++ a ∷ [])) whole (labels_extend (earlier ++ a ∷ []) rest) in
     let reads = (here_by (of_shape a.table (host_key ∷ tainting_form.keys)) (tainting_form.reads hosts earlier a) x is).1 in
-    last_is all (last_said (λ before b. Some b) (earlier ++ a ∷ []) host rest) (if a.host == host then Some a else None)
-    (last_said (says tainting_form hosts) (earlier ++ a ∷ []) host rest) (if a.host == host then said else None)
+    last_is all (last_assigned (λ before b. Some b) (earlier ++ a ∷ []) host rest) (if a.host == host then Some a else None)
+    (last_assigned (says tainting_form hosts) (earlier ++ a ∷ []) host rest) (if a.host == host then said else None)
     (hosts_said hosts all (earlier ++ a ∷ []) host rest whole behind)
     (here_said all (a.host == host) a said x is (assign_has all earlier a x here reads))
 
@@ -134,7 +134,7 @@ tainted : (hosts : List Host) (assigns : List Given) → bad_assign tainting_for
 unfolding HaveTheirLabels
 tainted hosts assigns good host within =
     let n : ℕ = length hosts in
-    let last : ℕ → Option Labels = λ i. last_said (says tainting_form hosts) [] i assigns in
+    let last : ℕ → Option Labels = λ i. last_assigned (says tainting_form hosts) [] i assigns in
     let below : host < n = subst (λ m. host < m) (length-map-range_with_len (λ i. unwrap_or (last i) untainted) 0 n) within in
     subst (HasItsLabels (labels_of assigns) (assign_of assigns host))
     (sym (attribute_at (says tainting_form hosts) (λ i. untainted) n assigns host untainted below))

@@ -37,7 +37,7 @@ use Rattle.toml.specs.Data.{Data, Members, as_str}
 use Rattle.attr_core.specs.Assigns.{Given}
 use Rattle.attr_core.specs.Domains.{domains_attribute, domains_form}
 use Rattle.attr_core.specs.laws.FormLaws.{attribute_at}
-use Rattle.attr_core.specs.Forms.{Form, attributes_in, last_said, says}
+use Rattle.attr_core.specs.Forms.{Form, attributes_in, last_assigned, says}
 use Rattle.attr_core.specs.inner.MayHave.{SaysWhatHostsMayHave, domains_listed, known_host, master_listed, noreach_listed, partner_listed, partners_listed}
 use Rattle.attr_core.specs.NoReach.{all_denied, noreach_attribute, noreach_form}
 use Rattle.attr_core.specs.OwnTables.{Declared, kind_numbered, table_form}
@@ -383,10 +383,10 @@ here_by false o x is = cc
 
 last_said_is : {A : Type 0} (says : List Given → Given → Option A) (P : ℕ → A → Type 0)
     → ((earlier : List Given) (a : Given) (x : A) → says earlier a ≡ Some x → P a.host x)
-    → (earlier : List Given) (host : ℕ) (rest : List Given) (x : A) → last_said says earlier host rest ≡ Some x → P host x
+    → (earlier : List Given) (host : ℕ) (rest : List Given) (x : A) → last_assigned says earlier host rest ≡ Some x → P host x
 last_said_is says P each earlier host [] x is = cc
 last_said_is says P each earlier host (a ∷ rest) x is =
-    elim (or_some (last_said says (earlier ++ a ∷ []) host rest) (if a.host == host then says earlier a else None) x is) [
+    elim (or_some (last_assigned says (earlier ++ a ∷ []) host rest) (if a.host == host then says earlier a else None) x is) [
       | inl later ↦ last_said_is says P each (earlier ++ a ∷ []) host rest x later
       | inr here ↦
           let (same, said) = here_by (a.host == host) (says earlier a) x here in
@@ -403,7 +403,7 @@ pub AllMayHave-attributes : (form : Form) → MayHaveDefault form.template
     → (hosts : List Host) (assigns : List Given) → AllMayHave form.template (attributes_in form hosts assigns)
 AllMayHave-attributes form default each hosts assigns host within =
     let n : ℕ = length hosts in
-    let last : ℕ → Option form.template.Attribute = λ i. last_said (says form hosts) [] i assigns in
+    let last : ℕ → Option form.template.Attribute = λ i. last_assigned (says form hosts) [] i assigns in
     let xs : List form.template.Attribute = attributes_in form hosts assigns in
     let sized : length xs ≡ n = length-map-range_with_len (λ i. unwrap_or (last i) (form.template.default n i)) 0 n in
     let below : host < n = subst (λ m. host < m) sized within in

@@ -7,36 +7,36 @@ use Rattle.inv_any.specs.declared.any_inv.AnyInv.TheVariants as any
 use Rattle.attr_core.specs.Assigns.{Given}
 use Rattle.attr_core.specs.inner.Bad.{bad_alone, first_failing}
 use Rattle.attr_core.specs.OwnTables.{Declared, table_form}
-use Rattle.attr_core.specs.inner.OwnTablesWalk.{kind_said, kinds_after}
+use Rattle.attr_core.specs.inner.OwnTablesWalk.{kind_of_assign, kinds_after}
 use Rattle.attr_core.specs.laws.FormLaws.{set_all, set_all_assigned, set_said}
 use Rattle.attr_core.specs.Forms.{assigned, attributes_in, bad_assign, invariant_by, says}
 use Rattle.attr_core.specs.inner.Walks.{same_everywhere}
 
-says_kind : (d : Declared) (hosts : List Host) (earlier : List Given) (a : Given) → says (table_form d) hosts earlier a ≡ kind_said d.words a.table
-unfolding kind_said
+says_kind : (d : Declared) (hosts : List Host) (earlier : List Given) (a : Given) → says (table_form d) hosts earlier a ≡ kind_of_assign d.words a.table
+unfolding kind_of_assign
 says_kind d hosts earlier a = refl
 
-says_is : (d : Declared) (hosts : List Host) → says (table_form d) hosts ≡ (λ earlier a. kind_said d.words a.table)
+says_is : (d : Declared) (hosts : List Host) → says (table_form d) hosts ≡ (λ earlier a. kind_of_assign d.words a.table)
 says_is d hosts = λ i earlier a. says_kind d hosts earlier a i
 
 -- The first bad assign is the first that specifies no kind.
 pub bad_kinds : (d : Declared) (hosts : List Host) (assigns : List Given)
-    → bad_assign (table_form d) hosts assigns ≡ first_failing (λ a. is_some (kind_said d.words a.table)) 0 assigns
+    → bad_assign (table_form d) hosts assigns ≡ first_failing (λ a. is_some (kind_of_assign d.words a.table)) 0 assigns
 bad_kinds d hosts assigns =
     bad_alone (says (table_form d) hosts) (λ earlier a. says_kind d hosts earlier a ∙ sym (says_kind d hosts [] a)) 0 [] assigns refl
     ∙ ap (λ (test : Given → Bool). first_failing test 0 assigns) (λ i a. is_some (says_kind d hosts [] a i))
 
 after_all : (words : List (List ℕ)) (earlier : List Given) (xs : List ℕ) (rest : List Given)
-    → kinds_after words xs rest ≡ set_all (λ before a. kind_said words a.table) earlier xs rest
+    → kinds_after words xs rest ≡ set_all (λ before a. kind_of_assign words a.table) earlier xs rest
 after_all words earlier xs [] = refl
-after_all words earlier xs (a ∷ rest) = after_all words (earlier ++ a ∷ []) (set_said xs a.host (kind_said words a.table)) rest
+after_all words earlier xs (a ∷ rest) = after_all words (earlier ++ a ∷ []) (set_said xs a.host (kind_of_assign words a.table)) rest
 
 -- The invariant of the kinds after all assigns.
 pub made_of_kinds : (d : Declared) (hosts : List Host) (assigns : List Given)
     → any.Table (record { table = d.table; hosts = kinds_after d.words (replicate (length hosts) d.table.default) assigns })
     ≡ invariant_by (table_form d) hosts assigns
 made_of_kinds d hosts assigns =
-    let said = λ (before : List Given) (a : Given). kind_said d.words a.table in
+    let said = λ (before : List Given) (a : Given). kind_of_assign d.words a.table in
     let kinds : kinds_after d.words (replicate (length hosts) d.table.default) assigns ≡ attributes_in (table_form d) hosts assigns =
     after_all d.words [] (replicate (length hosts) d.table.default) assigns
     ∙ ap (λ xs. set_all said [] xs assigns) (same_everywhere d.table.default (length hosts))

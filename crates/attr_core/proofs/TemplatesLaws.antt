@@ -8,8 +8,8 @@ use Rattle.attr_core.specs.inner.AssignView.{Reads}
 use Rattle.attr_core.specs.Assigns.{Given}
 use Rattle.attr_core.specs.laws.FormLaws.{bad_within}
 use Rattle.attr_core.proofs.FirstBadLaws.{first_told}
-use Rattle.attr_core.specs.Forms.{Form, attributes_in, bad_assign, last_said, says}
-use Rattle.attr_core.specs.inner.FirstBad.{BlamesFirstBad, SaysNothing, TellsFirstBad}
+use Rattle.attr_core.specs.Forms.{Form, attributes_in, bad_assign, last_assigned, says}
+use Rattle.attr_core.specs.inner.FirstBad.{BlamesFirstBad, SaysNothing, IsFirstBadOrNone}
 use Rattle.attr_core.specs.inner.Walks.{ended}
 use Rattle.attr_core.specs.declared.fault.AttrFault.{AttrFault}
 use Rattle.attr_core.specs.declared.fault.AttrFault.TheVariants.{BadAttribute, Memory}
@@ -63,7 +63,7 @@ pub invariant_sized : (hosts : List Host) (t : Template) (assigns : List Given)
     → (meaning_of (invariant_in hosts t assigns)).size ≡ length hosts
 invariant_sized hosts t assigns =
     ap (λ m. m.size) (invariant_means hosts t assigns)
-    ∙ length-map-range_with_len (λ host. unwrap_or (last_said (says (form t) hosts) [] host assigns) ((form t).template.default (length hosts) host)) 0 (length hosts)
+    ∙ length-map-range_with_len (λ host. unwrap_or (last_assigned (says (form t) hosts) [] host assigns) ((form t).template.default (length hosts) host)) 0 (length hosts)
 
 -- The first bad assign is one of the given assigns.
 pub bad_given : (hosts : List Host) (t : Template) (assigns : List Given) (k : ℕ) → bad_in hosts t assigns ≡ Some k → k < length assigns
@@ -100,15 +100,15 @@ fault_of hosts t assigns (Err (BadAttribute j)) is k blamed =
 fault_of hosts t assigns (Err Memory) is k blamed = cc
 
 silent_told : (f : Form) (hosts : List Host) (assigns : List Given)
-    → TellsFirstBad (SaysNothing f hosts) assigns (bad_assign f hosts assigns)
+    → IsFirstBadOrNone (SaysNothing f hosts) assigns (bad_assign f hosts assigns)
 silent_told f hosts assigns = first_told (says f hosts) (SaysNothing f hosts) (λ earlier a none. (λ is. is, λ is. is)) assigns
 
 pub blames : (hosts : List Host) (t : Template) (assigns : List Given) (r : Result AnyInv AttrFault) → Reads r (read_in hosts t assigns)
     → BlamesFirstBad (SaysNothing (form t) hosts) assigns r
 blames hosts t assigns (Ok inv) is =
-    subst (TellsFirstBad (SaysNothing (form t) hosts) assigns)
+    subst (IsFirstBadOrNone (SaysNothing (form t) hosts) assigns)
     (sym (bad_is hosts t assigns) ∙ none_of hosts t assigns (Ok inv) is) (silent_told (form t) hosts assigns)
 blames hosts t assigns (Err (BadAttribute k)) is =
-    subst (TellsFirstBad (SaysNothing (form t) hosts) assigns)
+    subst (IsFirstBadOrNone (SaysNothing (form t) hosts) assigns)
     (sym (bad_is hosts t assigns) ∙ fault_of hosts t assigns (Err (BadAttribute k)) is k refl) (silent_told (form t) hosts assigns)
 blames hosts t assigns (Err Memory) is = tt

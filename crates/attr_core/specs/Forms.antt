@@ -23,14 +23,14 @@ abbrev pub says : (form : Form) → List Host → List Given → Given → Optio
 says form hosts earlier a = if of_shape a.table (host_key ∷ form.keys) then form.reads hosts earlier a else None
 
 -- The attribute of the last assign for the host.
-abbrev pub last_said : {A : Type 0} → (List Given → Given → Option A) → List Given → ℕ → List Given → Option A
-last_said says earlier host [] = None
-last_said says earlier host (a ∷ rest) =
-    option_or (last_said says (earlier ++ a ∷ []) host rest) (if a.host == host then says earlier a else None)
+abbrev pub last_assigned : {A : Type 0} → (List Given → Given → Option A) → List Given → ℕ → List Given → Option A
+last_assigned says earlier host [] = None
+last_assigned says earlier host (a ∷ rest) =
+    option_or (last_assigned says (earlier ++ a ∷ []) host rest) (if a.host == host then says earlier a else None)
 
 -- The attributes of n hosts: each has the attribute of the last assign for it, or its default.
 abbrev pub assigned : {A : Type 0} → (List Given → Given → Option A) → (ℕ → A) → ℕ → List Given → List A
-assigned says default n assigns = map (λ host. unwrap_or (last_said says [] host assigns) (default host)) (range_with_len 0 n)
+assigned says default n assigns = map (λ host. unwrap_or (last_assigned says [] host assigns) (default host)) (range_with_len 0 n)
 
 -- The number, from 0, of the first assign that specifies no attribute. The earlier assigns are not checked.
 abbrev pub bad_from : {A : Type 0} → (List Given → Given → Option A) → List Given → List Given → Option ℕ

@@ -2,7 +2,7 @@
 ghost use Rattle.std.specs.Prelude.{◌≡◌};
 
 use crate::assign::Assign;
-use crate::assigned::Assigned;
+use crate::attribute_table::AttributeTable;
 use crate::shapes::{HOST, of_shape};
 use host_net::Hosts;
 use inv_any::AnyInv;
@@ -18,7 +18,7 @@ const KEYS: [Key; 3] = [
     Key::Optional("trusted", Kind::Boolean),
 ];
 
-impl Assigned for Blp {
+impl AttributeTable for Blp {
     ghost use Rattle.attr_core.specs.Blp.{blp_form};
 
     ghost form = { blp_form };

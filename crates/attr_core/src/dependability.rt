@@ -2,7 +2,7 @@
 ghost use Rattle.std.specs.Prelude.{◌≡◌};
 
 use crate::assign::Assign;
-use crate::assigned::Assigned;
+use crate::attribute_table::AttributeTable;
 use crate::shapes::{HOST, of_shape};
 use host_net::Hosts;
 use inv_any::AnyInv;
@@ -13,7 +13,7 @@ use toml::Table;
 
 const KEYS: [Key; 2] = [HOST, Key::Needed("limit", Kind::Number(u16::MAX))];
 
-impl Assigned for Dependability {
+impl AttributeTable for Dependability {
     ghost use Rattle.attr_core.specs.Dependability.{dependability_form};
 
     ghost form = { dependability_form };

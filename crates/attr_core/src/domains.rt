@@ -9,7 +9,7 @@ ghost use Rattle.tmpl_domains.specs.Path.{is_path, segments};
 ghost use Rattle.toml.specs.View.{table_view};
 
 use crate::assign::Assign;
-use crate::assigned::Assigned;
+use crate::attribute_table::AttributeTable;
 use crate::shapes::{HOST, of_shape};
 use host_net::{Hosts, Name};
 use inv_any::AnyInv;
@@ -28,7 +28,7 @@ const KEYS: [Key; 3] = [
     Key::Optional("trust", Kind::Number(TRUST_LIMIT)),
 ];
 
-impl Assigned for Domains {
+impl AttributeTable for Domains {
     ghost use Rattle.attr_core.specs.Domains.{domains_form};
 
     ghost form = { domains_form };

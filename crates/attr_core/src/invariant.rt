@@ -10,7 +10,7 @@ ghost use Rattle.inv_any.specs.Templates.{meaning_of, template_name};
 ghost use Rattle.inv_any.specs.inner.Templates.{HostsMayHave};
 
 use crate::assign::Assign;
-use crate::assigned::read;
+use crate::attribute_table::read;
 use crate::fault::AttrFault;
 use crate::tainting::TaintedHosts;
 use crate::template::Template;

@@ -4,7 +4,7 @@
 #![tactic(auto)]
 
 mod assign;
-mod assigned;
+mod attribute_table;
 mod blp;
 mod dependability;
 mod domains;
@@ -27,6 +27,6 @@ mod template;
 pub use assign::Assign;
 pub use fault::AttrFault;
 pub use invariant::read_invariant;
-pub use may_have::says_what_hosts_may_have;
+pub use may_have::accepts_exactly_allowed_attributes;
 pub use own_table::{bad_kind, kind_numbered, read_kinds};
 pub use template::Template;

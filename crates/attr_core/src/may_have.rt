@@ -11,7 +11,7 @@ ghost use Rattle.table_core.specs.Tables.{text_at};
 
 /// An assign specifies the attribute that its table lists if and only if its host may have it. For
 /// the templates that are not named here, a host may have every attribute.
-pub fn says_what_hosts_may_have()
+pub fn accepts_exactly_allowed_attributes()
     ensures tainting { SaysWhatHostsMayHave tainting_form (λ hosts earlier a. sets_listed (labels_of (earlier ++ a ∷ [])) a.table) }
     ensures partners { SaysWhatHostsMayHave partners_form (λ hosts earlier a. partners_listed hosts a.table) }
     ensures domains { SaysWhatHostsMayHave domains_form (λ hosts earlier a. option_map Some (domains_listed a.table)) }

@@ -4,7 +4,7 @@ ghost use Rattle.attr_core.specs.NoReach.{all_denied};
 ghost use Rattle.toml.specs.View.{view};
 
 use crate::assign::Assign;
-use crate::assigned::Assigned;
+use crate::attribute_table::AttributeTable;
 use crate::peers::peer;
 use crate::shapes::{HOST, of_shape};
 use host_net::Hosts;
@@ -16,7 +16,7 @@ use toml::{Table, Value};
 
 const KEYS: [Key; 2] = [HOST, Key::Needed("deny", Kind::List)];
 
-impl Assigned for NoReach {
+impl AttributeTable for NoReach {
     ghost use Rattle.attr_core.specs.NoReach.{noreach_form};
 
     ghost form = { noreach_form };

@@ -6,7 +6,7 @@ ghost use Rattle.attr_core.specs.inner.InterferenceView.{interference_of};
 ghost use Rattle.toml.specs.View.{table_view};
 
 use crate::assign::Assign;
-use crate::assigned::Assigned;
+use crate::attribute_table::AttributeTable;
 use crate::kinds::KEYS;
 use crate::shapes::of_shape;
 use host_net::Hosts;
@@ -17,7 +17,7 @@ use table_core::text_at;
 use tmpl_reach::NonInterference;
 use toml::Table;
 
-impl Assigned for NonInterference {
+impl AttributeTable for NonInterference {
     ghost use Rattle.attr_core.specs.NonInterference.{interference_form};
 
     ghost form = { interference_form };

@@ -6,7 +6,7 @@ ghost use Rattle.std.specs.Str.{bytes_eq};
 ghost use Rattle.attr_core.specs.inner.AssignView.{given_of};
 ghost use Rattle.attr_core.specs.inner.Bad.{first_failing};
 ghost use Rattle.attr_core.specs.OwnTables.{Declared, kind_numbered, table_form};
-ghost use Rattle.attr_core.specs.inner.OwnTablesWalk.{kind_said, kinds_after};
+ghost use Rattle.attr_core.specs.inner.OwnTablesWalk.{kind_of_assign, kinds_after};
 ghost use Rattle.attr_core.specs.Forms.{bad_assign, invariant_by};
 ghost use Rattle.attr_core.specs.laws.FormLaws.{set_said};
 ghost use Rattle.host_net.specs.Host.{Host};
@@ -36,9 +36,9 @@ fn place_of(words: &[&str], word: &str) -> Option<usize>
 }
 
 /// Returns the number of the kind that the table of an assign specifies.
-#[tactic(auto, unfolding(crate::specs::inner::OwnTablesWalk::kind_said))]
-fn kind_said(words: &[&str], table: &Table) -> Option<usize>
-    ensures value { result ≡ kind_said (map (λ known. known.now) words.now) (table_view table.now) }
+#[tactic(auto, unfolding(crate::specs::inner::OwnTablesWalk::kind_of_assign))]
+fn kind_of_assign(words: &[&str], table: &Table) -> Option<usize>
+    ensures value { result ≡ kind_of_assign (map (λ known. known.now) words.now) (table_view table.now) }
     ensures within { IfSome result (λ kind. kind < length words.now) }
 {
     if !of_shape(table, &KEYS) {
@@ -53,15 +53,15 @@ pub fn bad_kind(words: &[&str], assigns: &[Assign<'_>]) -> Option<usize>
     ensures { (d : Declared) (hosts : List Host) → d.words ≡ map (λ known. known.now) words.now
         → result ≡ bad_assign (table_form d) hosts (map given_of assigns.now) }
 {
-    first_silent(words, assigns)
+    first_without_attribute(words, assigns)
 }
 
-fn first_silent(words: &[&str], assigns: &[Assign<'_>]) -> Option<usize>
-    ensures { result ≡ first_failing (λ a. is_some (kind_said (map (λ known. known.now) words.now) a.table)) 0
+fn first_without_attribute(words: &[&str], assigns: &[Assign<'_>]) -> Option<usize>
+    ensures { result ≡ first_failing (λ a. is_some (kind_of_assign (map (λ known. known.now) words.now) a.table)) 0
         (map given_of assigns.now) }
 {
     for (place, assign) in assigns.iter().enumerate() {
-        if kind_said(words, assign.table).is_none() {
+        if kind_of_assign(words, assign.table).is_none() {
             return Some(place);
         }
     }
@@ -105,10 +105,10 @@ fn take_kind(rule: &mut TableRule, words: &[&str], assign: &Assign<'_>)
     requires few { length words.now ≤ 64 }
     ensures { rule.new ≡ record rule.old {
       hosts = set_said rule.old.hosts assign.now.host
-          (kind_said (map (λ known. known.now) words.now) (given_of assign.now).table);
+          (kind_of_assign (map (λ known. known.now) words.now) (given_of assign.now).table);
     } }
 {
-    if let Some(kind) = kind_said(words, assign.table) {
+    if let Some(kind) = kind_of_assign(words, assign.table) {
         rule.set(assign.host, kind as u8);
     }
 }

@@ -5,7 +5,7 @@ ghost use Rattle.attr_core.specs.Partners.{listless_kinds, master_of, partner_of
 ghost use Rattle.toml.specs.View.{view};
 
 use crate::assign::Assign;
-use crate::assigned::Assigned;
+use crate::attribute_table::AttributeTable;
 use crate::kinds::KIND;
 use crate::peers::peer;
 use crate::shapes::{HOST, of_shape};
@@ -19,7 +19,7 @@ use toml::{Table, Value};
 
 const KEYS: [Key; 3] = [HOST, KIND, Key::Optional("from", Kind::List)];
 
-impl Assigned for Partners {
+impl AttributeTable for Partners {
     ghost use Rattle.attr_core.specs.Partners.{partners_form};
 
     ghost form = { partners_form };

@@ -5,7 +5,7 @@ ghost use Rattle.attr_core.specs.Sink.{sink_kinds};
 ghost use Rattle.toml.specs.View.{table_view};
 
 use crate::assign::Assign;
-use crate::assigned::Assigned;
+use crate::attribute_table::AttributeTable;
 use crate::kinds::KEYS;
 use crate::shapes::of_shape;
 use host_net::Hosts;
@@ -16,7 +16,7 @@ use table_core::text_at;
 use tmpl_zones::{SinkKind, SinkRule};
 use toml::Table;
 
-impl Assigned for SinkRule {
+impl AttributeTable for SinkRule {
     ghost use Rattle.attr_core.specs.Sink.{sink_form};
 
     ghost form = { sink_form };

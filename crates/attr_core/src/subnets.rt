@@ -5,7 +5,7 @@ ghost use Rattle.attr_core.specs.Subnets.{net_kinds, subnets_attribute};
 ghost use Rattle.toml.specs.View.{table_view};
 
 use crate::assign::Assign;
-use crate::assigned::Assigned;
+use crate::attribute_table::AttributeTable;
 use crate::kinds::KIND;
 use crate::shapes::{HOST, of_shape};
 use host_net::Hosts;
@@ -18,7 +18,7 @@ use toml::Table;
 
 const KEYS: [Key; 3] = [HOST, KIND, Key::Optional("number", Kind::Number(u16::MAX))];
 
-impl Assigned for Subnets {
+impl AttributeTable for Subnets {
     ghost use Rattle.attr_core.specs.Subnets.{subnets_form};
 
     ghost form = { subnets_form };

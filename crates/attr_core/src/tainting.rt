@@ -9,7 +9,7 @@ ghost use Rattle.tmpl_levels.specs.Tainting.{TakesOffItsOwn};
 ghost use Rattle.toml.specs.View.{view, table_view};
 
 use crate::assign::Assign;
-use crate::assigned::Assigned;
+use crate::attribute_table::AttributeTable;
 use crate::shapes::{HOST, of_shape};
 use host_net::{Hosts, Name};
 use inv_any::AnyInv;
@@ -44,7 +44,7 @@ impl Model for TaintedHosts {
     ghost invariant = { λ tainted. length tainted.labels.items ≤ 64 };
 }
 
-impl Assigned for TaintedHosts {
+impl AttributeTable for TaintedHosts {
     ghost use Rattle.attr_core.specs.Tainting.{labels_of, tainting_form};
 
     ghost form = { tainting_form };

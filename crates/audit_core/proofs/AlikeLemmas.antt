@@ -7,7 +7,7 @@ use Rattle.host_net.specs.declared.packet.CtState.TheVariants.{New, Established}
 use Rattle.host_net.specs.Packet.{IsPacket, swap_of}
 use Rattle.pkt_core.specs.Firewall.{may_pass}
 use Rattle.audit_core.specs.declared.kind.Kind.{Kind}
-use Rattle.audit_core.specs.declared.kind.Kind.TheVariants.{Alone, BehindSwap, BehindBoth}
+use Rattle.audit_core.specs.declared.kind.Kind.TheVariants.{Alone, AfterSwap, AfterBoth}
 use Rattle.audit_core.specs.Cuts.{cut_addresses, cut_ports, cuts_between, named_protocols, parts_between}
 use Rattle.audit_core.specs.inner.Cuts.{AreOneClass}
 use Rattle.audit_core.specs.inner.Faults.{Right, is_asked, state_in}
@@ -20,7 +20,7 @@ use Rattle.audit_core.specs.inner.Ranges.{AreTogether}
 use Rattle.audit_core.proofs.RangeLemmas.{is_in, protocol_of}
 use Rattle.audit_core.specs.Rules.{filter_of}
 use Rattle.header_space.specs.Boxes.{IsNoHigher}
-use Rattle.audit_core.specs.Sides.{Sides, lets_answer, permits}
+use Rattle.audit_core.specs.Sides.{Sides, permits_reply_to, permits}
 use Rattle.audit_core.proofs.PartLemmas.{AreAlikeFor, IsAlikeFor, all_parts, alike_back, alike_swapped}
 use Rattle.audit_core.proofs.RulesLemmas.{filter_alike}
 use Rattle.audit_core.proofs.SiteLemmas.{is_of_alike}
@@ -33,7 +33,7 @@ pub record AreAlike (sides : Sides) (p q : Packet) : Type 0 where
   pub said : (state : CtState) (b : Bool) → filter_of sides.rules state q b → filter_of sides.rules state p b
   pub own : permits sides p ≡ permits sides q
   pub other : permits sides (swap_of p) ≡ permits sides (swap_of q)
-  pub answers : lets_answer sides (swap_of p) ≡ lets_answer sides (swap_of q)
+  pub answers : permits_reply_to sides (swap_of p) ≡ permits_reply_to sides (swap_of q)
 
 pub right_alike : (sides : Sides) (kind : Kind) (p q : Packet) → AreAlike sides p q → Right sides kind p → Right sides kind q
 right_alike sides kind p q alike right asked b said =
@@ -41,10 +41,10 @@ right_alike sides kind p q alike right asked b said =
   where
     same_asked : (k : Kind) → is_asked (permits sides) k p ≡ is_asked (permits sides) k q
     same_asked Alone = refl
-    same_asked BehindSwap = alike.other
-    same_asked BehindBoth = alike.own
+    same_asked AfterSwap = alike.other
+    same_asked AfterBoth = alike.own
 
-    same_policy : (state : CtState) → may_pass (permits sides) (lets_answer sides) state p ≡ may_pass (permits sides) (lets_answer sides) state q
+    same_policy : (state : CtState) → may_pass (permits sides) (permits_reply_to sides) state p ≡ may_pass (permits sides) (permits_reply_to sides) state q
     same_policy New = λ i. alike.own i || (alike.answers i && false)
     same_policy Established = λ i. alike.own i || (alike.answers i && true)
 

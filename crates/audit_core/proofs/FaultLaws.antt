@@ -9,7 +9,7 @@ use Rattle.host_net.specs.Packet.{IsPacket, swap_of}
 use Rattle.header_space.specs.Boxes.{IsIn, every_packet}
 use Rattle.header_space.specs.Searching.{IsLeastWhere}
 use Rattle.audit_core.specs.declared.kind.Kind.{Kind}
-use Rattle.audit_core.specs.declared.kind.Kind.TheVariants.{Alone, BehindSwap, BehindBoth}
+use Rattle.audit_core.specs.declared.kind.Kind.TheVariants.{Alone, AfterSwap, AfterBoth}
 use Rattle.audit_core.specs.Findings.{trace_of}
 use Rattle.header_space.specs.declared.packet_box.PacketBox.{PacketBox}
 use Rattle.host_net.specs.Verdict.{verdict_if}
@@ -96,17 +96,17 @@ fault_by sides kind p expected answer asked is tells = (
 
 -- If a packet is not a fault for the first two kinds, it is a fault for some kind iff it is a fault for the third.
 pub any_fault_by : (sides : Sides) (p : Packet) (alone swapped both : Bool)
-    → alone ≡ false → IsTrue alone ↔ IsFault sides Alone p → swapped ≡ false → IsTrue swapped ↔ IsFault sides BehindSwap p
-    → IsTrue both ↔ IsFault sides BehindBoth p → IsTrue both ↔ IsAnyFault sides p
+    → alone ≡ false → IsTrue alone ↔ IsFault sides Alone p → swapped ≡ false → IsTrue swapped ↔ IsFault sides AfterSwap p
+    → IsTrue both ↔ IsFault sides AfterBoth p → IsTrue both ↔ IsAnyFault sides p
 any_fault_by sides p alone swapped both not_alone first not_swapped second third = (
-  (λ yes'. (BehindBoth, third.0 yes')),
+  (λ yes'. (AfterBoth, third.0 yes')),
   (λ any. by_kind any.0 any.1),
 )
   where
     by_kind : (kind : Kind) → IsFault sides kind p → IsTrue both
     by_kind Alone fault = absurd (true≢false (sym (first.1 fault) ∙ not_alone))
-    by_kind BehindSwap fault = absurd (true≢false (sym (second.1 fault) ∙ not_swapped))
-    by_kind BehindBoth fault = third.1 fault
+    by_kind AfterSwap fault = absurd (true≢false (sym (second.1 fault) ∙ not_swapped))
+    by_kind AfterBoth fault = third.1 fault
 
 pub says_by : (sides : Sides) (state : CtState) (p : Packet) (said expected answer : Bool) → GivesOne (filter_of sides.rules) → IsPacket p
     → filter_of sides.rules state p said → (IsTrue answer → said ≢ expected) → (said ≢ expected → IsTrue answer)
@@ -124,8 +124,8 @@ differs false true = ((λ h e. true≢false (sym e)), (λ h. refl))
 
 pub trace_forwards : (kind : Kind) (p : Packet) (f : Bool) → (trace_of kind p f).forwards ≡ f
 trace_forwards Alone p f = refl
-trace_forwards BehindSwap p f = refl
-trace_forwards BehindBoth p f = refl
+trace_forwards AfterSwap p f = refl
+trace_forwards AfterBoth p f = refl
 
 -- ---- Rules with the same verdicts on the packets of a box
 

@@ -4,7 +4,7 @@ use Rattle.std.proofs.lemmas.Bool.{cases_lt}
 use Rattle.host_net.specs.declared.packet.Packet.{Packet}
 use Rattle.pkt_core.specs.Filter.{ArePackets}
 use Rattle.audit_core.specs.declared.kind.Kind.{Kind}
-use Rattle.audit_core.specs.declared.kind.Kind.TheVariants.{Alone, BehindSwap, BehindBoth}
+use Rattle.audit_core.specs.declared.kind.Kind.TheVariants.{Alone, AfterSwap, AfterBoth}
 use Rattle.audit_core.specs.declared.finding.Finding.{Finding}
 use Rattle.audit_core.specs.declared.finding.Finding.TheVariants.{Equal, Differ as Differing}
 use Rattle.audit_core.specs.declared.finding.Trace.{Trace}
@@ -19,7 +19,7 @@ use Rattle.audit_core.specs.Lists.{front_of, list_of}
 use Rattle.header_space.specs.Order.{ComesBefore, comes_first}
 use Rattle.audit_core.specs.Places.{IsClassPacket, Representatives, representatives_of}
 use Rattle.audit_core.specs.Rules.{filter_of}
-use Rattle.audit_core.specs.Sides.{Agree, Sides, lets_answer, permits}
+use Rattle.audit_core.specs.Sides.{Agree, Sides, permits_reply_to, permits}
 
 -- 1. Of two packets, one comes before the other, or they are equal.
 
@@ -71,8 +71,8 @@ module _ (sides : Sides) (representatives : Representatives) where
   -- If the two sides differ on a list, they do not agree on it.
   not_agreed : (kind : Kind) (p : Packet) (b : Bool) → IsFirstClass sides representatives kind p b → Agree sides (list_of kind p) → ⊥
   not_agreed kind p b first agree =
-      agree_not_differ (filter_of sides.rules) (permits sides) (lets_answer sides) (list_of kind p) agree
-      (differ_on (filter_of sides.rules) (permits sides) (lets_answer sides) (front_of kind p) p b first.differ)
+      agree_not_differ (filter_of sides.rules) (permits sides) (permits_reply_to sides) (list_of kind p) agree
+      (differ_on (filter_of sides.rules) (permits sides) (permits_reply_to sides) (front_of kind p) p b first.differ)
 
   -- The first packet of one kind, and the verdict of the rules there, are unique.
   one_class : (kind : Kind) (p q : Packet) (b c : Bool) → IsFirstClass sides representatives kind p b → IsFirstClass sides representatives kind q c → (p ≡ q) × (b ≡ c)
@@ -85,7 +85,7 @@ module _ (sides : Sides) (representatives : Representatives) where
   ]
     where
       wrong_alike : p ≡ q → b ≡ c
-      wrong_alike same = one_wrong b c _ (subst (λ (r : Packet). IsWrong b (Expected (permits sides) (lets_answer sides) (front_of kind r) r)) same first.differ.wrong) second.differ.wrong
+      wrong_alike same = one_wrong b c _ (subst (λ (r : Packet). IsWrong b (Expected (permits sides) (permits_reply_to sides) (front_of kind r) r)) same first.differ.wrong) second.differ.wrong
 
   -- The kind is also unique.
   one_kind : (k l : Kind) (p q : Packet) (b c : Bool) → IsFirstClass sides representatives k p b → IsFirstClass sides representatives l q c
@@ -95,14 +95,14 @@ module _ (sides : Sides) (representatives : Representatives) where
     where
       same_place : (k l : Kind) → place_of k ≡ place_of l → k ≡ l
       same_place Alone Alone is = refl
-      same_place BehindSwap BehindSwap is = refl
-      same_place BehindBoth BehindBoth is = refl
-      same_place Alone BehindSwap is = absurd (omega (arith, is))
-      same_place Alone BehindBoth is = absurd (omega (arith, is))
-      same_place BehindSwap Alone is = absurd (omega (arith, is))
-      same_place BehindSwap BehindBoth is = absurd (omega (arith, is))
-      same_place BehindBoth Alone is = absurd (omega (arith, is))
-      same_place BehindBoth BehindSwap is = absurd (omega (arith, is))
+      same_place AfterSwap AfterSwap is = refl
+      same_place AfterBoth AfterBoth is = refl
+      same_place Alone AfterSwap is = absurd (omega (arith, is))
+      same_place Alone AfterBoth is = absurd (omega (arith, is))
+      same_place AfterSwap Alone is = absurd (omega (arith, is))
+      same_place AfterSwap AfterBoth is = absurd (omega (arith, is))
+      same_place AfterBoth Alone is = absurd (omega (arith, is))
+      same_place AfterBoth AfterSwap is = absurd (omega (arith, is))
 
       by_places : (place_of k < place_of l) ⊎ (place_of l ≤ place_of k) → (place_of l < place_of k) ⊎ (place_of k ≤ place_of l) → k ≡ l
       by_places (inl less) other = absurd (not_agreed k p b first (before_second k less p first.is_class))
@@ -119,7 +119,7 @@ module _ (sides : Sides) (representatives : Representatives) where
 
 equal_not_differ : (sides : Sides) (t : Trace) → IsFinding sides Equal → IsFinding sides (Differing t) → ⊥
 equal_not_differ sides t agree found =
-    agree_not_differ (filter_of sides.rules) (permits sides) (lets_answer sides) (events_of t)
+    agree_not_differ (filter_of sides.rules) (permits sides) (permits_reply_to sides) (events_of t)
     (agree (events_of t) (subst (λ (u : Trace). ArePackets (events_of u)) (sym found.is) (trace_packets found.kind found.packet t.forwards found.first.packet)))
     found.differ
 

@@ -11,10 +11,10 @@ use Rattle.pkt_core.specs.Events.{ForgottenAt, SeenAt}
 use Rattle.pkt_core.specs.Expected.{AreExpected, Expected}
 use Rattle.pkt_core.specs.Firewall.{Filter}
 use Rattle.pkt_core.proofs.FilterLaws.{is_of-within}
-use Rattle.pkt_core.specs.Tracking.{Kept, Runs, after_forget, after_seen, nothing_kept}
+use Rattle.pkt_core.specs.Tracking.{ConnectionTable, Runs, after_forget, after_seen, no_connections}
 use Rattle.ofp_rules.specs.declared.entry.Entry.{Entry}
 use Rattle.audit_core.specs.declared.kind.Kind.{Kind}
-use Rattle.audit_core.specs.declared.kind.Kind.TheVariants.{Alone, BehindSwap, BehindBoth}
+use Rattle.audit_core.specs.declared.kind.Kind.TheVariants.{Alone, AfterSwap, AfterBoth}
 use Rattle.audit_core.specs.Agreement.{AgreeOn}
 use Rattle.audit_core.specs.Findings.{place_of}
 use Rattle.audit_core.specs.inner.Faults.{AreRight, Right, Wrong, expected_at}
@@ -22,10 +22,10 @@ use Rattle.audit_core.specs.inner.Pairs.{EndsBy, state_after}
 use Rattle.audit_core.specs.inner.Sides.{AgreeAlways, AgreeShortly}
 use Rattle.audit_core.specs.laws.FindingLaws.{swaps_known}
 use Rattle.audit_core.specs.laws.ListLaws.{agree_not_differ, differ_on, expected_more, run_long}
-use Rattle.audit_core.specs.Lists.{DifferBehind, front_of, list_of}
+use Rattle.audit_core.specs.Lists.{DifferAfter, front_of, list_of}
 use Rattle.audit_core.specs.Pairs.{DiffersAt}
 use Rattle.audit_core.specs.Rules.{Entries, Rules, filter_of}
-use Rattle.audit_core.specs.Sides.{Agree, Sides, lets_answer, permits}
+use Rattle.audit_core.specs.Sides.{Agree, Sides, permits_reply_to, permits}
 use Rattle.audit_core.specs.Verdicts.{GivesOne}
 use Rattle.audit_core.proofs.FaultLaws.{right_where, same_where_not, says_new}
 use Rattle.audit_core.proofs.ListEndLaws.{expects, whole_differs, wrong_by}
@@ -34,7 +34,7 @@ use Rattle.audit_core.proofs.ShortLaws.{agree_where_judged}
 -- 1. One more packet.
 
 module _ (filter : Filter) where
-  run_parts : (kept : Kept) (past : List Event) (p : Packet) (answers : List (Option Bool)) → Runs filter kept (past ++ Seen p ∷ []) answers
+  run_parts : (kept : ConnectionTable) (past : List Event) (p : Packet) (answers : List (Option Bool)) → Runs filter kept (past ++ Seen p ∷ []) answers
       → (front : List (Option Bool)) × (b : Bool) × (answers ≡ front ++ Some b ∷ []) × Runs filter kept past front
   run_parts kept [] p [] run = absurd run
   run_parts kept [] p (None ∷ answers) run = absurd run
@@ -65,13 +65,13 @@ module _ (filter : Filter) where
 
     -- The two sides agree on a list if they agree on it without its last packet, and do not differ at this packet.
     agree_more : (past : List Event) (p : Packet) (e : Bool) → IsTrue e ↔ Expected permitted stateful past p → AgreeOn filter permitted stateful past
-        → ((b : Bool) → DifferBehind filter permitted stateful past p b → ⊥) → AgreeOn filter permitted stateful (past ++ Seen p ∷ [])
+        → ((b : Bool) → DifferAfter filter permitted stateful past p b → ⊥) → AgreeOn filter permitted stateful (past ++ Seen p ∷ [])
     agree_more past p e is agree none answers run =
-        let parts = run_parts nothing_kept past p answers run in
+        let parts = run_parts no_connections past p answers run in
         let same : parts.1 ≡ e = same_where_not parts.1 e (λ apart. none parts.1 (record {
           answers = parts.0;
-          run = subst (λ (xs : List (Option Bool)). Runs filter nothing_kept (past ++ Seen p ∷ []) xs) parts.2 run;
-          many = run_long filter nothing_kept past parts.0 parts.3;
+          run = subst (λ (xs : List (Option Bool)). Runs filter no_connections (past ++ Seen p ∷ []) xs) parts.2 run;
+          many = run_long filter no_connections past parts.0 parts.3;
           wrong = wrong_by parts.1 e apart is;
         })) in
         subst (λ (xs : List (Option Bool)). AreExpected permitted stateful (past ++ Seen p ∷ []) xs) (sym parts.2)
@@ -88,7 +88,7 @@ none_before sides k h = absurd (omega arith)
 
 module _ (sides : Sides) (gives : GivesOne (filter_of sides.rules)) (subset : IsSubset sides.stateful sides.permitted) where
   -- A stateful packet is permitted.
-  policy_within : (p : Packet) → IsPacket p → lets_answer sides p ≡ true → permits sides p ≡ true
+  policy_within : (p : Packet) → IsPacket p → permits_reply_to sides p ≡ true → permits sides p ≡ true
   policy_within p is stateful = is_of-within sides.site sides.stateful sides.permitted p subset stateful
 
   passes_new : AreRight sides Alone → (p : Packet) → IsPacket p → permits sides p ≡ true → filter_of sides.rules New p true
@@ -103,30 +103,30 @@ module _ (sides : Sides) (gives : GivesOne (filter_of sides.rules)) (subset : Is
     where
       ends : (kind : Kind) → (0 < place_of kind → AreRight sides Alone) → Wrong sides kind p b → EndsBy sides.rules sides.rules kind p b
       ends Alone alone wrong = wrong.said
-      ends BehindSwap alone wrong = (true, passes_new (alone (omega arith)) (swap_of p) (swaps_known p is) wrong.asked, wrong.said)
-      ends BehindBoth alone wrong =
+      ends AfterSwap alone wrong = (true, passes_new (alone (omega arith)) (swap_of p) (swaps_known p is) wrong.asked, wrong.said)
+      ends AfterBoth alone wrong =
           let other = gives New (swap_of p) (swaps_known p is) in
           (true, passes_new (alone (omega arith)) p is wrong.asked, other.0, other.1, wrong.said)
 
   -- A packet that passes as a new packet is permitted.
   permitted_new : AreRight sides Alone → (p : Packet) → IsPacket p → (b : Bool) → filter_of sides.rules New p b → permits sides p ≡ b
-  permitted_new alone p is b said = sym (alone p is refl b said ∙ says_new (permits sides) (lets_answer sides) p)
+  permitted_new alone p is b said = sym (alone p is refl b said ∙ says_new (permits sides) (permits_reply_to sides) p)
 
   -- The verdict on a packet after its swap.
-  behind : AreRight sides Alone → (p : Packet) → IsPacket p → Right sides BehindSwap p → (passed : Bool) → filter_of sides.rules New (swap_of p) passed
-      → (b : Bool) → filter_of sides.rules (state_after passed) p b → b ≡ expected_at sides BehindSwap p
+  behind : AreRight sides Alone → (p : Packet) → IsPacket p → Right sides AfterSwap p → (passed : Bool) → filter_of sides.rules New (swap_of p) passed
+      → (b : Bool) → filter_of sides.rules (state_after passed) p b → b ≡ expected_at sides AfterSwap p
   behind alone p is right true other b said = right (permitted_new alone (swap_of p) (swaps_known p is) true other) b said
   behind alone p is right false other b said =
       alone p is refl b said ∙ (λ i. permits sides p || (none i && false)) ∙ sym (λ i. permits sides p || (none i && true))
     where
-      by_test : (c : Bool) → lets_answer sides (swap_of p) ≡ c → c ≡ false
+      by_test : (c : Bool) → permits_reply_to sides (swap_of p) ≡ c → c ≡ false
       by_test true is_stateful =
           absurd (true≢false (sym (policy_within (swap_of p) (swaps_known p is) is_stateful)
           ∙ permitted_new alone (swap_of p) (swaps_known p is) false other))
       by_test false is_not = refl
 
-      none : lets_answer sides (swap_of p) ≡ false
-      none = by_test (lets_answer sides (swap_of p)) refl
+      none : permits_reply_to sides (swap_of p) ≡ false
+      none = by_test (permits_reply_to sides (swap_of p)) refl
 
   -- Rules that are right about a packet do not differ from the policy there.
   not_differs : (kind : Kind) → AreRightBefore sides kind → (p : Packet) → IsPacket p → Right sides kind p → (b : Bool) → DiffersAt sides kind p b → ⊥
@@ -134,50 +134,50 @@ module _ (sides : Sides) (gives : GivesOne (filter_of sides.rules)) (subset : Is
       let by = (whole_differs sides gives kind p is b).1 differs in
       by.other (expected kind before right by.ends)
     where
-      after_both : AreRightBefore sides BehindBoth → Right sides BehindBoth p → (first : Bool) → filter_of sides.rules New p first
+      both_right : AreRightBefore sides AfterBoth → Right sides AfterBoth p → (first : Bool) → filter_of sides.rules New p first
           → (passed : Bool) → filter_of sides.rules New (swap_of p) passed → filter_of sides.rules (state_after (first || passed)) p b
-          → b ≡ expected_at sides BehindBoth p
-      after_both before right true first passed other said = right (permitted_new (before Alone (omega arith)) p is true first) b said
-      after_both before right false first passed other said =
-          behind (before Alone (omega arith)) p is (before BehindSwap (omega arith) p is) passed other b said
+          → b ≡ expected_at sides AfterBoth p
+      both_right before right true first passed other said = right (permitted_new (before Alone (omega arith)) p is true first) b said
+      both_right before right false first passed other said =
+          behind (before Alone (omega arith)) p is (before AfterSwap (omega arith) p is) passed other b said
 
       expected : (kind : Kind) → AreRightBefore sides kind → Right sides kind p → EndsBy sides.rules sides.rules kind p b → b ≡ expected_at sides kind p
       expected Alone before right ends = right refl b ends
-      expected BehindSwap before right ends = behind (before Alone (omega arith)) p is right ends.0 ends.1 b ends.2
-      expected BehindBoth before right ends = after_both before right ends.0 ends.1 ends.2 ends.3 ends.4
+      expected AfterSwap before right ends = behind (before Alone (omega arith)) p is right ends.0 ends.1 b ends.2
+      expected AfterBoth before right ends = both_right before right ends.0 ends.1 ends.2 ends.3 ends.4
 
   agree_at_end : (kind : Kind) → AreRightBefore sides kind → (p : Packet) → IsPacket p → Right sides kind p → Agree sides (front_of kind p)
       → Agree sides (list_of kind p)
   agree_at_end kind before p is right front =
-      agree_more (filter_of sides.rules) (permits sides) (lets_answer sides) (front_of kind p) p (expected_at sides kind p) (expects sides kind p) front
+      agree_more (filter_of sides.rules) (permits sides) (permits_reply_to sides) (front_of kind p) p (expected_at sides kind p) (expects sides kind p) front
       (not_differs kind before p is right)
 
   agree_alone : (p : Packet) → IsPacket p → Right sides Alone p → Agree sides (list_of Alone p)
   agree_alone p is right =
-      agree_at_end Alone (none_before sides) p is right (agree_none (filter_of sides.rules) (permits sides) (lets_answer sides))
+      agree_at_end Alone (none_before sides) p is right (agree_none (filter_of sides.rules) (permits sides) (permits_reply_to sides))
 
-  agree_behind_swap : AreRightBefore sides BehindSwap → (p : Packet) → IsPacket p → Right sides BehindSwap p → Agree sides (list_of BehindSwap p)
+  agree_behind_swap : AreRightBefore sides AfterSwap → (p : Packet) → IsPacket p → Right sides AfterSwap p → Agree sides (list_of AfterSwap p)
   agree_behind_swap before p is right =
       let swaps = swaps_known p is in
-      agree_at_end BehindSwap before p is right (agree_alone (swap_of p) swaps (before Alone (omega arith) (swap_of p) swaps))
+      agree_at_end AfterSwap before p is right (agree_alone (swap_of p) swaps (before Alone (omega arith) (swap_of p) swaps))
 
   -- Rules that are right about a packet agree with the policy on the list.
   pub agree_kind : (kind : Kind) → AreRightBefore sides kind → (p : Packet) → IsPacket p → Right sides kind p → Agree sides (list_of kind p)
   agree_kind Alone before p is right = agree_alone p is right
-  agree_kind BehindSwap before p is right = agree_behind_swap before p is right
-  agree_kind BehindBoth before p is right =
+  agree_kind AfterSwap before p is right = agree_behind_swap before p is right
+  agree_kind AfterBoth before p is right =
       let swaps = swaps_known p is in
-      agree_at_end BehindBoth before p is right
-      (agree_behind_swap (λ k h. before k (omega arith)) (swap_of p) swaps (before BehindSwap (omega arith) (swap_of p) swaps))
+      agree_at_end AfterBoth before p is right
+      (agree_behind_swap (λ k h. before k (omega arith)) (swap_of p) swaps (before AfterSwap (omega arith) (swap_of p) swaps))
 
   -- Rules that are right about all packets agree with the policy on all lists.
   pub agree_where_right : ((kind : Kind) → AreRight sides kind) → AgreeAlways sides
   agree_where_right right =
-      agree_where_judged (filter_of sides.rules) (permits sides) (lets_answer sides) IsPacket policy_within (λ p is. record {
+      agree_where_judged (filter_of sides.rules) (permits sides) (permits_reply_to sides) IsPacket policy_within (λ p is. record {
         new = right Alone p is refl;
         established = λ some b said. elim (or_cases (permits sides p) (permits sides (swap_of p)) some) [
-          | inl own ↦ right BehindBoth p is own b said
-          | inr other ↦ right BehindSwap p is other b said
+          | inl own ↦ right AfterBoth p is own b said
+          | inr other ↦ right AfterSwap p is other b said
         ];
       })
 
@@ -188,8 +188,8 @@ module _ (sides : Sides) (gives : GivesOne (filter_of sides.rules)) (subset : Is
 
   right_from_lists : (kind : Kind) → (0 < place_of kind → AreRight sides Alone) → ((p : Packet) → IsPacket p → Agree sides (list_of kind p)) → AreRight sides kind
   right_from_lists kind alone agree = right_from kind alone (λ p is b differs.
-      agree_not_differ (filter_of sides.rules) (permits sides) (lets_answer sides) (list_of kind p) (agree p is)
-      (differ_on (filter_of sides.rules) (permits sides) (lets_answer sides) (front_of kind p) p b differs))
+      agree_not_differ (filter_of sides.rules) (permits sides) (permits_reply_to sides) (list_of kind p) (agree p is)
+      (differ_on (filter_of sides.rules) (permits sides) (permits_reply_to sides) (front_of kind p) p b differs))
 
   -- 3. The law of short lists.
 
@@ -201,13 +201,13 @@ module _ (sides : Sides) (gives : GivesOne (filter_of sides.rules)) (subset : Is
 
       right : (kind : Kind) → AreRight sides kind
       right Alone = alone
-      right BehindSwap = right_from_lists BehindSwap (λ h. alone) (λ p is. (agree p is).second)
-      right BehindBoth = right_from_lists BehindBoth (λ h. alone) (λ p is. (agree p is).third)
+      right AfterSwap = right_from_lists AfterSwap (λ h. alone) (λ p is. (agree p is).second)
+      right AfterBoth = right_from_lists AfterBoth (λ h. alone) (λ p is. (agree p is).third)
 
 -- For a flow table, which is stateless, the first two lists suffice.
 pub two_lists_at : (sides : Sides) (entries : List Entry) → sides.rules ≡ Entries entries → GivesOne (filter_of sides.rules)
     → IsSubset sides.stateful sides.permitted
-    → ((packet : Packet) → IsPacket packet → Agree sides (list_of Alone packet) × Agree sides (list_of BehindSwap packet)) → AgreeAlways sides
+    → ((packet : Packet) → IsPacket packet → Agree sides (list_of Alone packet) × Agree sides (list_of AfterSwap packet)) → AgreeAlways sides
 two_lists_at sides entries is_table gives subset agree = agree_where_right sides gives subset right
   where
     alone : AreRight sides Alone
@@ -218,6 +218,6 @@ two_lists_at sides entries is_table gives subset agree = agree_where_right sides
 
     right : (kind : Kind) → AreRight sides kind
     right Alone = alone
-    right BehindSwap = right_from_lists sides gives subset BehindSwap (λ h. alone) (λ p is. (agree p is).1)
-    right BehindBoth = λ p is own b said.
+    right AfterSwap = right_from_lists sides gives subset AfterSwap (λ h. alone) (λ p is. (agree p is).1)
+    right AfterBoth = λ p is own b said.
         alone p is refl b (new p b said) ∙ or_left (permits sides p) _ own ∙ sym (or_left (permits sides p) _ own)

@@ -12,12 +12,12 @@ use Rattle.header_space.proofs.BoxLaws.{in_swapped}
 use Rattle.pkt_core.specs.declared.event.Event.TheVariants.{Seen}
 use Rattle.pkt_core.specs.Expected.{Expected}
 use Rattle.pkt_core.specs.laws.EventLaws.{WasSeen-now}
-use Rattle.pkt_core.specs.laws.KeptLaws.{begins_behind_seen}
-use Rattle.pkt_core.specs.Tracking.{Runs, after_seen, nothing_kept, state_of}
+use Rattle.pkt_core.specs.laws.ConnectionTableLaws.{begins_behind_seen}
+use Rattle.pkt_core.specs.Tracking.{Runs, after_seen, no_connections, state_of}
 use Rattle.audit_core.specs.Agreement.{IsWrong}
 use Rattle.audit_core.specs.declared.difference.Direction.{Direction}
 use Rattle.audit_core.specs.declared.kind.Kind.{Kind}
-use Rattle.audit_core.specs.declared.kind.Kind.TheVariants.{Alone, BehindSwap, BehindBoth}
+use Rattle.audit_core.specs.declared.kind.Kind.TheVariants.{Alone, AfterSwap, AfterBoth}
 use Rattle.audit_core.specs.declared.list_end.Ends.{Ends}
 use Rattle.audit_core.specs.inner.Faults.{expected_at}
 use Rattle.audit_core.specs.inner.Pairs.{DiffersBy, DiffersSo, EndsBy, HaveSameEnds, HoldsOf, state_after}
@@ -28,7 +28,7 @@ use Rattle.audit_core.specs.laws.ListLaws.{differ_more}
 use Rattle.audit_core.specs.Lists.{front_of}
 use Rattle.audit_core.specs.Pairs.{DiffersAt}
 use Rattle.audit_core.specs.Rules.{Rules, filter_of}
-use Rattle.audit_core.specs.Sides.{Sides, lets_answer, permits}
+use Rattle.audit_core.specs.Sides.{Sides, permits_reply_to, permits}
 use Rattle.audit_core.proofs.RulesLaws.{one_verdict}
 use Rattle.audit_core.proofs.ShortLaws.{expects_behind, expects_first, kept_established, swap_established}
 
@@ -46,26 +46,26 @@ other_by b e wrong is same = elim wrong [
   | inr h ↦ true≢false (sym (is.1 h.1) ∙ sym same ∙ h.0)
 ]
 
-pub expects : (sides : Sides) (kind : Kind) (p : Packet) → IsTrue (expected_at sides kind p) ↔ Expected (permits sides) (lets_answer sides) (front_of kind p) p
-expects sides Alone p = expects_first (permits sides) (lets_answer sides) p
-expects sides BehindSwap p =
-    expects_behind (permits sides) (lets_answer sides) (Seen (swap_of p) ∷ []) p (WasSeen-now [] (swap_of p) (swap_of p) refl)
-expects sides BehindBoth p =
-    expects_behind (permits sides) (lets_answer sides) (Seen p ∷ Seen (swap_of p) ∷ []) p (WasSeen-now (Seen p ∷ []) (swap_of p) (swap_of p) refl)
+pub expects : (sides : Sides) (kind : Kind) (p : Packet) → IsTrue (expected_at sides kind p) ↔ Expected (permits sides) (permits_reply_to sides) (front_of kind p) p
+expects sides Alone p = expects_first (permits sides) (permits_reply_to sides) p
+expects sides AfterSwap p =
+    expects_behind (permits sides) (permits_reply_to sides) (Seen (swap_of p) ∷ []) p (WasSeen-now [] (swap_of p) (swap_of p) refl)
+expects sides AfterBoth p =
+    expects_behind (permits sides) (permits_reply_to sides) (Seen p ∷ Seen (swap_of p) ∷ []) p (WasSeen-now (Seen p ∷ []) (swap_of p) (swap_of p) refl)
 
 -- 2. The verdicts of the rules.
 
-behind_swap_state : (p : Packet) (passed : Bool) → state_of (after_seen nothing_kept (swap_of p) passed) p ≡ state_after passed
+behind_swap_state : (p : Packet) (passed : Bool) → state_of (after_seen no_connections (swap_of p) passed) p ≡ state_after passed
 behind_swap_state p true = swap_established (swap_of p)
 behind_swap_state p false = refl
 
 one_end : (rules swaps : Rules) → GivesOne (filter_of rules) → GivesOne (filter_of swaps) → (kind : Kind) (p : Packet) → IsPacket p → (b c : Bool)
     → EndsBy rules swaps kind p b → EndsBy rules swaps kind p c → b ≡ c
 one_end rules swaps gives others Alone p is b c first second = one_verdict rules gives New p is b c first second
-one_end rules swaps gives others BehindSwap p is b c first second =
+one_end rules swaps gives others AfterSwap p is b c first second =
     let same = one_verdict swaps others New (swap_of p) (swaps_known p is) first.0 second.0 first.1 second.1 in
     one_verdict rules gives (state_after second.0) p is b c (subst (λ (x : Bool). filter_of rules (state_after x) p b) same first.2) second.2
-one_end rules swaps gives others BehindBoth p is b c first second =
+one_end rules swaps gives others AfterBoth p is b c first second =
     let own = one_verdict rules gives New p is first.0 second.0 first.1 second.1 in
     let other = one_verdict swaps others New (swap_of p) (swaps_known p is) first.2 second.2 first.3 second.3 in
     one_verdict rules gives (state_after (second.0 || second.2)) p is b c
@@ -108,16 +108,16 @@ pub any_where : (e : Ends) (p : Packet) (kind : Kind) → (forwards : Bool) × D
 any_where e p kind differs = ((λ h. (kind, differs.0, differs.1)), (λ h. refl))
 
 -- The rules do not differ from the policy for the first two kinds of list.
-pub any_of : (e : Ends) (p : Packet) (alone behind_swap behind_both : Bool) → (IsTrue alone ↔ ((forwards : Bool) × DiffersBy e Alone p forwards))
-    → alone ≡ false → (IsTrue behind_swap ↔ ((forwards : Bool) × DiffersBy e BehindSwap p forwards)) → behind_swap ≡ false
-    → (IsTrue behind_both ↔ ((forwards : Bool) × DiffersBy e BehindBoth p forwards)) → IsTrue behind_both ↔ HoldsOf e None p
-any_of e p alone behind_swap behind_both first no_first second no_second third =
-    ((λ h. let d = third.0 h in (BehindBoth, d.0, d.1)), (λ h. by_kind h.0 h.1 h.2))
+pub any_of : (e : Ends) (p : Packet) (alone after_swap after_both : Bool) → (IsTrue alone ↔ ((forwards : Bool) × DiffersBy e Alone p forwards))
+    → alone ≡ false → (IsTrue after_swap ↔ ((forwards : Bool) × DiffersBy e AfterSwap p forwards)) → after_swap ≡ false
+    → (IsTrue after_both ↔ ((forwards : Bool) × DiffersBy e AfterBoth p forwards)) → IsTrue after_both ↔ HoldsOf e None p
+any_of e p alone after_swap after_both first no_first second no_second third =
+    ((λ h. let d = third.0 h in (AfterBoth, d.0, d.1)), (λ h. by_kind h.0 h.1 h.2))
   where
-    by_kind : (kind : Kind) (forwards : Bool) → DiffersBy e kind p forwards → IsTrue behind_both
+    by_kind : (kind : Kind) (forwards : Bool) → DiffersBy e kind p forwards → IsTrue after_both
     by_kind Alone f d = absurd (true≢false (sym (first.1 (f, d)) ∙ no_first))
-    by_kind BehindSwap f d = absurd (true≢false (sym (second.1 (f, d)) ∙ no_second))
-    by_kind BehindBoth f d = third.1 (f, d)
+    by_kind AfterSwap f d = absurd (true≢false (sym (second.1 (f, d)) ∙ no_second))
+    by_kind AfterBoth f d = third.1 (f, d)
 
 -- 4. With the same rules for packets and for their swaps, a difference at the end of a list is a difference on the list.
 
@@ -125,35 +125,35 @@ module _ (sides : Sides) (gives : GivesOne (filter_of sides.rules)) where
   differ_by : (kind : Kind) (p : Packet) → IsPacket p → (b : Bool) → EndsBy sides.rules sides.rules kind p b → b ≢ expected_at sides kind p
       → DiffersAt sides kind p b
   differ_by Alone p is b ends other =
-      differ_more (filter_of sides.rules) (permits sides) (lets_answer sides) [] [] tt p b ends (wrong_by b (expected_at sides Alone p) other (expects sides Alone p))
-  differ_by BehindSwap p is b ends other =
-      differ_more (filter_of sides.rules) (permits sides) (lets_answer sides) (front_of BehindSwap p) (Some ends.0 ∷ []) (ends.1, tt) p b
+      differ_more (filter_of sides.rules) (permits sides) (permits_reply_to sides) [] [] tt p b ends (wrong_by b (expected_at sides Alone p) other (expects sides Alone p))
+  differ_by AfterSwap p is b ends other =
+      differ_more (filter_of sides.rules) (permits sides) (permits_reply_to sides) (front_of AfterSwap p) (Some ends.0 ∷ []) (ends.1, tt) p b
       (subst (λ (s : CtState). filter_of sides.rules s p b) (sym (behind_swap_state p ends.0)) ends.2)
-      (wrong_by b (expected_at sides BehindSwap p) other (expects sides BehindSwap p))
-  differ_by BehindBoth p is b ends other = by_first ends.0 ends.1 ends.2 ends.3 ends.4
+      (wrong_by b (expected_at sides AfterSwap p) other (expects sides AfterSwap p))
+  differ_by AfterBoth p is b ends other = by_first ends.0 ends.1 ends.2 ends.3 ends.4
     where
       by_first : (first : Bool) → filter_of sides.rules New p first → (passed : Bool) → filter_of sides.rules New (swap_of p) passed
-          → filter_of sides.rules (state_after (first || passed)) p b → DiffersAt sides BehindBoth p b
+          → filter_of sides.rules (state_after (first || passed)) p b → DiffersAt sides AfterBoth p b
       by_first true first passed second last =
           let answer = gives Established (swap_of p) (swaps_known p is) in
-          differ_more (filter_of sides.rules) (permits sides) (lets_answer sides) (front_of BehindBoth p) (Some true ∷ Some answer.0 ∷ [])
+          differ_more (filter_of sides.rules) (permits sides) (permits_reply_to sides) (front_of AfterBoth p) (Some true ∷ Some answer.0 ∷ [])
           (first, (subst (λ (s : CtState). filter_of sides.rules s (swap_of p) answer.0) (sym (swap_established p)) answer.1, tt)) p b
           (subst (λ (s : CtState). filter_of sides.rules s p b)
-          (sym (kept_established (after_seen nothing_kept p true) p answer.0 (begins_behind_seen nothing_kept p refl refl))) last)
-          (wrong_by b (expected_at sides BehindBoth p) other (expects sides BehindBoth p))
+          (sym (kept_established (after_seen no_connections p true) p answer.0 (begins_behind_seen no_connections p refl refl))) last)
+          (wrong_by b (expected_at sides AfterBoth p) other (expects sides AfterBoth p))
       by_first false first passed second last =
-          differ_more (filter_of sides.rules) (permits sides) (lets_answer sides) (front_of BehindBoth p) (Some false ∷ Some passed ∷ [])
+          differ_more (filter_of sides.rules) (permits sides) (permits_reply_to sides) (front_of AfterBoth p) (Some false ∷ Some passed ∷ [])
           (first, (second, tt)) p b
           (subst (λ (s : CtState). filter_of sides.rules s p b) (sym (behind_swap_state p passed)) last)
-          (wrong_by b (expected_at sides BehindBoth p) other (expects sides BehindBoth p))
+          (wrong_by b (expected_at sides AfterBoth p) other (expects sides AfterBoth p))
 
   ends_alone : (p : Packet) (b : Bool) (answers : List (Option Bool)) → length answers ≡ 0
-      → Runs (filter_of sides.rules) nothing_kept (Seen p ∷ []) (answers ++ Some b ∷ []) → EndsBy sides.rules sides.rules Alone p b
+      → Runs (filter_of sides.rules) no_connections (Seen p ∷ []) (answers ++ Some b ∷ []) → EndsBy sides.rules sides.rules Alone p b
   ends_alone p b [] many run = run.0
   ends_alone p b (x ∷ xs) many run = absurd (omega (arith, many))
 
   ends_behind_swap : (p : Packet) (b : Bool) (answers : List (Option Bool)) → length answers ≡ 1
-      → Runs (filter_of sides.rules) nothing_kept (Seen (swap_of p) ∷ Seen p ∷ []) (answers ++ Some b ∷ []) → EndsBy sides.rules sides.rules BehindSwap p b
+      → Runs (filter_of sides.rules) no_connections (Seen (swap_of p) ∷ Seen p ∷ []) (answers ++ Some b ∷ []) → EndsBy sides.rules sides.rules AfterSwap p b
   ends_behind_swap p b [] many run = absurd (omega (arith, many))
   ends_behind_swap p b (None ∷ xs) many run = absurd run
   ends_behind_swap p b (Some a ∷ []) many run =
@@ -161,8 +161,8 @@ module _ (sides : Sides) (gives : GivesOne (filter_of sides.rules)) where
   ends_behind_swap p b (Some a ∷ x ∷ xs) many run = absurd (omega (arith, many))
 
   ends_behind_both : (p : Packet) → IsPacket p → (b : Bool) (answers : List (Option Bool)) → length answers ≡ 2
-      → Runs (filter_of sides.rules) nothing_kept (Seen p ∷ Seen (swap_of p) ∷ Seen p ∷ []) (answers ++ Some b ∷ [])
-      → EndsBy sides.rules sides.rules BehindBoth p b
+      → Runs (filter_of sides.rules) no_connections (Seen p ∷ Seen (swap_of p) ∷ Seen p ∷ []) (answers ++ Some b ∷ [])
+      → EndsBy sides.rules sides.rules AfterBoth p b
   ends_behind_both p is b [] many run = absurd (omega (arith, many))
   ends_behind_both p is b (None ∷ xs) many run = absurd run
   ends_behind_both p is b (Some a ∷ []) many run = absurd (omega (arith, many))
@@ -174,7 +174,7 @@ module _ (sides : Sides) (gives : GivesOne (filter_of sides.rules)) where
         answer.0,
         answer.1,
         subst (λ (s : CtState). filter_of sides.rules s p b)
-            (kept_established (after_seen nothing_kept p true) p c (begins_behind_seen nothing_kept p refl refl)) run.1.1.0,
+            (kept_established (after_seen no_connections p true) p c (begins_behind_seen no_connections p refl refl)) run.1.1.0,
       )
   ends_behind_both p is b (Some false ∷ Some c ∷ []) many run =
       (false, run.0, c, run.1.0, subst (λ (s : CtState). filter_of sides.rules s p b) (behind_swap_state p c) run.1.1.0)
@@ -182,8 +182,8 @@ module _ (sides : Sides) (gives : GivesOne (filter_of sides.rules)) where
 
   ends_by : (kind : Kind) (p : Packet) → IsPacket p → (b : Bool) → DiffersAt sides kind p b → EndsBy sides.rules sides.rules kind p b
   ends_by Alone p is b differs = ends_alone p b differs.answers differs.many differs.run
-  ends_by BehindSwap p is b differs = ends_behind_swap p b differs.answers differs.many differs.run
-  ends_by BehindBoth p is b differs = ends_behind_both p is b differs.answers differs.many differs.run
+  ends_by AfterSwap p is b differs = ends_behind_swap p b differs.answers differs.many differs.run
+  ends_by AfterBoth p is b differs = ends_behind_both p is b differs.answers differs.many differs.run
 
   pub whole_differs : (kind : Kind) (p : Packet) → IsPacket p → (b : Bool) → DiffersBy (record { part = sides; swaps = sides }) kind p b ↔ DiffersAt sides kind p b
   whole_differs kind p is b = (
@@ -204,12 +204,12 @@ module _ (sides : Sides) (gives : GivesOne (filter_of sides.rules)) where
 ends_in_part : (b : PacketBox) (rules swaps more others : Rules) → HaveSameVerdicts b rules more → HaveSameVerdicts (swapped b) swaps others
     → (kind : Kind) (p : Packet) → IsIn b p → (passes : Bool) → EndsBy rules swaps kind p passes ↔ EndsBy more others kind p passes
 ends_in_part b rules swaps more others same back Alone p inside passes = same p inside New passes
-ends_in_part b rules swaps more others same back BehindSwap p inside passes =
+ends_in_part b rules swaps more others same back AfterSwap p inside passes =
     let other = back (swap_of p) (in_swapped b p inside) New in (
       (λ e. (e.0, (other e.0).0 e.1, (same p inside (state_after e.0) passes).0 e.2)),
       (λ e. (e.0, (other e.0).1 e.1, (same p inside (state_after e.0) passes).1 e.2)),
     )
-ends_in_part b rules swaps more others same back BehindBoth p inside passes =
+ends_in_part b rules swaps more others same back AfterBoth p inside passes =
     let other = back (swap_of p) (in_swapped b p inside) New in (
       (λ e. (e.0, (same p inside New e.0).0 e.1, e.2, (other e.2).0 e.3, (same p inside (state_after (e.0 || e.2)) passes).0 e.4)),
       (λ e. (e.0, (same p inside New e.0).1 e.1, e.2, (other e.2).1 e.3, (same p inside (state_after (e.0 || e.2)) passes).1 e.4)),

@@ -7,7 +7,7 @@ use Rattle.host_net.specs.Host.{Host, owner_of}
 use Rattle.header_space.specs.declared.owners.Owned.{Owned}
 use Rattle.audit_core.specs.declared.difference.Difference.{Difference}
 use Rattle.audit_core.specs.declared.kind.Kind.{Kind}
-use Rattle.audit_core.specs.declared.kind.Kind.TheVariants.{Alone, BehindSwap, BehindBoth}
+use Rattle.audit_core.specs.declared.kind.Kind.TheVariants.{Alone, AfterSwap, AfterBoth}
 use Rattle.audit_core.specs.inner.Pairs.{AreAdded, AreSame}
 use Rattle.header_space.specs.Owners.{IsOfPair, owners_from, owners_of}
 use Rattle.audit_core.specs.Pairs.{AreDifferences, AreListedFor, Case, DiffersAt, HasDifference, IsComplete, IsDifference, IsListedFor, all_cases, case_of, cases_between}
@@ -47,18 +47,18 @@ module _ (sides : Sides) where
 
   -- The lists that are appended for each case of a pair.
   pub six_added : (from to : Option ℕ) (a b c d e f g : List Difference) → AreAdded sides (case_of from to Alone true ∷ []) a b
-      → AreAdded sides (case_of from to Alone false ∷ []) b c → AreAdded sides (case_of from to BehindSwap true ∷ []) c d
-      → AreAdded sides (case_of from to BehindSwap false ∷ []) d e → AreAdded sides (case_of from to BehindBoth true ∷ []) e f
-      → AreAdded sides (case_of from to BehindBoth false ∷ []) f g → AreAdded sides (cases_between from to) a g
+      → AreAdded sides (case_of from to Alone false ∷ []) b c → AreAdded sides (case_of from to AfterSwap true ∷ []) c d
+      → AreAdded sides (case_of from to AfterSwap false ∷ []) d e → AreAdded sides (case_of from to AfterBoth true ∷ []) e f
+      → AreAdded sides (case_of from to AfterBoth false ∷ []) f g → AreAdded sides (cases_between from to) a g
   six_added from to a b c d e f g first second third fourth fifth sixth =
-      let six = case_of from to BehindBoth false ∷ [] in
-      let five = case_of from to BehindBoth true ∷ six in
-      let four = case_of from to BehindSwap false ∷ five in
-      let three = case_of from to BehindSwap true ∷ four in
+      let six = case_of from to AfterBoth false ∷ [] in
+      let five = case_of from to AfterBoth true ∷ six in
+      let four = case_of from to AfterSwap false ∷ five in
+      let three = case_of from to AfterSwap true ∷ four in
       let two = case_of from to Alone false ∷ three in
-      let last = added_then (case_of from to BehindBoth true ∷ []) six e f g fifth sixth in
-      let later = added_then (case_of from to BehindSwap false ∷ []) five d e g fourth last in
-      let middle = added_then (case_of from to BehindSwap true ∷ []) four c d g third later in
+      let last = added_then (case_of from to AfterBoth true ∷ []) six e f g fifth sixth in
+      let later = added_then (case_of from to AfterSwap false ∷ []) five d e g fourth last in
+      let middle = added_then (case_of from to AfterSwap true ∷ []) four c d g third later in
       let early = added_then (case_of from to Alone false ∷ []) three b c g second middle in
       added_then (case_of from to Alone true ∷ []) two a b g first early
 
@@ -78,7 +78,7 @@ module _ (sides : Sides) where
 
   pub listed_nothing : (from to : Option ℕ) → ((c : Case) → c.from ≡ from → c.to ≡ to → IsListedFor sides c []) → AreListedFor sides (cases_between from to) []
   listed_nothing from to none =
-      listed_none (cases_between from to) (at Alone true, (at Alone false, (at BehindSwap true, (at BehindSwap false, (at BehindBoth true, (at BehindBoth false, tt))))))
+      listed_none (cases_between from to) (at Alone true, (at Alone false, (at AfterSwap true, (at AfterSwap false, (at AfterBoth true, (at AfterBoth false, tt))))))
     where
       at : (kind : Kind) (forwards : Bool) → IsListedFor sides (case_of from to kind forwards) []
       at kind forwards = none (case_of from to kind forwards) refl refl
@@ -158,10 +158,10 @@ module _ (sides : Sides) where
 case_between : (from to : Option ℕ) (kind : Kind) (forwards : Bool) → Contains (cases_between from to) (case_of from to kind forwards)
 case_between from to Alone true = (0, omega arith, refl)
 case_between from to Alone false = (1, omega arith, refl)
-case_between from to BehindSwap true = (2, omega arith, refl)
-case_between from to BehindSwap false = (3, omega arith, refl)
-case_between from to BehindBoth true = (4, omega arith, refl)
-case_between from to BehindBoth false = (5, omega arith, refl)
+case_between from to AfterSwap true = (2, omega arith, refl)
+case_between from to AfterSwap false = (3, omega arith, refl)
+case_between from to AfterBoth true = (4, omega arith, refl)
+case_between from to AfterBoth false = (5, omega arith, refl)
 
 case_there : (froms tos : List (Option ℕ)) (from to : Option ℕ) (kind : Kind) (forwards : Bool) → Contains froms from → Contains tos to
     → Contains (all_cases froms tos) (case_of from to kind forwards)

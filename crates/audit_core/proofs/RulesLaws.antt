@@ -9,13 +9,13 @@ use Rattle.host_net.specs.Verdict.{verdict_if}
 use Rattle.host_net.proofs.VerdictLaws.{verdict_if-injective}
 use Rattle.ipt_rules.specs.Chain.{Chain, policy_of}
 use Rattle.ipt_rules.specs.Matching.{matches}
-use Rattle.ipt_rules.specs.Meaning.{verdict_by}
+use Rattle.ipt_rules.specs.Semantics.{verdict_by}
 use Rattle.ipt_rules.proofs.MeaningLaws.{verdict_once}
-use Rattle.ipt_rules.specs.inner.OneOutcome.{EachGivesOne}
+use Rattle.ipt_rules.specs.inner.OneOutcome.{AreDeterministic}
 use Rattle.ofp_rules.specs.declared.entry.Entry.{Entry}
 use Rattle.ofp_rules.specs.declared.entry.Frame.TheVariants.{Ipv4}
 use Rattle.ofp_rules.specs.inner.Build.{IsTable}
-use Rattle.ofp_rules.specs.Meaning.{HasVerdict}
+use Rattle.ofp_rules.specs.Semantics.{HasVerdict}
 use Rattle.audit_core.specs.Rules.{Chains, Entries, Rules, filter_of}
 use Rattle.audit_core.specs.Verdicts.{GivesOne}
 
@@ -29,7 +29,7 @@ pub one_verdict : (rules : Rules) → GivesOne (filter_of rules) → (state : Ct
 one_verdict rules gives state p is b c first second = let one = gives state p is in one.2 b first ∙ sym (one.2 c second)
 
 -- Chains that each have one outcome.
-pub chains_give : (chains : List Chain) → EachGivesOne chains → GivesOne (filter_of (Chains chains))
+pub chains_give : (chains : List Chain) → AreDeterministic chains → GivesOne (filter_of (Chains chains))
 chains_give chains each state p is =
     let one = each (matches p state) 1 0 in
     let said = said_by (verdict_by (policy_of chains 1) one.outcome) in

@@ -12,14 +12,14 @@ use Rattle.ipt_rules.specs.declared.rule.ProtoMatch.{ProtoMatch}
 use Rattle.ipt_rules.specs.declared.rule.Rule.{Rule}
 use Rattle.ipt_rules.specs.Chain.{Chain, rules_of}
 use Rattle.ipt_rules.specs.Matching.{address_matches, matches, port_matches, protocol_matches, state_matches, turned}
-use Rattle.ipt_rules.specs.Meaning.{Gives, HasVerdictIn, at_end, goes_on, ends, decides, comes_back, step_of}
+use Rattle.ipt_rules.specs.Semantics.{Gives, HasVerdictIn, at_end, goes_on, ends, decides, comes_back, step_of}
 use Rattle.ipt_rules.specs.Rules.{all_rules}
 use Rattle.ofp_rules.specs.declared.entry.Entry.{Entry}
 use Rattle.ofp_rules.specs.declared.entry.Frame.TheVariants.{Ipv4}
 use Rattle.ofp_rules.specs.declared.entry.FrameKind.{FrameKind}
 use Rattle.ofp_rules.specs.declared.entry.FrameKind.TheVariants.{Any, Arp, Ip}
 use Rattle.ofp_rules.specs.Matching.{kind_matches, number_matches, packet_matches, part_matches, matches as entry_matches}
-use Rattle.ofp_rules.specs.Meaning.{HasVerdict, IsOneOf}
+use Rattle.ofp_rules.specs.Semantics.{HasVerdict, IsOneOf}
 use Rattle.audit_core.specs.Parts.{address_parts, entry_parts, number_parts, one_port_parts, port_parts, prefix_parts, protocol_parts, rule_parts, rules_parts}
 use Rattle.audit_core.specs.inner.Ranges.{within}
 use Rattle.audit_core.specs.Rules.{Rules, Chains, Entries, filter_of}

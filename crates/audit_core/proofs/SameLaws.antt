@@ -6,7 +6,7 @@ use Rattle.flow_set.specs.FlowSet.{IsSubset}
 use Rattle.pkt_core.specs.Filter.{ArePackets}
 use Rattle.audit_core.specs.declared.difference.Difference.{Difference}
 use Rattle.audit_core.specs.declared.kind.Kind.{Kind}
-use Rattle.audit_core.specs.declared.kind.Kind.TheVariants.{Alone, BehindSwap, BehindBoth}
+use Rattle.audit_core.specs.declared.kind.Kind.TheVariants.{Alone, AfterSwap, AfterBoth}
 use Rattle.audit_core.specs.Findings.{DifferSomewhere}
 use Rattle.audit_core.specs.inner.Pairs.{AreSame, IsDifferent}
 use Rattle.audit_core.specs.Verdicts.{GivesOne}
@@ -18,7 +18,7 @@ use Rattle.audit_core.specs.Lists.{front_of, list_of}
 use Rattle.header_space.specs.Owners.{owners_of}
 use Rattle.audit_core.specs.Pairs.{AreDifferences, Case, DiffersAt, IsDifference, all_cases}
 use Rattle.audit_core.specs.Rules.{filter_of}
-use Rattle.audit_core.specs.Sides.{Differ, ForwardAlike, Sides, lets_answer, permits}
+use Rattle.audit_core.specs.Sides.{Differ, AreEquivalent, Sides, permits_reply_to, permits}
 use Rattle.audit_core.proofs.ExpectedLaws.{expected_where_agree}
 use Rattle.audit_core.proofs.JudgingLemmas.{agree_where_right, right_from}
 use Rattle.audit_core.proofs.PairLaws.{complete_where, first_is, listed_same}
@@ -26,18 +26,18 @@ use Rattle.audit_core.proofs.PairLaws.{complete_where, first_is, listed_same}
 module _ (sides : Sides) (gives : GivesOne (filter_of sides.rules)) (subset : IsSubset sides.stateful sides.permitted) where
   -- A difference at a packet is a difference on a list of packets.
   differ_there : (kind : Kind) (p : Packet) (forwards : Bool) → DiffersAt sides kind p forwards → Differ sides (list_of kind p)
-  differ_there kind p forwards differs = differ_on (filter_of sides.rules) (permits sides) (lets_answer sides) (front_of kind p) p forwards differs
+  differ_there kind p forwards differs = differ_on (filter_of sides.rules) (permits sides) (permits_reply_to sides) (front_of kind p) p forwards differs
 
   list_packets : (kind : Kind) (p : Packet) → IsPacket p → ArePackets (list_of kind p)
   list_packets Alone p is = trace_packets Alone p true is
-  list_packets BehindSwap p is = trace_packets BehindSwap p true is
-  list_packets BehindBoth p is = trace_packets BehindBoth p true is
+  list_packets AfterSwap p is = trace_packets AfterSwap p true is
+  list_packets AfterBoth p is = trace_packets AfterBoth p true is
 
   pub somewhere : (p : Packet) → IsPacket p → IsDifferent sides p → DifferSomewhere sides
   somewhere p is differs = (list_of differs.0 p, list_packets differs.0 p is, differ_there differs.0 p differs.1 differs.2)
 
   nowhere : AgreeAlways sides → DifferSomewhere sides → ⊥
-  nowhere agree differ = agree_not_differ (filter_of sides.rules) (permits sides) (lets_answer sides) differ.0 (agree differ.0 differ.1) differ.2
+  nowhere agree differ = agree_not_differ (filter_of sides.rules) (permits sides) (permits_reply_to sides) differ.0 (agree differ.0 differ.1) differ.2
 
   same_where_right : ((kind : Kind) → AreRight sides kind) → AreSame sides
   same_where_right right p is differs = nowhere (agree_where_right sides gives subset right) (somewhere p is differs)
@@ -78,5 +78,5 @@ module _ (sides : Sides) (gives : GivesOne (filter_of sides.rules)) (subset : Is
       there first = somewhere first.1.packet first.1.of_pair.packet (first.0.kind, first.0.forwards, first.1.differs)
 
   -- Rules that differ from the policy on no list of events are equivalent to it.
-  pub alike_where_none : (DifferSomewhere sides → ⊥) → ForwardAlike sides
+  pub alike_where_none : (DifferSomewhere sides → ⊥) → AreEquivalent sides
   alike_where_none none = expected_where_agree sides gives (agree_where_right sides gives subset (are_right (λ p is differs. none (somewhere p is differs))))

@@ -16,9 +16,9 @@ use Rattle.pkt_core.specs.Expected.{Expected}
 use Rattle.pkt_core.proofs.ExpectedLaws.{runs_as_expected}
 use Rattle.pkt_core.specs.Firewall.{Filter, is_established, may_pass}
 use Rattle.pkt_core.specs.inner.FirewallFor.{AllKnown, StatefulArePermitted}
-use Rattle.pkt_core.specs.laws.KeptLaws.{Fits, Fits-forget, Fits-seen, Fits-start, answer_is_established, begins_behind_seen, established_by}
+use Rattle.pkt_core.specs.laws.ConnectionTableLaws.{Fits, Fits-forget, Fits-seen, Fits-start, answer_is_established, begins_behind_seen, established_by}
 use Rattle.pkt_core.specs.inner.PolicyRuns.{RunsBy}
-use Rattle.pkt_core.specs.Tracking.{Kept, Runs, after_forget, after_seen, nothing_kept, state_of, with_kept}
+use Rattle.pkt_core.specs.Tracking.{ConnectionTable, Runs, after_forget, after_seen, no_connections, state_of, with_connection}
 use Rattle.pkt_core.specs.laws.TrackingLaws.{same_packet-self}
 use Rattle.audit_core.specs.Agreement.{AgreeOn}
 use Rattle.audit_core.specs.inner.Agreement.{IsJudged}
@@ -49,11 +49,11 @@ module _ (permitted stateful : Packet → Bool) where
   )
 
 -- After a packet that passes, its swap is established.
-pub swap_established : (q : Packet) → state_of (after_seen nothing_kept q true) (swap_of q) ≡ Established
-swap_established q = is_established-state _ (answer_is_established (after_seen nothing_kept q true) (swap_of q) (begins_behind_seen nothing_kept q refl refl))
+pub swap_established : (q : Packet) → state_of (after_seen no_connections q true) (swap_of q) ≡ Established
+swap_established q = is_established-state _ (answer_is_established (after_seen no_connections q true) (swap_of q) (begins_behind_seen no_connections q refl refl))
 
 -- A packet whose connection is marked as answered is established.
-marked_established : (kept : Kept) (p : Packet) → kept p ≡ Some true → state_of kept p ≡ Established
+marked_established : (kept : ConnectionTable) (p : Packet) → kept p ≡ Some true → state_of kept p ≡ Established
 marked_established kept p h = is_established-state _ (by_test (is_some (kept (swap_of p))) (kept p) h)
   where
     by_test : (b : Bool) (o : Option Bool) → o ≡ Some true → is_established (if (b || unwrap_or o false) then Established else New) ≡ true
@@ -61,16 +61,16 @@ marked_established kept p h = is_established-state _ (by_test (is_some (kept (sw
     by_test false o h = ap (λ (x : Option Bool). is_established (if unwrap_or x false then Established else New)) h
 
 -- The first packet of a tracked connection is established after its swap.
-pub kept_established : (kept : Kept) (p : Packet) (b : Bool) → is_some (kept p) ≡ true → state_of (after_seen kept (swap_of p) b) p ≡ Established
+pub kept_established : (kept : ConnectionTable) (p : Packet) (b : Bool) → is_some (kept p) ≡ true → state_of (after_seen kept (swap_of p) b) p ≡ Established
 kept_established kept p b there = marked_established (after_seen kept (swap_of p) b) p (marked (is_some (kept p)) there)
   where
-    marked : (c : Bool) → c ≡ true → (if c then with_kept kept p (Some true) else (if b && not (is_some (kept (swap_of p))) then with_kept kept (swap_of p) (Some false) else kept)) p ≡ Some true
+    marked : (c : Bool) → c ≡ true → (if c then with_connection kept p (Some true) else (if b && not (is_some (kept (swap_of p))) then with_connection kept (swap_of p) (Some false) else kept)) p ≡ Some true
     marked true h = ap (λ (s : Bool). if s then Some true else kept p) (same_packet-self p)
     marked false h = absurd (true≢false (sym h))
 
 module _ (filter : Filter) (permitted stateful : Packet → Bool) where
   -- A packet in its tracked state has the verdict of the policy.
-  judged_in_state : {Known : Packet → Type 0} (past : List Event) (kept : Kept) → Fits Known permitted past kept → (p : Packet) → IsJudged filter permitted stateful p →
+  judged_in_state : {Known : Packet → Type 0} (past : List Event) (kept : ConnectionTable) → Fits Known permitted past kept → (p : Packet) → IsJudged filter permitted stateful p →
       (b : Bool) → filter (state_of kept p) p b → b ≡ may_pass permitted stateful (state_of kept p) p
   judged_in_state past kept fits p judged b h = by_state (state_of kept p) refl h
     where
@@ -86,7 +86,7 @@ module _ (filter : Filter) (permitted stateful : Packet → Bool) where
 
   -- Each run is a run with the verdicts of the policy.
   run_by_policy : {Known : Packet → Type 0} → ((p : Packet) → Known p → IsJudged filter permitted stateful p) →
-      (past : List Event) (kept : Kept) → Fits Known permitted past kept → (events : List Event) → AllKnown Known events → (answers : List (Option Bool)) → Runs filter kept events answers →
+      (past : List Event) (kept : ConnectionTable) → Fits Known permitted past kept → (events : List Event) → AllKnown Known events → (answers : List (Option Bool)) → Runs filter kept events answers →
       RunsBy permitted stateful kept events answers
   run_by_policy judged past kept fits [] known [] run = tt
   run_by_policy judged past kept fits [] known (answer ∷ answers) run = absurd run
@@ -110,4 +110,4 @@ module _ (filter : Filter) (permitted stateful : Packet → Bool) where
   agree_where_judged Known policy judged events known answers run =
       runs_as_expected (λ state p passes. passes ≡ may_pass permitted stateful state p) Known permitted stateful
       (record { given = λ state p is. refl; only = λ state p passes is h. h; policy = policy }) events known answers
-      (run_by_policy judged [] nothing_kept (Fits-start permitted) events known answers run)
+      (run_by_policy judged [] no_connections (Fits-start permitted) events known answers run)

@@ -8,7 +8,7 @@ use Rattle.host_net.specs.declared.packet.Packet.{Packet}
 use Rattle.host_net.specs.declared.prefix.Prefix.{Prefix}
 use Rattle.host_net.specs.declared.service.Service.{Service}
 use Rattle.host_net.specs.Prefix.{covers}
-use Rattle.host_net.specs.Host.{Host, covers_any, holder_of, owner_of, rest_of}
+use Rattle.host_net.specs.Host.{Host, covers_any, prefix_owner_of, owner_of, rest_of}
 use Rattle.host_net.specs.Hosts.{all_prefixes}
 use Rattle.host_net.specs.Service.{is_served, serves}
 use Rattle.host_net.specs.Services.{services_of}
@@ -55,9 +55,9 @@ place_below test k (h ∷ hs) i found = by_test (test h) (place_below test (k + 
 -- An owner is one of the hosts.
 pub owner_below : (hosts : List Host) (a i : ℕ) → owner_of hosts a ≡ Some i → i < length hosts
 unfolding owner_of
-owner_below hosts a i owned = by_holder (holder_of hosts a) refl owned
+owner_below hosts a i owned = by_holder (prefix_owner_of hosts a) refl owned
   where
-    by_holder : (o : Option ℕ) → holder_of hosts a ≡ o → option_or o (rest_of hosts) ≡ Some i → i < length hosts
+    by_holder : (o : Option ℕ) → prefix_owner_of hosts a ≡ o → option_or o (rest_of hosts) ≡ Some i → i < length hosts
     by_holder None is found = let below = place_below (λ h. h.rest) 0 hosts i found in omega arith
     by_holder (Some j) is found = let below = place_below (λ h. covers_any h.prefixes a) 0 hosts i (is ∙ found) in omega arith
 

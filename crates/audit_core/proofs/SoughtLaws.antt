@@ -7,7 +7,7 @@ use Rattle.audit_core.specs.declared.finding.Finding.{Finding}
 use Rattle.audit_core.specs.declared.finding.Finding.TheVariants.{Equal, Differ as Differing}
 use Rattle.audit_core.specs.declared.finding.Trace.{Trace}
 use Rattle.audit_core.specs.declared.kind.Kind.{Kind}
-use Rattle.audit_core.specs.declared.kind.Kind.TheVariants.{Alone, BehindSwap, BehindBoth}
+use Rattle.audit_core.specs.declared.kind.Kind.TheVariants.{Alone, AfterSwap, AfterBoth}
 use Rattle.audit_core.specs.Cuts.{cuts_between, parts_between}
 use Rattle.header_space.proofs.SeekLaws.{not_before}
 use Rattle.audit_core.specs.Findings.{IsFirstTrace, events_of, trace_of}
@@ -15,7 +15,7 @@ use Rattle.audit_core.specs.Places.{IsClassPacket, representatives_of}
 use Rattle.audit_core.specs.Rules.{filter_of}
 use Rattle.audit_core.specs.Lists.{front_of, list_of}
 use Rattle.audit_core.specs.Pairs.{DiffersAt}
-use Rattle.audit_core.specs.Sides.{Differ, Sides, lets_answer, permits}
+use Rattle.audit_core.specs.Sides.{Differ, Sides, permits_reply_to, permits}
 use Rattle.audit_core.specs.inner.Findings.{IsFinding}
 use Rattle.audit_core.specs.Verdicts.{GivesOne}
 use Rattle.audit_core.proofs.FindingOnceLaws.{ordered}
@@ -47,12 +47,12 @@ module _ (sides : Sides) (gives : GivesOne (filter_of sides.rules)) (subset : Is
       → Differ sides (events_of trace)
   trace_differs trace kind p is differs =
       subst (λ (t : Trace). Differ sides (events_of t)) (sym is)
-      (by_kind kind (differ_on (filter_of sides.rules) (permits sides) (lets_answer sides) (front_of kind p) p trace.forwards differs))
+      (by_kind kind (differ_on (filter_of sides.rules) (permits sides) (permits_reply_to sides) (front_of kind p) p trace.forwards differs))
     where
       by_kind : (kind : Kind) → Differ sides (list_of kind p) → Differ sides (events_of (trace_of kind p trace.forwards))
       by_kind Alone differ = differ
-      by_kind BehindSwap differ = differ
-      by_kind BehindBoth differ = differ
+      by_kind AfterSwap differ = differ
+      by_kind AfterBoth differ = differ
 
   first_trace : (trace : Trace) → IsFirstKind sides trace → IsFirstTrace sides (representatives_of (cuts_between sides)) trace
   first_trace trace found =

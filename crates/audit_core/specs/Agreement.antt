@@ -4,7 +4,7 @@ use Rattle.host_net.specs.declared.packet.Packet.{Packet}
 use Rattle.pkt_core.specs.declared.event.Event.{Event}
 use Rattle.pkt_core.specs.Events.{SeenAt}
 use Rattle.pkt_core.specs.Expected.{AreExpected, Expected}
-use Rattle.pkt_core.specs.Filter.{RunsFromNothing}
+use Rattle.pkt_core.specs.Filter.{RunsFromNoConnections}
 use Rattle.pkt_core.specs.Firewall.{Filter}
 
 -- The packet passes and is not expected to pass, or it does not pass and is expected to pass.
@@ -14,13 +14,13 @@ IsWrong passes Expects = (IsTrue passes × (Expects → ⊥)) ⊎ ((passes ≡ f
 -- The filter and the policy agree on a list of events: the results of every run over it are the expected results.
 abbrev pub AgreeOn : Filter → (permitted stateful : Packet → Bool) → List Event → Type 0
 AgreeOn filter permitted stateful events =
-    (answers : List (Option Bool)) → RunsFromNothing filter events answers → AreExpected permitted stateful events answers
+    (answers : List (Option Bool)) → RunsFromNoConnections filter events answers → AreExpected permitted stateful events answers
 
 -- The filter and the policy differ on a list of events: at some index of some run over it, a packet passes and is not expected to pass, or
 -- it does not pass and is expected to pass.
 pub record DifferOn (filter : Filter) (permitted stateful : Packet → Bool) (events : List Event) : Type 0 where
   pub answers : List (Option Bool)
-  pub run : RunsFromNothing filter events answers
+  pub run : RunsFromNoConnections filter events answers
   pub place : ℕ
   pub packet : Packet
   pub seen : SeenAt events place packet

@@ -6,7 +6,7 @@ use Rattle.pkt_core.specs.declared.event.Event.{Event}
 use Rattle.pkt_core.specs.declared.event.Event.TheVariants.{Seen}
 use Rattle.pkt_core.specs.Filter.{ArePackets}
 use Rattle.audit_core.specs.declared.kind.Kind.{Kind}
-use Rattle.audit_core.specs.declared.kind.Kind.TheVariants.{Alone, BehindSwap, BehindBoth}
+use Rattle.audit_core.specs.declared.kind.Kind.TheVariants.{Alone, AfterSwap, AfterBoth}
 use Rattle.audit_core.specs.declared.finding.Trace.{Trace}
 use Rattle.audit_core.specs.Lists.{front_of, list_of}
 use Rattle.header_space.specs.Order.{ComesBefore}
@@ -16,8 +16,8 @@ use Rattle.audit_core.specs.Sides.{Agree, Differ, DifferThen, Sides}
 -- The trace of that kind at a packet, with whether the rules forward the last packet.
 abbrev pub trace_of : Kind → Packet → Bool → Trace
 trace_of Alone p forwards = record { first = p; second = None; third = None; forwards = forwards }
-trace_of BehindSwap p forwards = record { first = swap_of p; second = Some p; third = None; forwards = forwards }
-trace_of BehindBoth p forwards = record { first = p; second = Some (swap_of p); third = Some p; forwards = forwards }
+trace_of AfterSwap p forwards = record { first = swap_of p; second = Some p; third = None; forwards = forwards }
+trace_of AfterBoth p forwards = record { first = p; second = Some (swap_of p); third = Some p; forwards = forwards }
 
 -- The packets of a trace, as events.
 abbrev pub seen_then : Option Packet → List Event → List Event
@@ -30,8 +30,8 @@ events_of trace = Seen trace.first ∷ seen_then trace.second (seen_then trace.t
 -- The order in which kinds are tried.
 abbrev pub place_of : Kind → ℕ
 place_of Alone = 0
-place_of BehindSwap = 1
-place_of BehindBoth = 2
+place_of AfterSwap = 1
+place_of AfterBoth = 2
 
 -- The two sides agree on the lists of that kind at the packets of all classes.
 abbrev pub AgreeAll : Sides → Representatives → Kind → Type 0

@@ -8,7 +8,7 @@ use Rattle.host_net.specs.Packet.{IsPacket}
 use Rattle.header_space.specs.Order.{ComesBefore}
 use Rattle.header_space.specs.Owners.{IsOfPair, owners_of}
 use Rattle.audit_core.specs.declared.kind.Kind.{Kind}
-use Rattle.audit_core.specs.declared.kind.Kind.TheVariants.{Alone, BehindSwap, BehindBoth}
+use Rattle.audit_core.specs.declared.kind.Kind.TheVariants.{Alone, AfterSwap, AfterBoth}
 use Rattle.audit_core.specs.declared.difference.Difference.{Difference}
 use Rattle.audit_core.specs.Findings.{trace_of}
 use Rattle.audit_core.specs.Lists.{front_of}
@@ -59,10 +59,10 @@ abbrev pub cases_between : Option ℕ → Option ℕ → List Case
 cases_between from to =
     case_of from to Alone true
     ∷ case_of from to Alone false
-    ∷ case_of from to BehindSwap true
-    ∷ case_of from to BehindSwap false
-    ∷ case_of from to BehindBoth true
-    ∷ case_of from to BehindBoth false ∷ []
+    ∷ case_of from to AfterSwap true
+    ∷ case_of from to AfterSwap false
+    ∷ case_of from to AfterBoth true
+    ∷ case_of from to AfterBoth false ∷ []
 
 -- All cases are ordered by the owner of the source, and then by the owner of the destination.
 abbrev pub all_cases : List (Option ℕ) → List (Option ℕ) → List Case

@@ -2,9 +2,9 @@
 use Rattle.std.specs.Prelude.{List}
 use Rattle.pkt_core.specs.Firewall.{Filter}
 use Rattle.ipt_rules.specs.Chain.{Chain}
-use Rattle.ipt_rules.specs.Meaning.{Passes as PassesChains}
+use Rattle.ipt_rules.specs.Semantics.{Passes as PassesChains}
 use Rattle.ofp_rules.specs.declared.entry.Entry.{Entry}
-use Rattle.ofp_rules.specs.Meaning.{Passes as PassesTable}
+use Rattle.ofp_rules.specs.Semantics.{Passes as PassesTable}
 
 -- The rules of an audit: the chains of a packet filter, or the entries of a flow table.
 pub data Rules : Type 0 where

@@ -4,10 +4,10 @@ use Rattle.host_net.specs.declared.packet.Packet.{Packet}
 use Rattle.host_net.specs.Site.{Site}
 use Rattle.flow_set.specs.declared.flow.Flow.{Flow}
 use Rattle.pkt_core.specs.declared.event.Event.{Event}
-use Rattle.pkt_core.specs.Filter.{ForwardsExpected}
+use Rattle.pkt_core.specs.Filter.{ForwardsAsExpected}
 use Rattle.pkt_core.specs.FlowPolicy.{is_of}
 use Rattle.audit_core.specs.Agreement.{AgreeOn, DifferOn}
-use Rattle.audit_core.specs.Lists.{DifferBehind}
+use Rattle.audit_core.specs.Lists.{DifferAfter}
 use Rattle.audit_core.specs.Rules.{Rules, filter_of}
 
 -- The two sides: a policy between hosts, with the services of its flows, and rules.
@@ -20,25 +20,25 @@ pub record Sides : Type 0 where
 abbrev pub sides_of : Site → (permitted stateful : List Flow) → Rules → Sides
 sides_of site permitted stateful rules = record { site = site; permitted = permitted; stateful = stateful; rules = rules }
 
--- The policy permits the packet (`permits`), or it permits answers to the packet (`lets_answer`).
+-- The policy permits the packet (`permits`), or it permits answers to the packet (`permits_reply_to`).
 abbrev pub permits : Sides → Packet → Bool
 permits sides = is_of sides.site sides.permitted
 
-abbrev pub lets_answer : Sides → Packet → Bool
-lets_answer sides = is_of sides.site sides.stateful
+abbrev pub permits_reply_to : Sides → Packet → Bool
+permits_reply_to sides = is_of sides.site sides.stateful
 
 -- The two sides agree on a list of events (`Agree`), or they differ on it (`Differ`).
 abbrev pub Agree : Sides → List Event → Type 0
-Agree sides = AgreeOn (filter_of sides.rules) (permits sides) (lets_answer sides)
+Agree sides = AgreeOn (filter_of sides.rules) (permits sides) (permits_reply_to sides)
 
 abbrev pub Differ : Sides → List Event → Type 0
-Differ sides = DifferOn (filter_of sides.rules) (permits sides) (lets_answer sides)
+Differ sides = DifferOn (filter_of sides.rules) (permits sides) (permits_reply_to sides)
 
 -- The two sides differ at the end of a list: after these events, the packet passes and is not expected to pass, or it does not pass and is
 -- expected to pass.
 abbrev pub DifferThen : Sides → List Event → Packet → Bool → Type 0
-DifferThen sides = DifferBehind (filter_of sides.rules) (permits sides) (lets_answer sides)
+DifferThen sides = DifferAfter (filter_of sides.rules) (permits sides) (permits_reply_to sides)
 
 -- Over every list of events, from an empty connection table, the rules forward exactly the packets that the policy and its answers expect.
-abbrev pub ForwardAlike : Sides → Type 0
-ForwardAlike sides = ForwardsExpected (filter_of sides.rules) sides.site sides.permitted sides.stateful
+abbrev pub AreEquivalent : Sides → Type 0
+AreEquivalent sides = ForwardsAsExpected (filter_of sides.rules) sides.site sides.permitted sides.stateful

@@ -105,10 +105,10 @@ fn find(alloc: Global, sides: &Sides<'_>) -> Result<Finding, AllocError>
     if let Some(trace) = fault_of(alloc, sides, Kind::Alone)? {
         return Ok(Finding::Differ(trace));
     }
-    if let Some(trace) = fault_of(alloc, sides, Kind::BehindSwap)? {
+    if let Some(trace) = fault_of(alloc, sides, Kind::AfterSwap)? {
         return Ok(Finding::Differ(trace));
     }
-    match fault_of(alloc, sides, Kind::BehindBoth)? {
+    match fault_of(alloc, sides, Kind::AfterBoth)? {
         Some(trace) => Ok(Finding::Differ(trace)),
         None => Ok(Finding::Equal),
     }

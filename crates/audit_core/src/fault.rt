@@ -34,8 +34,8 @@ impl<'a> Question for Fault<'a> {
         let flow = self.part.flow_within(within);
         match self.kind {
             Kind::Alone => self.part.is_fault_alone(flow, within),
-            Kind::BehindSwap => self.part.is_fault_behind_swap(flow, within),
-            Kind::BehindBoth => self.part.is_fault_behind_both(flow, within),
+            Kind::AfterSwap => self.part.is_fault_behind_swap(flow, within),
+            Kind::AfterBoth => self.part.is_fault_behind_both(flow, within),
         }
     }
 
@@ -135,7 +135,7 @@ fn state_in(kind: Kind) -> CtState
 {
     match kind {
         Kind::Alone => CtState::New,
-        Kind::BehindSwap | Kind::BehindBoth => CtState::Established,
+        Kind::AfterSwap | Kind::AfterBoth => CtState::Established,
     }
 }
 

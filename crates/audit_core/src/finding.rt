@@ -55,13 +55,13 @@ impl Trace {
                 third: None,
                 forwards,
             },
-            Kind::BehindSwap => Trace {
+            Kind::AfterSwap => Trace {
                 first: packet.swap(),
                 second: Some(packet),
                 third: None,
                 forwards,
             },
-            Kind::BehindBoth => Trace {
+            Kind::AfterBoth => Trace {
                 first: packet,
                 second: Some(packet.swap()),
                 third: Some(packet),

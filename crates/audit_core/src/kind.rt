@@ -5,6 +5,6 @@
 #[derive(Clone, Copy, Debug, PartialEq, Eq)]
 pub enum Kind {
     Alone,
-    BehindSwap,
-    BehindBoth,
+    AfterSwap,
+    AfterBoth,
 }

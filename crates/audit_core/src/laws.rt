@@ -10,14 +10,14 @@ ghost use Rattle.pkt_core.specs.FlowPolicy.{flow_of};
 ghost use Rattle.ofp_rules.specs.declared.entry.Entry.{Entry};
 ghost use Rattle.audit_core.specs.declared.finding.Finding.{Finding};
 ghost use Rattle.audit_core.specs.declared.finding.Finding.TheVariants.{Equal};
-ghost use Rattle.audit_core.specs.inner.Agreement.{alone, behind_swap};
+ghost use Rattle.audit_core.specs.inner.Agreement.{alone, after_swap};
 ghost use Rattle.audit_core.specs.Cuts.{Cuts, cuts_between};
 ghost use Rattle.audit_core.specs.inner.Cuts.{AreOneClass};
 ghost use Rattle.audit_core.specs.inner.Findings.{IsFinding};
 ghost use Rattle.audit_core.specs.Places.{IsClassPacket, representatives_of};
 ghost use Rattle.audit_core.specs.Rules.{Entries, filter_of};
 ghost use Rattle.audit_core.specs.Verdicts.{GivesOne};
-ghost use Rattle.audit_core.specs.Sides.{Agree, ForwardAlike, Sides, lets_answer, permits};
+ghost use Rattle.audit_core.specs.Sides.{Agree, AreEquivalent, Sides, permits_reply_to, permits};
 ghost use Rattle.audit_core.specs.inner.Sides.{AgreeAlways, AgreeShortly};
 
 /// Rules that agree with a policy on the three short lists at each packet agree with it on every list of
@@ -27,7 +27,7 @@ pub fn short_lists_suffice()
         ((packet : Packet) → IsPacket packet → AgreeShortly sides packet) → AgreeAlways sides }
     ensures table { (sides : Sides) (entries : List Entry) → sides.rules ≡ Entries entries → GivesOne (filter_of sides.rules) →
         IsSubset sides.stateful sides.permitted →
-        ((packet : Packet) → IsPacket packet → Agree sides (alone packet) × Agree sides (behind_swap packet)) → AgreeAlways sides }
+        ((packet : Packet) → IsPacket packet → Agree sides (alone packet) × Agree sides (after_swap packet)) → AgreeAlways sides }
 {}
 
 /// Two packets of one class belong to the same flow by its services, or both belong to no flow. They have the
@@ -39,7 +39,7 @@ pub fn classes_are_uniform()
     ensures permitted { (sides : Sides) (p q : Packet) → IsPacket p → IsPacket q → AreOneClass (cuts_between sides) p q →
         permits sides p ≡ permits sides q }
     ensures stateful { (sides : Sides) (p q : Packet) → IsPacket p → IsPacket q → AreOneClass (cuts_between sides) p q →
-        lets_answer sides p ≡ lets_answer sides q }
+        permits_reply_to sides p ≡ permits_reply_to sides q }
     ensures verdict { (sides : Sides) (p q : Packet) (state : CtState) (passes : Bool) → IsPacket p → IsPacket q → AreOneClass (cuts_between sides) p q →
         filter_of sides.rules state p passes → filter_of sides.rules state q passes }
     ensures swaps { (cuts : Cuts) (p q : Packet) → AreOneClass cuts p q → AreOneClass cuts (swap_of p) (swap_of q) }
@@ -50,6 +50,6 @@ pub fn classes_are_uniform()
 /// Any finding for rules that forward what a policy expects is `Equal`, and rules whose finding is `Equal`
 /// forward what the policy expects.
 pub fn equal_is_expected()
-    ensures equal { (sides : Sides) (finding : Finding) → ForwardAlike sides → IsFinding sides finding → finding ≡ Equal }
-    ensures expected { (sides : Sides) → GivesOne (filter_of sides.rules) → IsFinding sides Equal → ForwardAlike sides }
+    ensures equal { (sides : Sides) (finding : Finding) → AreEquivalent sides → IsFinding sides finding → finding ≡ Equal }
+    ensures expected { (sides : Sides) → GivesOne (filter_of sides.rules) → IsFinding sides Equal → AreEquivalent sides }
 {}

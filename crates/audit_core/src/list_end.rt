@@ -8,7 +8,7 @@ ghost use Rattle.host_net.specs.Packet.{IsPacket, swap_of};
 ghost use Rattle.header_space.specs.Boxes.{IsBox, IsIn, Narrows};
 ghost use Rattle.header_space.specs.Cuts.{IsCutOf};
 ghost use Rattle.audit_core.specs.Rules.{filter_of};
-ghost use Rattle.audit_core.specs.Sides.{lets_answer, permits};
+ghost use Rattle.audit_core.specs.Sides.{permits_reply_to, permits};
 ghost use Rattle.audit_core.specs.declared.difference.Direction.{Direction};
 ghost use Rattle.audit_core.specs.inner.Parts.{HaveFlow};
 ghost use Rattle.audit_core.specs.inner.Faults.{expected_at};
@@ -122,10 +122,10 @@ impl<'a> Ends<'a> {
         if self.kind_differs(Kind::Alone, flow, within) {
             return true;
         }
-        if self.kind_differs(Kind::BehindSwap, flow, within) {
+        if self.kind_differs(Kind::AfterSwap, flow, within) {
             return true;
         }
-        self.kind_differs(Kind::BehindBoth, flow, within)
+        self.kind_differs(Kind::AfterBoth, flow, within)
     }
 
     fn kind_differs(&self, kind: Kind, flow: Option<Flow>, within: &mut PacketBox) -> bool
@@ -169,7 +169,7 @@ impl<'a> Ends<'a> {
     {
         match kind {
             Kind::Alone => self.part.permits_within(flow, within),
-            Kind::BehindSwap | Kind::BehindBoth => self.part.lets_pass_within(flow, within),
+            Kind::AfterSwap | Kind::AfterBoth => self.part.lets_pass_within(flow, within),
         }
     }
 
@@ -181,15 +181,15 @@ impl<'a> Ends<'a> {
     {
         match kind {
             Kind::Alone => self.part.passes_within(within, CtState::New),
-            Kind::BehindSwap => self.passes_behind_swap(within),
-            Kind::BehindBoth => self.passes_behind_both(within),
+            Kind::AfterSwap => self.passes_behind_swap(within),
+            Kind::AfterBoth => self.passes_behind_both(within),
         }
     }
 
     fn passes_behind_swap(&self, within: &mut PacketBox) -> bool
         requires { IsBox within.old }
         ensures part { Narrows within.old within.new }
-        ensures alike { (p : Packet) → IsIn within.new p → EndsBy self.now.part.rules self.now.swaps.rules Kind.BehindSwap p result }
+        ensures alike { (p : Packet) → IsIn within.new p → EndsBy self.now.part.rules self.now.swaps.rules Kind.AfterSwap p result }
     {
         let passed = self.swap_passes(within);
         self.part.passes_within(within, state_after(passed))
@@ -198,7 +198,7 @@ impl<'a> Ends<'a> {
     fn passes_behind_both(&self, within: &mut PacketBox) -> bool
         requires { IsBox within.old }
         ensures part { Narrows within.old within.new }
-        ensures alike { (p : Packet) → IsIn within.new p → EndsBy self.now.part.rules self.now.swaps.rules Kind.BehindBoth p result }
+        ensures alike { (p : Packet) → IsIn within.new p → EndsBy self.now.part.rules self.now.swaps.rules Kind.AfterBoth p result }
     {
         let first = self.part.passes_within(within, CtState::New);
         let passed = self.swap_passes(within);

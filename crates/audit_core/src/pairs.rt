@@ -99,10 +99,10 @@ fn push_pair(
     }
     push_case(alloc, list, from, to, Kind::Alone, true)?;
     push_case(alloc, list, from, to, Kind::Alone, false)?;
-    push_case(alloc, list, from, to, Kind::BehindSwap, true)?;
-    push_case(alloc, list, from, to, Kind::BehindSwap, false)?;
-    push_case(alloc, list, from, to, Kind::BehindBoth, true)?;
-    push_case(alloc, list, from, to, Kind::BehindBoth, false)?;
+    push_case(alloc, list, from, to, Kind::AfterSwap, true)?;
+    push_case(alloc, list, from, to, Kind::AfterSwap, false)?;
+    push_case(alloc, list, from, to, Kind::AfterBoth, true)?;
+    push_case(alloc, list, from, to, Kind::AfterBoth, false)?;
     Ok(())
 }
 

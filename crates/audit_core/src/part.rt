@@ -181,7 +181,7 @@ impl<'a> Part<'a> {
         requires is_box { IsBox within.old }
         requires flow { HaveFlow self.now.site.hosts within.old flow }
         ensures part { Narrows within.old within.new }
-        ensures alike { (p : Packet) → IsIn within.new p → (IsTrue result ↔ IsFault self.now Kind.BehindSwap p) }
+        ensures alike { (p : Packet) → IsIn within.new p → (IsTrue result ↔ IsFault self.now Kind.AfterSwap p) }
     {
         if !self.permits_answers_within(flow, within) {
             return false;
@@ -194,7 +194,7 @@ impl<'a> Part<'a> {
         requires is_box { IsBox within.old }
         requires flow { HaveFlow self.now.site.hosts within.old flow }
         ensures part { Narrows within.old within.new }
-        ensures alike { (p : Packet) → IsIn within.new p → (IsTrue result ↔ IsFault self.now Kind.BehindBoth p) }
+        ensures alike { (p : Packet) → IsIn within.new p → (IsTrue result ↔ IsFault self.now Kind.AfterBoth p) }
     {
         if !self.permits_within(flow, within) {
             return false;

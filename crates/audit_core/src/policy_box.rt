@@ -3,7 +3,7 @@
 ghost use Rattle.std.specs.Prelude.{◌≡◌, length};
 ghost use Rattle.std.specs.List.{list_any};
 ghost use Rattle.std.specs.Option.{option_map};
-ghost use Rattle.flow_set.specs.Flow.{back_of};
+ghost use Rattle.flow_set.specs.Flow.{reverse_of};
 ghost use Rattle.host_net.specs.declared.packet.Packet.{Packet};
 ghost use Rattle.host_net.specs.Host.{owner_of};
 ghost use Rattle.host_net.specs.Packet.{swap_of};
@@ -88,7 +88,7 @@ pub(crate) fn answers_are_of_within_flow(
 
 /// Returns the flow of the answers.
 fn flow_of_answers(flow: Option<Flow>) -> Option<Flow>
-    ensures { result ≡ option_map back_of flow }
+    ensures { result ≡ option_map reverse_of flow }
 {
     match flow {
         None => None,

@@ -16,7 +16,7 @@ use Rattle.change_core.specs.declared.change.Change.{Change}
 use Rattle.change_core.specs.declared.kind.ChangeKind.{ChangeKind}
 use Rattle.change_core.specs.declared.kind.ChangeKind.TheVariants.{FlowComes, FlowGoes, AnswersCome, AnswersGo}
 use Rattle.change_core.specs.declared.named_owner.NamedOwner.{NamedOwner}
-use Rattle.change_core.specs.Changes.{AreChanges, AreChangesBy, AreListedFor, ChangesBy, Comes, IsChange, IsComplete, IsListedFor, Policy, TreatAlike, all_kinds, lets_answer, names_of, permits}
+use Rattle.change_core.specs.Changes.{AreChanges, AreChangesBy, AreListedFor, ChangesBy, Comes, IsChange, IsComplete, IsListedFor, Policy, TreatAlike, all_kinds, permits_reply_to, names_of, permits}
 use Rattle.change_core.specs.Names.{IsOfNames, named_owner}
 use Rattle.change_core.specs.inner.Changing.{IsAdded, change_of}
 use Rattle.change_core.specs.inner.Naming.{AreNamed, IsNamed, name_in, name_of}
@@ -184,8 +184,8 @@ comes_not before after is comes = let no : true ≡ false = sym comes.1 ∙ sym 
 no_change : (old new : Policy) → TreatAlike old new → (kind : ChangeKind) (p : Packet) → IsPacket p → ChangesBy old new kind p → ⊥
 no_change old new alike FlowComes p is changes = comes_not (permits old p) (permits new p) (alike p is).0 changes
 no_change old new alike FlowGoes p is changes = comes_not (permits new p) (permits old p) (sym (alike p is).0) changes
-no_change old new alike AnswersCome p is changes = comes_not (lets_answer old p) (lets_answer new p) (alike p is).1 changes
-no_change old new alike AnswersGo p is changes = comes_not (lets_answer new p) (lets_answer old p) (sym (alike p is).1) changes
+no_change old new alike AnswersCome p is changes = comes_not (permits_reply_to old p) (permits_reply_to new p) (alike p is).1 changes
+no_change old new alike AnswersGo p is changes = comes_not (permits_reply_to new p) (permits_reply_to old p) (sym (alike p is).1) changes
 
 first_passes : (Holds Between : Packet → Type 0) (rs : List PassingRange) → 0 < length rs → All (λ r. IsShown Holds Between r) rs
     → (p : Packet) × Between p × Holds p
@@ -221,7 +221,7 @@ module _ (old new : Policy) where
   alike_where : (cs : List Change) → AreChanges old new cs → cs ≡ [] → TreatAlike old new
   alike_where cs are empty p is = (
     same_where (permits old p) (permits new p) (none_changes cs are empty FlowComes p is) (none_changes cs are empty FlowGoes p is),
-    same_where (lets_answer old p) (lets_answer new p) (none_changes cs are empty AnswersCome p is) (none_changes cs are empty AnswersGo p is),
+    same_where (permits_reply_to old p) (permits_reply_to new p) (none_changes cs are empty AnswersCome p is) (none_changes cs are empty AnswersGo p is),
   )
 
   pub none_exactly : (cs : List Change) → AreChanges old new cs → (cs ≡ []) ↔ TreatAlike old new

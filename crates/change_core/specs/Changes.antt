@@ -27,8 +27,8 @@ abbrev pub permits : Policy → Packet → Bool
 permits policy p = is_of policy.site policy.permitted p
 
 -- The policy permits answers to the packet: the packet belongs to a stateful flow.
-abbrev pub lets_answer : Policy → Packet → Bool
-lets_answer policy p = is_of policy.site policy.stateful p
+abbrev pub permits_reply_to : Policy → Packet → Bool
+permits_reply_to policy p = is_of policy.site policy.stateful p
 
 -- The condition is false before, and true after.
 abbrev pub Comes : (before after : Bool) → Type 0
@@ -38,12 +38,12 @@ Comes before after = IsFalse before × IsTrue after
 abbrev pub ChangesBy : (old new : Policy) → ChangeKind → Packet → Type 0
 ChangesBy old new FlowComes p = Comes (permits old p) (permits new p)
 ChangesBy old new FlowGoes p = Comes (permits new p) (permits old p)
-ChangesBy old new AnswersCome p = Comes (lets_answer old p) (lets_answer new p)
-ChangesBy old new AnswersGo p = Comes (lets_answer new p) (lets_answer old p)
+ChangesBy old new AnswersCome p = Comes (permits_reply_to old p) (permits_reply_to new p)
+ChangesBy old new AnswersGo p = Comes (permits_reply_to new p) (permits_reply_to old p)
 
 -- The policies are equivalent: both permit the same packets, and permit answers to the same packets.
 abbrev pub TreatAlike : (old new : Policy) → Type 0
-TreatAlike old new = (p : Packet) → IsPacket p → (permits old p ≡ permits new p) × (lets_answer old p ≡ lets_answer new p)
+TreatAlike old new = (p : Packet) → IsPacket p → (permits old p ≡ permits new p) × (permits_reply_to old p ≡ permits_reply_to new p)
 
 -- ---- changes by pair of owners
 

@@ -4,9 +4,9 @@ use Rattle.std.proofs.lemmas.List.FromFn.{length-map-range_with_len}
 use Rattle.std.specs.Prelude.{unwrap_or}
 use Rattle.attr_core.specs.Assigns.{Given}
 use Rattle.attr_core.specs.OwnTables.{table_form}
-use Rattle.attr_core.specs.Forms.{attributes_in, bad_assign, last_said, says}
+use Rattle.attr_core.specs.Forms.{attributes_in, bad_assign, last_assigned, says}
 use Rattle.attr_core.proofs.TemplatesLaws.{invariant_is, invariant_sized}
-use Rattle.desc_core.specs.Choices.{Choice, OneOfTen, OwnTable, bad_of, choice_form, declared_by, made_by, table_said}
+use Rattle.desc_core.specs.Choices.{Choice, OneOfTen, OwnTable, bad_of, choice_form, declared_by, made_by, declared_table}
 use Rattle.attr_core.specs.laws.FormLaws.{bad_within}
 use Rattle.host_net.specs.Host.{Host}
 use Rattle.inv_any.specs.Templates.{meaning_of}
@@ -25,7 +25,7 @@ pub made_sized : (hosts : List Host) (c : Choice) (assigns : List Given) → (me
 unfolding made_by
 made_sized hosts (OneOfTen t) assigns = ap (λ inv. (meaning_of inv).size) (sym (invariant_is hosts t assigns)) ∙ invariant_sized hosts t assigns
 made_sized hosts (OwnTable t) assigns =
-    length-map-range_with_len (λ host. unwrap_or (last_said (says (table_form (declared_by t)) hosts) [] host assigns) (table_said t).default) 0 (length hosts)
+    length-map-range_with_len (λ host. unwrap_or (last_assigned (says (table_form (declared_by t)) hosts) [] host assigns) (declared_table t).default) 0 (length hosts)
 
 -- A bad assign is one of the given assigns.
 pub bad_of_within : (hosts : List Host) (c : Choice) (assigns : List Given) (k : ℕ) → bad_of hosts c assigns ≡ Some k → k < length assigns

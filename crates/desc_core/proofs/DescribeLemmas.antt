@@ -7,7 +7,7 @@ use Rattle.desc_core.proofs.TableFactsLaws.{IsRight-described, described-IsRight
 use Rattle.toml.specs.Data.{Members}
 use Rattle.desc_core.specs.inner.AllConditions.{conditions}
 use Rattle.desc_core.specs.Conditions.{byte_limit, table_conditions}
-use Rattle.desc_core.specs.Description.{described, described_by, described_by_table, refused_or}
+use Rattle.desc_core.specs.Description.{described, described_by, described_by_table, ok_unless_refused}
 use Rattle.desc_core.proofs.DescriptionLaws.{first_of-append}
 use Rattle.desc_core.specs.Document.{document}
 use Rattle.desc_core.specs.inner.Reads.{Reads}
@@ -15,16 +15,16 @@ use Rattle.net_core.specs.Network.{Network}
 use Rattle.desc_core.specs.inner.Order.{IsLeast, NoneHolds}
 use Rattle.desc_core.specs.inner.Parts.{network_or, table_of}
 use Rattle.desc_core.specs.UseConditions.{use_conditions}
-use Rattle.desc_core.specs.WrittenNetwork.{network_of}
+use Rattle.desc_core.specs.RawNetwork.{network_of}
 use Rattle.desc_core.proofs.OrderLaws.{IsLeast-described, IsLeast-table, NoneHolds-described, NoneHolds-table}
 use Rattle.desc_core.specs.inner.Whole.{IsDescribed, IsDescribedByTable}
 use Rattle.desc_core.proofs.WholeLaws.{IsDescribed-described, IsDescribedByTable-described}
 use Rattle.desc_core.specs.declared.fault.DescFault.{DescFault}
 use Rattle.desc_core.specs.declared.fault.DescFault.TheVariants.{Memory, Refused}
-use Rattle.text_core.specs.Firsts.{first_of}
+use Rattle.text_core.specs.FirstMatch.{first_of}
 use Rattle.desc_form.specs.FormConditions.{form_conditions}
 use Rattle.desc_form.specs.Refusals.{refused}
-use Rattle.desc_form.specs.Written.{written}
+use Rattle.desc_form.specs.RawDescription.{written}
 use Rattle.desc_form.specs.declared.refusal.Place.TheVariants.{Document}
 use Rattle.desc_form.specs.declared.refusal.Refusal.{Refusal}
 use Rattle.desc_form.specs.declared.refusal.Why.TheVariants.{TooLong, NotToml}
@@ -34,10 +34,10 @@ form_first : (table : Members) → first_of (table_conditions table) ≡ option_
 unfolding table_conditions
 form_first table = first_of-append (form_conditions table) (host_conditions (written table) ++ use_conditions (written table))
 
-refused_by : {A : Type 0} (o p q : Option Refusal) (x : A) (r : Refusal) → o ≡ option_or p q → p ≡ Some r → refused_or o x ≡ Err r
+refused_by : {A : Type 0} (o p q : Option Refusal) (x : A) (r : Refusal) → o ≡ option_or p q → p ≡ Some r → ok_unless_refused o x ≡ Err r
 refused_by o p q x r first here = rw (first, here) refl
 
-passed_to : {A : Type 0} (o p q : Option Refusal) (x : A) → o ≡ option_or p q → p ≡ None → refused_or o x ≡ refused_or q x
+passed_to : {A : Type 0} (o p q : Option Refusal) (x : A) → o ≡ option_or p q → p ≡ None → ok_unless_refused o x ≡ ok_unless_refused q x
 passed_to o p q x first none = rw (first, none) refl
 
 pub form_refused : (table : Members) (r : Refusal) → first_of (form_conditions table) ≡ Some r → described_by_table table ≡ Err r

@@ -6,16 +6,16 @@ use Rattle.std.specs.Prelude.{nat_lt, is_none, if◌then◌else◌}
 use Rattle.toml.specs.Data.{Members}
 use Rattle.desc_core.specs.inner.AllConditions.{conditions, not_toml, too_long}
 use Rattle.desc_core.specs.Conditions.{byte_limit, table_conditions}
-use Rattle.desc_core.specs.Description.{described, described_by, described_by_table, refused_or}
+use Rattle.desc_core.specs.Description.{described, described_by, described_by_table, ok_unless_refused}
 use Rattle.desc_core.specs.Document.{document}
 use Rattle.net_core.specs.Network.{Network}
-use Rattle.desc_core.specs.WrittenNetwork.{network_of}
+use Rattle.desc_core.specs.RawNetwork.{network_of}
 use Rattle.desc_core.specs.UseConditions.{use_conditions}
-use Rattle.text_core.specs.Firsts.{first_of, where_holds}
+use Rattle.text_core.specs.FirstMatch.{first_of, some_if}
 use Rattle.text_core.proofs.FirstsLaws.{neither}
 use Rattle.desc_form.specs.FormConditions.{form_conditions}
 use Rattle.desc_form.specs.Refusals.{refused}
-use Rattle.desc_form.specs.Written.{written}
+use Rattle.desc_form.specs.RawDescription.{written}
 use Rattle.desc_form.specs.declared.refusal.Place.TheVariants.{Document}
 use Rattle.desc_form.specs.declared.refusal.Refusal.{Refusal}
 use Rattle.desc_form.specs.declared.refusal.Why.TheVariants.{NotToml, TooLong}
@@ -41,11 +41,11 @@ first_of-append (None ∷ xs) ys = first_of-append xs ys
 first_of-append (Some x ∷ xs) ys = refl
 
 -- The result if nothing is refused, and the refusal otherwise.
-passed : {A : Type 0} (o : Option Refusal) (x y : A) → refused_or o x ≡ Ok y → (o ≡ None) × (x ≡ y)
+passed : {A : Type 0} (o : Option Refusal) (x y : A) → ok_unless_refused o x ≡ Ok y → (o ≡ None) × (x ≡ y)
 passed None x y said = (refl, cc)
 passed (Some r) x y said = cc
 
-told_by : {A : Type 0} (o : Option Refusal) (x : A) (r : Refusal) → refused_or o x ≡ Err r → o ≡ Some r
+told_by : {A : Type 0} (o : Option Refusal) (x : A) (r : Refusal) → ok_unless_refused o x ≡ Err r → o ≡ Some r
 told_by None x r said = cc
 told_by (Some s) x r said = cc
 
@@ -97,13 +97,13 @@ described-too_long bytes longer = let above = lt-ltb _ _ longer in rw above refl
 
 -- The reported refusal of bytes is the first of the conditions that apply.
 told_of_document : (read : Option Members) (r : Refusal) → described_by read ≡ Err r
-    → first_of (where_holds (is_none read) (refused NotToml Document) ∷ option_map_or table_conditions read []) ≡ Some r
+    → first_of (some_if (is_none read) (refused NotToml Document) ∷ option_map_or table_conditions read []) ≡ Some r
 told_of_document None r said = cc
 told_of_document (Some table) r said = told_of_table table r said
 
 told_by_length : (long : Bool) (read : Option Members) (r : Refusal)
     → (if long then Err (refused TooLong Document) else described_by read) ≡ Err r
-    → first_of (where_holds long (refused TooLong Document) ∷ where_holds (is_none read) (refused NotToml Document) ∷ option_map_or table_conditions read []) ≡ Some r
+    → first_of (some_if long (refused TooLong Document) ∷ some_if (is_none read) (refused NotToml Document) ∷ option_map_or table_conditions read []) ≡ Some r
 told_by_length true read r said = cc
 told_by_length false read r said = told_of_document read r said
 
@@ -113,13 +113,13 @@ told bytes r said = told_by_length (nat_lt byte_limit (length bytes)) (document 
 
 -- If the bytes describe a network, none of the conditions applies.
 none_of_document : (read : Option Members) (d : Network) → described_by read ≡ Ok d
-    → first_of (where_holds (is_none read) (refused NotToml Document) ∷ option_map_or table_conditions read []) ≡ None
+    → first_of (some_if (is_none read) (refused NotToml Document) ∷ option_map_or table_conditions read []) ≡ None
 none_of_document None d said = cc
 none_of_document (Some table) d said = none_of_table table d said
 
 none_by_length : (long : Bool) (read : Option Members) (d : Network)
     → (if long then Err (refused TooLong Document) else described_by read) ≡ Ok d
-    → first_of (where_holds long (refused TooLong Document) ∷ where_holds (is_none read) (refused NotToml Document) ∷ option_map_or table_conditions read []) ≡ None
+    → first_of (some_if long (refused TooLong Document) ∷ some_if (is_none read) (refused NotToml Document) ∷ option_map_or table_conditions read []) ≡ None
 none_by_length true read d said = cc
 none_by_length false read d said = none_of_document read d said
 

@@ -5,7 +5,7 @@ use Rattle.std.proofs.lemmas.Option.{option_and_then_some}
 use Rattle.std.specs.List.{filter_map}
 use Rattle.std.specs.Prelude.{IsTrue, if◌then◌else◌}
 use Rattle.desc_core.specs.Flows.{flow_of_names}
-use Rattle.desc_form.specs.WrittenFlow.{WrittenFlow}
+use Rattle.desc_form.specs.RawFlow.{RawFlow}
 use Rattle.flow_set.specs.declared.flow.Flow.{Flow}
 use Rattle.flow_set.specs.Flow.{same_flow, IsFlow}
 use Rattle.flow_set.specs.FlowSet.{has}
@@ -24,14 +24,14 @@ ends_differ false n from to f same is_from is_to is =
     subst (IsFlow n) ends (is_from, is_to, λ e. false≢true (sym same ∙ eq-eqb from to e))
 
 -- A flow between two names is one between two of the hosts.
-pub IsFlow-flow_of_names : (hosts : List Host) (names : WrittenFlow) (f : Flow) → flow_of_names hosts names ≡ Some f
+pub IsFlow-flow_of_names : (hosts : List Host) (names : RawFlow) (f : Flow) → flow_of_names hosts names ≡ Some f
     → IsFlow (length hosts) f
 IsFlow-flow_of_names hosts names f is =
     option_and_then_some _ (host_named hosts names.from) f is (λ from is_from with_to.
     option_and_then_some (λ to. flow_unless (from == to) from to) (host_named hosts names.to) f with_to (λ to is_to last.
     ends_differ (from == to) (length hosts) from to f refl (host_named_within hosts names.from from is_from) (host_named_within hosts names.to to is_to) last))
 
-between_by : (hosts : List Host) (names : WrittenFlow) (pairs : List WrittenFlow) (o : Option Flow) → flow_of_names hosts names ≡ o
+between_by : (hosts : List Host) (names : RawFlow) (pairs : List RawFlow) (o : Option Flow) → flow_of_names hosts names ≡ o
     → ((f : Flow) → IsTrue (has (filter_map (flow_of_names hosts) pairs) f) → IsFlow (length hosts) f)
     → (f : Flow) → IsTrue (has (filter_map (flow_of_names hosts) (names ∷ pairs)) f) → IsFlow (length hosts) f
 between_by hosts names pairs None is later f listed = later f (rw is at listed)
@@ -42,7 +42,7 @@ between_by hosts names pairs (Some g) is later f listed =
     ]
 
 -- The listed flows of a description are flows between two of its hosts.
-pub are_between : (hosts : List Host) (pairs : List WrittenFlow) (f : Flow) → IsTrue (has (filter_map (flow_of_names hosts) pairs) f)
+pub are_between : (hosts : List Host) (pairs : List RawFlow) (f : Flow) → IsTrue (has (filter_map (flow_of_names hosts) pairs) f)
     → IsFlow (length hosts) f
 are_between hosts [] f listed = has_nothing f listed
 are_between hosts (names ∷ pairs) f listed = between_by hosts names pairs (flow_of_names hosts names) refl (are_between hosts pairs) f listed

@@ -11,7 +11,7 @@ use Rattle.std.specs.Prelude.{◌≢◌, All, if◌then◌else◌}
 use Rattle.std.specs.Str.{bytes_eq}
 use Rattle.attr_core.specs.Assigns.{Given}
 use Rattle.desc_core.specs.Choices.{Choice, chosen}
-use Rattle.desc_form.specs.WrittenTemplate.{WrittenTemplate}
+use Rattle.desc_form.specs.RawTemplate.{RawTemplate}
 use Rattle.desc_core.proofs.ListingLaws.{all_both, all_weaker}
 use Rattle.desc_core.proofs.NamesLaws.{undeclared}
 use Rattle.desc_core.specs.Flows.{flow_of_names}
@@ -19,14 +19,14 @@ use Rattle.desc_core.specs.inner.Parts.{bad_known, ends_of, name_conditions, sel
 use Rattle.desc_core.proofs.UseFactsLaws.{PassesUses, hosts_declared, templates_known}
 use Rattle.desc_core.specs.UseConditions.{bad_at, bad_attribute, bad_attribute_of, duplicate_flow, is_declared, self_flow, undeclared_host, unknown_template}
 use Rattle.desc_core.specs.inner.Flows.{same_names}
-use Rattle.desc_core.specs.WrittenNetwork.{Known, asked_of, given_by, invariant_of, invariants_of, known_of, made_of}
+use Rattle.desc_core.specs.RawNetwork.{Known, asked_of, given_by, invariant_of, invariants_of, known_of, made_of}
 use Rattle.desc_form.specs.Refusals.{refused, refused_by}
-use Rattle.desc_form.specs.Written.{Written, WrittenAssign, WrittenInvariant}
-use Rattle.desc_form.specs.WrittenFlow.{WrittenFlow}
+use Rattle.desc_form.specs.RawDescription.{RawDescription, RawAssign, RawInvariant}
+use Rattle.desc_form.specs.RawFlow.{RawFlow}
 use Rattle.desc_form.specs.declared.refusal.Place.TheVariants.{FlowAt}
 use Rattle.desc_form.specs.declared.refusal.Refusal.{Refusal}
 use Rattle.desc_form.specs.declared.refusal.Why.TheVariants.{DuplicateFlow, SelfFlow}
-use Rattle.desc_form.specs.WrittenHosts.{network_hosts}
+use Rattle.desc_form.specs.RawHosts.{network_hosts}
 use Rattle.flow_set.specs.EveryFlow.{every_flow}
 use Rattle.flow_set.specs.Flow.{IsFlow, same_flow}
 use Rattle.flow_set.specs.FlowSet.{set_of}
@@ -35,7 +35,7 @@ use Rattle.host_net.specs.Host.{Host, host_named}
 use Rattle.host_net.proofs.NamedLaws.{host_named_within, one_name}
 use Rattle.table_core.specs.Listing.{each}
 use Rattle.text_core.proofs.FirstPairLaws.{told_numbered}
-use Rattle.text_core.specs.Firsts.{Numbered, Pair, first_found, first_of, first_pair, numbered, numbered_from}
+use Rattle.text_core.specs.FirstMatch.{Numbered, Conflict, first_found, first_of, first_conflict, numbered, numbered_from}
 use Rattle.text_core.proofs.FirstsLaws.{neither, none_mapped}
 
 -- ---- lists that are read element by element
@@ -80,7 +80,7 @@ declared_by None false is = refl
 declared_by (Some x) true is = refl
 declared_by (Some x) false is = cc
 
-pub is_host : (w : Written) (name : List ℕ) → is_some (host_named (network_hosts w) name) ≡ is_declared w name
+pub is_host : (w : RawDescription) (name : List ℕ) → is_some (host_named (network_hosts w) name) ≡ is_declared w name
 is_host w name = declared_by (host_named (network_hosts w) name) (is_declared w name) (undeclared w name)
 
 map_is : {A B : Type 0} (f : A → B) (o : Option A) → is_some (option_map f o) ≡ is_some o
@@ -96,18 +96,18 @@ known_by None assigns = refl
 known_by (Some t) None = refl
 known_by (Some t) (Some assigns) = refl
 
-given_one : (w : Written) (a : WrittenAssign) → is_some (given_by (network_hosts w) a) ≡ is_declared w a.host
+given_one : (w : RawDescription) (a : RawAssign) → is_some (given_by (network_hosts w) a) ≡ is_declared w a.host
 given_one w a =
     let given : ℕ → Given = λ host. record { host = host; table = a.table } in
     map_is given (host_named (network_hosts w) a.host) ∙ is_host w a.host
 
-given_is : (w : Written) (as' : List WrittenAssign) → is_some (each (given_by (network_hosts w)) as') ≡ list_all (λ (a : WrittenAssign). is_declared w a.host) as'
+given_is : (w : RawDescription) (as' : List RawAssign) → is_some (each (given_by (network_hosts w)) as') ≡ list_all (λ (a : RawAssign). is_declared w a.host) as'
 given_is w as' =
     each_is (given_by (network_hosts w)) as'
-    ∙ (λ j. list_all (λ (a : WrittenAssign). (given_one w a) j) as')
+    ∙ (λ j. list_all (λ (a : RawAssign). (given_one w a) j) as')
 
-pub is_known : (w : Written) (i : WrittenInvariant)
-    → is_some (known_of w.templates (network_hosts w) i) ≡ (is_some (chosen w.templates i.template) && list_all (λ (a : WrittenAssign). is_declared w a.host) i.assigns)
+pub is_known : (w : RawDescription) (i : RawInvariant)
+    → is_some (known_of w.templates (network_hosts w) i) ≡ (is_some (chosen w.templates i.template) && list_all (λ (a : RawAssign). is_declared w a.host) i.assigns)
 unfolding known_of
 is_known w i = known_by (chosen w.templates i.template) (each (given_by (network_hosts w)) i.assigns) ∙ ap (λ b. is_some (chosen w.templates i.template) && b) (given_is w i.assigns)
 
@@ -119,33 +119,33 @@ ends_by None to = refl
 ends_by (Some i) None = refl
 ends_by (Some i) (Some j) = refl
 
-pub are_ends : (w : Written) (f : WrittenFlow) → is_some (ends_of (network_hosts w) f) ≡ (is_declared w f.from && is_declared w f.to)
+pub are_ends : (w : RawDescription) (f : RawFlow) → is_some (ends_of (network_hosts w) f) ≡ (is_declared w f.from && is_declared w f.to)
 are_ends w f = ends_by (host_named (network_hosts w) f.from) (host_named (network_hosts w) f.to) ∙ (λ j. is_host w f.from j && is_host w f.to j)
 
 -- ---- 15 and 16
 
-abbrev template_test : Written → WrittenInvariant → Bool
+abbrev template_test : RawDescription → RawInvariant → Bool
 template_test w i = is_some (chosen w.templates i.template)
 
-abbrev assigns_test : Written → WrittenInvariant → Bool
+abbrev assigns_test : RawDescription → RawInvariant → Bool
 assigns_test w i = list_all (λ a. is_declared w a.host) i.assigns
 
-abbrev ends_test : Written → WrittenFlow → Bool
+abbrev ends_test : RawDescription → RawFlow → Bool
 ends_test w f = is_declared w f.from && is_declared w f.to
 
-known_tests : (w : Written) → list_all (λ i. is_some (known_of w.templates (network_hosts w) i)) w.invariants ≡ list_all (λ i. template_test w i && assigns_test w i) w.invariants
+known_tests : (w : RawDescription) → list_all (λ i. is_some (known_of w.templates (network_hosts w) i)) w.invariants ≡ list_all (λ i. template_test w i && assigns_test w i) w.invariants
 known_tests w = λ j. list_all (λ i. is_known w i j) w.invariants
 
-ends_tests : (w : Written) → list_all (λ f. is_some (ends_of (network_hosts w) f)) w.flows ≡ list_all (ends_test w) w.flows
+ends_tests : (w : RawDescription) → list_all (λ f. is_some (ends_of (network_hosts w) f)) w.flows ≡ list_all (ends_test w) w.flows
 ends_tests w = λ j. list_all (λ f. are_ends w f j) w.flows
 
 -- Every invariant of a sound description is known.
-pub all_known : (w : Written) → PassesUses w → list_all (λ i. is_some (known_of w.templates (network_hosts w) i)) w.invariants ≡ true
+pub all_known : (w : RawDescription) → PassesUses w → list_all (λ i. is_some (known_of w.templates (network_hosts w) i)) w.invariants ≡ true
 all_known w sound =
     known_tests w ∙ all_both (template_test w) (assigns_test w) (λ i. template_test w i && assigns_test w i) (λ i a b. rw (a, b) refl) w.invariants sound.templates sound.assigned
 
 -- If all names are known, conditions 15 and 16 refuse nothing.
-pub names_known : (w : Written) (ks : List Known) (es : List Flow) → each (known_of w.templates (network_hosts w)) w.invariants ≡ Some ks → each (ends_of (network_hosts w)) w.flows ≡ Some es
+pub names_known : (w : RawDescription) (ks : List Known) (es : List Flow) → each (known_of w.templates (network_hosts w)) w.invariants ≡ Some ks → each (ends_of (network_hosts w)) w.flows ≡ Some es
     → (unknown_template w ≡ None) × (undeclared_host w ≡ None)
 names_known w ks es known found =
     let both : list_all (λ i. template_test w i && assigns_test w i) w.invariants ≡ true = sym (known_tests w) ∙ all_read (known_of w.templates (network_hosts w)) w.invariants ks known in
@@ -155,14 +155,14 @@ names_known w ks es known found =
     ((templates_known w).1 templates, (hosts_declared w).1 (assigns, ends))
 
 -- If one is unknown, one of them refuses the description.
-pub unknown_invariant : (w : Written) → each (known_of w.templates (network_hosts w)) w.invariants ≡ None → first_of (name_conditions w) ≢ None
+pub unknown_invariant : (w : RawDescription) → each (known_of w.templates (network_hosts w)) w.invariants ≡ None → first_of (name_conditions w) ≢ None
 unknown_invariant w none told =
     let (templates, from_16) = neither (unknown_template w) _ told in
     let (hosts, _) = neither (undeclared_host w) _ from_16 in
     never_none (known_of w.templates (network_hosts w)) w.invariants none
     (known_tests w ∙ all_both (template_test w) (assigns_test w) (λ i. template_test w i && assigns_test w i) (λ i a b. rw (a, b) refl) w.invariants ((templates_known w).0 templates) ((hosts_declared w).0 hosts).0)
 
-pub unknown_end : (w : Written) → each (ends_of (network_hosts w)) w.flows ≡ None → first_of (name_conditions w) ≢ None
+pub unknown_end : (w : RawDescription) → each (ends_of (network_hosts w)) w.flows ≡ None → first_of (name_conditions w) ≢ None
 unknown_end w none told =
     let (_, from_16) = neither (unknown_template w) _ told in
     let (hosts, _) = neither (undeclared_host w) _ from_16 in
@@ -170,24 +170,24 @@ unknown_end w none told =
 
 -- ---- 18, and the invariants
 
-bad_zip : (ts : List WrittenTemplate) (hosts : List Host) (n : ℕ) (is : List WrittenInvariant) (ks : List Known) → AllZip (λ i k. known_of ts hosts i ≡ Some k) is ks
+bad_zip : (ts : List RawTemplate) (hosts : List Host) (n : ℕ) (is : List RawInvariant) (ks : List Known) → AllZip (λ i k. known_of ts hosts i ≡ Some k) is ks
     → first_found (bad_attribute_of ts hosts) (numbered_from n is) ≡ first_found (λ (k : Numbered Known). bad_at hosts k.number k.what) (numbered_from n ks)
 bad_zip ts hosts n [] [] zipped = refl
 bad_zip ts hosts n [] (k ∷ ks) zipped = absurd zipped
 bad_zip ts hosts n (i ∷ is) [] zipped = absurd zipped
 bad_zip ts hosts n (i ∷ is) (k ∷ ks) zipped = λ j. option_or (option_and_then (bad_at hosts n) (zipped.0 j)) (bad_zip ts hosts (n + 1) is ks zipped.1 j)
 
-pub bad_is : (w : Written) (ks : List Known) → each (known_of w.templates (network_hosts w)) w.invariants ≡ Some ks → bad_attribute w ≡ bad_known (network_hosts w) ks
+pub bad_is : (w : RawDescription) (ks : List Known) → each (known_of w.templates (network_hosts w)) w.invariants ≡ Some ks → bad_attribute w ≡ bad_known (network_hosts w) ks
 unfolding bad_attribute
 bad_is w ks known = bad_zip w.templates (network_hosts w) 1 w.invariants ks (each_zip (known_of w.templates (network_hosts w)) w.invariants ks known)
 
-made_zip : (ts : List WrittenTemplate) (hosts : List Host) (is : List WrittenInvariant) (ks : List Known) → AllZip (λ i k. known_of ts hosts i ≡ Some k) is ks → filter_map (invariant_of ts hosts) is ≡ map (made_of hosts) ks
+made_zip : (ts : List RawTemplate) (hosts : List Host) (is : List RawInvariant) (ks : List Known) → AllZip (λ i k. known_of ts hosts i ≡ Some k) is ks → filter_map (invariant_of ts hosts) is ≡ map (made_of hosts) ks
 made_zip ts hosts [] [] zipped = refl
 made_zip ts hosts [] (k ∷ ks) zipped = absurd zipped
 made_zip ts hosts (i ∷ is) [] zipped = absurd zipped
 made_zip ts hosts (i ∷ is) (k ∷ ks) zipped = λ j. cons_option (option_map (made_of hosts) (zipped.0 j)) (made_zip ts hosts is ks zipped.1 j)
 
-pub invariants_are : (w : Written) (ks : List Known) → each (known_of w.templates (network_hosts w)) w.invariants ≡ Some ks → invariants_of w ≡ map (made_of (network_hosts w)) ks
+pub invariants_are : (w : RawDescription) (ks : List Known) → each (known_of w.templates (network_hosts w)) w.invariants ≡ Some ks → invariants_of w ≡ map (made_of (network_hosts w)) ks
 unfolding invariants_of
 invariants_are w ks known = made_zip w.templates (network_hosts w) w.invariants ks (each_zip (known_of w.templates (network_hosts w)) w.invariants ks known)
 
@@ -195,31 +195,31 @@ invariants_are w ks known = made_zip w.templates (network_hosts w) w.invariants 
 
 -- A raw flow, and the flow between its hosts.
 record Located (hosts : List Host) : Type 0 where
-  written : WrittenFlow
+  written : RawFlow
   flow : Flow
   is : ends_of hosts written ≡ Some flow
 
-located : (hosts : List Host) (ws : List WrittenFlow) (es : List Flow) → AllZip (λ w e. ends_of hosts w ≡ Some e) ws es → List (Located hosts)
+located : (hosts : List Host) (ws : List RawFlow) (es : List Flow) → AllZip (λ w e. ends_of hosts w ≡ Some e) ws es → List (Located hosts)
 located hosts [] [] zipped = []
 located hosts [] (e ∷ es) zipped = absurd zipped
 located hosts (w ∷ ws) [] zipped = absurd zipped
 located hosts (w ∷ ws) (e ∷ es) zipped = record { written = w; flow = e; is = zipped.0 } ∷ located hosts ws es zipped.1
 
-written_are : (hosts : List Host) (ws : List WrittenFlow) (es : List Flow) (zipped : AllZip (λ w e. ends_of hosts w ≡ Some e) ws es) → map (λ (l : Located hosts). l.written) (located hosts ws es zipped) ≡ ws
+written_are : (hosts : List Host) (ws : List RawFlow) (es : List Flow) (zipped : AllZip (λ w e. ends_of hosts w ≡ Some e) ws es) → map (λ (l : Located hosts). l.written) (located hosts ws es zipped) ≡ ws
 unfolding located
 written_are hosts [] [] zipped = refl
 written_are hosts [] (e ∷ es) zipped = absurd zipped
 written_are hosts (w ∷ ws) [] zipped = absurd zipped
 written_are hosts (w ∷ ws) (e ∷ es) zipped = ap (λ us. w ∷ us) (written_are hosts ws es zipped.1)
 
-flows_are : (hosts : List Host) (ws : List WrittenFlow) (es : List Flow) (zipped : AllZip (λ w e. ends_of hosts w ≡ Some e) ws es) → map (λ (l : Located hosts). l.flow) (located hosts ws es zipped) ≡ es
+flows_are : (hosts : List Host) (ws : List RawFlow) (es : List Flow) (zipped : AllZip (λ w e. ends_of hosts w ≡ Some e) ws es) → map (λ (l : Located hosts). l.flow) (located hosts ws es zipped) ≡ es
 unfolding located
 flows_are hosts [] [] zipped = refl
 flows_are hosts [] (e ∷ es) zipped = absurd zipped
 flows_are hosts (w ∷ ws) [] zipped = absurd zipped
 flows_are hosts (w ∷ ws) (e ∷ es) zipped = ap (λ us. e ∷ us) (flows_are hosts ws es zipped.1)
 
-pub named_ends : (hosts : List Host) (w : WrittenFlow) (e : Flow) → ends_of hosts w ≡ Some e → (host_named hosts w.from ≡ Some e.from) × (host_named hosts w.to ≡ Some e.to)
+pub named_ends : (hosts : List Host) (w : RawFlow) (e : Flow) → ends_of hosts w ≡ Some e → (host_named hosts w.from ≡ Some e.from) × (host_named hosts w.to ≡ Some e.to)
 named_ends hosts w e is =
     option_and_then_some _ (host_named hosts w.from) e is (λ from is_from with_to.
     option_and_then_some _ (host_named hosts w.to) e with_to (λ to is_to last.
@@ -254,20 +254,20 @@ same_test hosts x y =
     λ j.
     one_test hosts x.written.from y.written.from x.flow.from y.flow.from from_x from_y j && one_test hosts x.written.to y.written.to x.flow.to y.flow.to to_x to_y j
 
-abbrev tell_twice : {A : Type 0} → Pair (Numbered A) → Refusal
+abbrev tell_twice : {A : Type 0} → Conflict (Numbered A) → Refusal
 tell_twice p = refused_by DuplicateFlow (FlowAt p.later.number) p.earlier.number
 
-twice_zip : (hosts : List Host) (ws : List WrittenFlow) (es : List Flow) → AllZip (λ w e. ends_of hosts w ≡ Some e) ws es
-    → option_map tell_twice (first_pair (λ (f g : Numbered WrittenFlow). same_names f.what g.what) (numbered ws)) ≡ twice_found es
+twice_zip : (hosts : List Host) (ws : List RawFlow) (es : List Flow) → AllZip (λ w e. ends_of hosts w ≡ Some e) ws es
+    → option_map tell_twice (first_conflict (λ (f g : Numbered RawFlow). same_names f.what g.what) (numbered ws)) ≡ twice_found es
 twice_zip hosts ws es zipped =
     let ls = located hosts ws es zipped in
-    ap (λ us. option_map tell_twice (first_pair (λ (f g : Numbered WrittenFlow). same_names f.what g.what) (numbered us))) (sym (written_are hosts ws es zipped))
-    ∙ sym (told_numbered same_names (λ (l : Located hosts). l.written) tell_twice ls (first_pair (λ (x y : Numbered (Located hosts)). same_names x.what.written y.what.written) (numbered ls)) refl)
-    ∙ (λ j. option_map tell_twice (first_pair (λ (x y : Numbered (Located hosts)). same_test hosts x.what y.what j) (numbered ls)))
-    ∙ told_numbered same_flow (λ (l : Located hosts). l.flow) tell_twice ls (first_pair (λ (x y : Numbered (Located hosts)). same_flow x.what.flow y.what.flow) (numbered ls)) refl
+    ap (λ us. option_map tell_twice (first_conflict (λ (f g : Numbered RawFlow). same_names f.what g.what) (numbered us))) (sym (written_are hosts ws es zipped))
+    ∙ sym (told_numbered same_names (λ (l : Located hosts). l.written) tell_twice ls (first_conflict (λ (x y : Numbered (Located hosts)). same_names x.what.written y.what.written) (numbered ls)) refl)
+    ∙ (λ j. option_map tell_twice (first_conflict (λ (x y : Numbered (Located hosts)). same_test hosts x.what y.what j) (numbered ls)))
+    ∙ told_numbered same_flow (λ (l : Located hosts). l.flow) tell_twice ls (first_conflict (λ (x y : Numbered (Located hosts)). same_flow x.what.flow y.what.flow) (numbered ls)) refl
     ∙ ap twice_found (flows_are hosts ws es zipped)
 
-pub twice_is : (w : Written) (es : List Flow) → each (ends_of (network_hosts w)) w.flows ≡ Some es → duplicate_flow w ≡ twice_found es
+pub twice_is : (w : RawDescription) (es : List Flow) → each (ends_of (network_hosts w)) w.flows ≡ Some es → duplicate_flow w ≡ twice_found es
 unfolding duplicate_flow
 twice_is w es found = twice_zip (network_hosts w) w.flows es (each_zip (ends_of (network_hosts w)) w.flows es found)
 
@@ -281,8 +281,8 @@ self_step true false x y o p test place later = cc
 self_step false true x y o p test place later = cc
 self_step false false x y o p test place later = later
 
-self_zip : (hosts : List Host) (n : ℕ) (ws : List WrittenFlow) (es : List Flow) → AllZip (λ w e. ends_of hosts w ≡ Some e) ws es
-    → option_map tell_self (find (λ (f : Numbered WrittenFlow). bytes_eq f.what.from f.what.to) (numbered_from n ws))
+self_zip : (hosts : List Host) (n : ℕ) (ws : List RawFlow) (es : List Flow) → AllZip (λ w e. ends_of hosts w ≡ Some e) ws es
+    → option_map tell_self (find (λ (f : Numbered RawFlow). bytes_eq f.what.from f.what.to) (numbered_from n ws))
     ≡ option_map tell_self (find (λ (f : Numbered Flow). f.what.from == f.what.to) (numbered_from n es))
 self_zip hosts n [] [] zipped = refl
 self_zip hosts n [] (e ∷ es) zipped = absurd zipped
@@ -292,7 +292,7 @@ self_zip hosts n (w ∷ ws) (e ∷ es) zipped =
     self_step (bytes_eq w.from w.to) (e.from == e.to) (record { number = n; what = w }) (record { number = n; what = e }) _ _ (one_test hosts w.from w.to e.from e.to from to) refl
     (self_zip hosts (n + 1) ws es zipped.1)
 
-pub self_is : (w : Written) (es : List Flow) → each (ends_of (network_hosts w)) w.flows ≡ Some es → self_flow w ≡ self_found es
+pub self_is : (w : RawDescription) (es : List Flow) → each (ends_of (network_hosts w)) w.flows ≡ Some es → self_flow w ≡ self_found es
 unfolding self_flow
 self_is w es found = self_zip (network_hosts w) 1 w.flows es (each_zip (ends_of (network_hosts w)) w.flows es found)
 
@@ -311,17 +311,17 @@ all_apart es none = apart_from 1 es (none_mapped tell_self _ none)
 differ_by : (a b : ℕ) → not (a == b) ≡ true → a ≢ b
 differ_by a b apart same = let never : not true ≡ true = sym (ap not (numbers_equal a b same)) ∙ apart in cc
 
-flow_by : (b : Bool) (w : WrittenFlow) (i j : ℕ) → not b ≡ true → (if b then None else Some (flow_from_to i j)) ≡ Some (flow_from_to i j)
+flow_by : (b : Bool) (w : RawFlow) (i j : ℕ) → not b ≡ true → (if b then None else Some (flow_from_to i j)) ≡ Some (flow_from_to i j)
 flow_by true w i j apart = cc
 flow_by false w i j apart = refl
 
-pub flow_is : (hosts : List Host) (w : WrittenFlow) (e : Flow) → ends_of hosts w ≡ Some e → not (e.from == e.to) ≡ true → flow_of_names hosts w ≡ Some e
+pub flow_is : (hosts : List Host) (w : RawFlow) (e : Flow) → ends_of hosts w ≡ Some e → not (e.from == e.to) ≡ true → flow_of_names hosts w ≡ Some e
 flow_is hosts w e is apart =
     let (from, to) = named_ends hosts w e is in
     (λ j. option_and_then (λ i. option_and_then (λ k. if i == k then None else Some (flow_from_to i k)) (to j)) (from j))
     ∙ flow_by (e.from == e.to) w e.from e.to apart
 
-between_zip : (hosts : List Host) (ws : List WrittenFlow) (es : List Flow) → AllZip (λ w e. ends_of hosts w ≡ Some e) ws es → list_all (λ (e : Flow). not (e.from == e.to)) es ≡ true
+between_zip : (hosts : List Host) (ws : List RawFlow) (es : List Flow) → AllZip (λ w e. ends_of hosts w ≡ Some e) ws es → list_all (λ (e : Flow). not (e.from == e.to)) es ≡ true
     → filter_map (flow_of_names hosts) ws ≡ es
 between_zip hosts [] [] zipped apart = refl
 between_zip hosts [] (e ∷ es) zipped apart = absurd zipped
@@ -331,13 +331,13 @@ between_zip hosts (w ∷ ws) (e ∷ es) zipped apart =
     λ j. cons_option (flow_is hosts w e zipped.0 here j) (between_zip hosts ws es zipped.1 behind j)
 
 -- The asked flows.
-pub asked_is : (w : Written) (es : List Flow) → each (ends_of (network_hosts w)) w.flows ≡ Some es → self_found es ≡ None
+pub asked_is : (w : RawDescription) (es : List Flow) → each (ends_of (network_hosts w)) w.flows ≡ Some es → self_found es ≡ None
     → asked_of w ≡ (if w.given then set_of es else every_flow (length w.hosts))
 unfolding asked_of
 asked_is w es found none =
     ap (λ fs. if w.given then set_of fs else every_flow (length w.hosts)) (between_zip (network_hosts w) w.flows es (each_zip (ends_of (network_hosts w)) w.flows es found) (all_apart es none))
 
-flows_zip : (hosts : List Host) (ws : List WrittenFlow) (es : List Flow) → AllZip (λ w e. ends_of hosts w ≡ Some e) ws es → list_all (λ (e : Flow). not (e.from == e.to)) es ≡ true
+flows_zip : (hosts : List Host) (ws : List RawFlow) (es : List Flow) → AllZip (λ w e. ends_of hosts w ≡ Some e) ws es → list_all (λ (e : Flow). not (e.from == e.to)) es ≡ true
     → AllByRecursion (IsFlow (length hosts)) es
 flows_zip hosts [] [] zipped apart = tt
 flows_zip hosts [] (e ∷ es) zipped apart = absurd zipped
@@ -347,5 +347,5 @@ flows_zip hosts (w ∷ ws) (e ∷ es) zipped apart =
     let (from, to) = named_ends hosts w e zipped.0 in
     ((host_named_within hosts w.from e.from from, host_named_within hosts w.to e.to to, differ_by e.from e.to here), flows_zip hosts ws es zipped.1 behind)
 
-pub are_flows : (hosts : List Host) (ws : List WrittenFlow) (es : List Flow) → each (ends_of hosts) ws ≡ Some es → self_found es ≡ None → All (IsFlow (length hosts)) es
+pub are_flows : (hosts : List Host) (ws : List RawFlow) (es : List Flow) → each (ends_of hosts) ws ≡ Some es → self_found es ≡ None → All (IsFlow (length hosts)) es
 are_flows hosts ws es found none = All-from_recursion (IsFlow (length hosts)) es (flows_zip hosts ws es (each_zip (ends_of hosts) ws es found) (all_apart es none))

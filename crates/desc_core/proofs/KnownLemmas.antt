@@ -5,12 +5,12 @@ use Rattle.attr_core.specs.inner.AssignView.{given_of}
 use Rattle.attr_core.specs.Assigns.{Given}
 use Rattle.attr_core.specs.declared.assign.Assign as read
 use Rattle.desc_core.specs.inner.KnownView.{known_view}
-use Rattle.desc_core.specs.WrittenNetwork.{Known, given_by, known_of}
+use Rattle.desc_core.specs.RawNetwork.{Known, given_by, known_of}
 use Rattle.desc_core.specs.declared.known.KnownInvariant.{KnownInvariant}
-use Rattle.desc_form.specs.WrittenTemplate.{WrittenTemplate}
-use Rattle.desc_form.specs.inner.WrittenView.{assign_view, invariant_view}
-use Rattle.desc_form.specs.declared.written.WrittenAssign.{WrittenAssign}
-use Rattle.desc_form.specs.declared.written.WrittenInvariant.{WrittenInvariant}
+use Rattle.desc_form.specs.RawTemplate.{RawTemplate}
+use Rattle.desc_form.specs.inner.RawView.{assign_view, invariant_view}
+use Rattle.desc_form.specs.declared.raw.RawAssign.{RawAssign}
+use Rattle.desc_form.specs.declared.raw.RawInvariant.{RawInvariant}
 use Rattle.host_net.specs.Host.{Host}
 use Rattle.table_core.specs.Listing.{each}
 use Rattle.table_core.proofs.ListingLaws.{each_more}
@@ -24,7 +24,7 @@ one_more view find given k w ws i whole within here says so_far =
     each_more find given k (view w) (map view (drop (i + 1) ws)) whole says (rw next at so_far)
 
 -- The host and table of an assign, after those before it.
-pub assigns_more : (hosts : List Host) (given items : List read.Assign) (a : read.Assign) (w : WrittenAssign) (ws : List WrittenAssign) (i : ℕ) (whole : Option (List Given))
+pub assigns_more : (hosts : List Host) (given items : List read.Assign) (a : read.Assign) (w : RawAssign) (ws : List RawAssign) (i : ℕ) (whole : Option (List Given))
     → items ≡ given ++ a ∷ [] → i < length ws → w ≡ get_or ws i w → given_by hosts (assign_view w) ≡ Some (given_of a)
     → option_map (λ rest. map given_of given ++ rest) (each (given_by hosts) (map assign_view (drop i ws))) ≡ whole
     → option_map (λ rest. map given_of items ++ rest) (each (given_by hosts) (map assign_view (drop (i + 1) ws))) ≡ whole
@@ -33,7 +33,7 @@ assigns_more hosts given items a w ws i whole more within here says so_far =
     rw more_given (one_more assign_view (given_by hosts) (map given_of given) (given_of a) w ws i whole within here says so_far)
 
 -- An invariant.
-pub invariants_more : (ts : List WrittenTemplate) (hosts : List Host) (known items : List KnownInvariant) (k : KnownInvariant) (w : WrittenInvariant) (ws : List WrittenInvariant) (i : ℕ) (whole : Option (List Known))
+pub invariants_more : (ts : List RawTemplate) (hosts : List Host) (known items : List KnownInvariant) (k : KnownInvariant) (w : RawInvariant) (ws : List RawInvariant) (i : ℕ) (whole : Option (List Known))
     → items ≡ known ++ k ∷ [] → i < length ws → w ≡ get_or ws i w → known_of ts hosts (invariant_view w) ≡ Some (known_view k)
     → option_map (λ rest. map known_view known ++ rest) (each (known_of ts hosts) (map invariant_view (drop i ws))) ≡ whole
     → option_map (λ rest. map known_view items ++ rest) (each (known_of ts hosts) (map invariant_view (drop (i + 1) ws))) ≡ whole

@@ -4,13 +4,13 @@ use Rattle.std.proofs.Common.{◌≡◌, ◌<◌, ◌≤◌, ◌+◌, ◌⊎◌,
 use Rattle.std.specs.Option.{option_or}
 use Rattle.std.specs.Prelude.{slice_get}
 use Rattle.toml.specs.Data.{Members}
-use Rattle.desc_core.specs.Description.{described_by_table, refused_or}
+use Rattle.desc_core.specs.Description.{described_by_table, ok_unless_refused}
 use Rattle.desc_core.proofs.DescriptionLaws.{by_groups}
-use Rattle.desc_core.specs.WrittenNetwork.{network_of}
+use Rattle.desc_core.specs.RawNetwork.{network_of}
 use Rattle.desc_form.specs.Refusals.{refused, refused_item}
-use Rattle.desc_form.specs.Written.{Written, written}
-use Rattle.desc_form.specs.inner.WrittenForm.{IsFormed}
-use Rattle.desc_form.proofs.WrittenLaws.{formed}
+use Rattle.desc_form.specs.RawDescription.{RawDescription, written}
+use Rattle.desc_form.specs.inner.RawForm.{IsFormed}
+use Rattle.desc_form.proofs.RawDescriptionLaws.{formed}
 use Rattle.desc_form.specs.declared.refusal.Place.TheVariants.{Host}
 use Rattle.desc_form.specs.declared.refusal.Refusal.{Refusal}
 use Rattle.desc_form.specs.declared.refusal.Why.TheVariants.{TooMany}
@@ -18,19 +18,19 @@ use Rattle.desc_form.proofs.FactsLaws.{version_is}
 use Rattle.desc_form.specs.HostConditions.{Entry, all_entries, host_conditions, too_many}
 use Rattle.desc_form.proofs.SizesLaws.{many_hosts, many_prefixes}
 use Rattle.host_net.specs.Limits.{host_limit, prefix_limit}
-use Rattle.text_core.specs.Firsts.{first_of}
+use Rattle.text_core.specs.FirstMatch.{first_of}
 
 -- An existing version.
 abbrev pub IsVersion : ℤ → Type 0
 IsVersion version = (version ≡ pos 1) ⊎ (version ≡ pos 2)
 
-told_by_sizes : (w : Written) (r : Refusal) → IsVersion w.version → too_many w.hosts (all_entries w) w.invariants w.templates ≡ Some r
+told_by_sizes : (w : RawDescription) (r : Refusal) → IsVersion w.version → too_many w.hosts (all_entries w) w.invariants w.templates ≡ Some r
     → first_of (host_conditions w) ≡ Some r
 unfolding host_conditions
 told_by_sizes w r version sizes = let first = (version_is w.version).1 version in rw (first, sizes) refl
 
 refused_by_second : {A : Type 0} (o a b c : Option Refusal) (x : A) (r : Refusal)
-    → o ≡ option_or a (option_or b c) → a ≡ None → b ≡ Some r → refused_or o x ≡ Err r
+    → o ≡ option_or a (option_or b c) → a ≡ None → b ≡ Some r → ok_unless_refused o x ≡ Err r
 refused_by_second o a b c x r groups first second = rw (groups, first, second) refl
 
 -- The refusal of a table with valid form and version is that of its sizes.

@@ -15,22 +15,22 @@ use Rattle.desc_core.specs.Description.{described, described_by, described_by_ta
 use Rattle.desc_core.proofs.DescriptionLaws.{accepted, by_groups}
 use Rattle.desc_core.specs.Document.{document}
 use Rattle.desc_core.specs.Migrated.{migrated, with_member}
-use Rattle.desc_core.proofs.TableFactsLaws.{unrefused}
+use Rattle.desc_core.proofs.TableFactsLaws.{no_refusal}
 use Rattle.desc_core.specs.TemplateConditions.{bad_template, not_lawful}
 use Rattle.desc_core.specs.UseConditions.{bad_attribute, bad_service, duplicate_assign, duplicate_flow, many_services, self_flow, undeclared_host, unknown_template, use_conditions}
-use Rattle.desc_core.specs.WrittenNetwork.{asked_of, invariants_of, network_of, services_in}
-use Rattle.desc_form.specs.Written.{Written, written}
-use Rattle.desc_form.specs.inner.WrittenForm.{IsAnswers, IsArray, IsFlow, IsHost, IsInteger, IsInvariant, IsTable, IsTemplate, IsWritten, template_names}
-use Rattle.desc_form.proofs.WrittenLaws.{formed_where_written, written_stands}
-use Rattle.desc_form.proofs.WrittenOnceLaws.{written_is}
+use Rattle.desc_core.specs.RawNetwork.{asked_of, invariants_of, network_of, services_in}
+use Rattle.desc_form.specs.RawDescription.{RawDescription, written}
+use Rattle.desc_form.specs.inner.RawForm.{IsAnswers, IsArray, IsFlow, IsHost, IsInteger, IsInvariant, IsTable, IsTemplate, IsRawOf, template_names}
+use Rattle.desc_form.proofs.RawDescriptionLaws.{formed_where_written, written_stands}
+use Rattle.desc_form.proofs.RawUniqueLaws.{written_is}
 use Rattle.desc_form.specs.declared.refusal.Refusal.{Refusal}
 use Rattle.desc_form.specs.HostConditions.{all_entries, bad_version, host_conditions}
 use Rattle.desc_form.specs.Mentions.{all_names, used_names}
-use Rattle.desc_form.specs.WrittenHosts.{network_hosts}
+use Rattle.desc_form.specs.RawHosts.{network_hosts}
 use Rattle.net_core.specs.Network.{Network}
 use Rattle.table_core.specs.Shallow.{IsShallow, is_plain, items_are_plain, members_are_plain}
 use Rattle.table_core.specs.Tables.{all_keys, has_only}
-use Rattle.text_core.specs.Firsts.{first_of}
+use Rattle.text_core.specs.FirstMatch.{first_of}
 use Rattle.text_core.proofs.FirstsLaws.{neither}
 
 -- ---- one more member
@@ -145,7 +145,7 @@ migrated_prints ms (deep, plain) =
 -- ---- its raw description
 
 -- The same in version 2.
-abbrev in_version_2 : Written → Written
+abbrev in_version_2 : RawDescription → RawDescription
 in_version_2 w = record {
   version = pos 2;
   answers = w.answers;
@@ -183,7 +183,7 @@ one_of_more false k one = more (bytes_eq k (codes "topos")) (bytes_eq k (codes "
     more false false false false true f one = refl
     more false false false false false f one = cc
 
-migrated_written : (ms : Members) (w : Written) → IsWritten ms w → IsWritten (migrated ms) (in_version_2 w)
+migrated_written : (ms : Members) (w : RawDescription) → IsRawOf ms w → IsRawOf (migrated ms) (in_version_2 w)
 unfolding has_only
 migrated_written ms w is =
     let two = get_with (codes "topos") (integer (pos 2)) ms in
@@ -202,26 +202,26 @@ migrated_written ms w is =
 
 -- ---- its refusals and its network
 
-hosts_pass : (w : Written) → first_of (host_conditions w) ≡ None → first_of (host_conditions (in_version_2 w)) ≡ None
+hosts_pass : (w : RawDescription) → first_of (host_conditions w) ≡ None → first_of (host_conditions (in_version_2 w)) ≡ None
 unfolding host_conditions bad_version all_entries all_names used_names
 hosts_pass w none = (neither (bad_version w.version) _ none).1
 
-uses_same : (w : Written) → use_conditions (in_version_2 w) ≡ use_conditions w
+uses_same : (w : RawDescription) → use_conditions (in_version_2 w) ≡ use_conditions w
 unfolding use_conditions unknown_template undeclared_host duplicate_assign bad_attribute self_flow duplicate_flow bad_service many_services bad_template not_lawful network_hosts used_names
 uses_same w = refl
 
-network_same : (w : Written) → network_of (in_version_2 w) ≡ network_of w
+network_same : (w : RawDescription) → network_of (in_version_2 w) ≡ network_of w
 unfolding network_of network_hosts asked_of invariants_of services_in
 network_same w = refl
 
-described_by_written : (ms : Members) (w : Written) → w ≡ written ms → first_of (host_conditions w) ≡ None → first_of (use_conditions w) ≡ None
-    → IsWritten ms w → described_by_table ms ≡ Ok (network_of w)
+described_by_written : (ms : Members) (w : RawDescription) → w ≡ written ms → first_of (host_conditions w) ≡ None → first_of (use_conditions w) ≡ None
+    → IsRawOf ms w → described_by_table ms ≡ Ok (network_of w)
 unfolding described_by_table
 described_by_written ms w same hosts uses is =
-    let no_hosts = subst (λ (v : Written). first_of (host_conditions v) ≡ None) same hosts in
-    let no_uses = subst (λ (v : Written). first_of (use_conditions v) ≡ None) same uses in
-    unrefused (first_of (table_conditions ms)) _ _ _ (network_of (written ms)) (by_groups ms) (formed_where_written ms w is) no_hosts no_uses
-    ∙ ap (λ (v : Written). Ok (network_of v)) (sym same)
+    let no_hosts = subst (λ (v : RawDescription). first_of (host_conditions v) ≡ None) same hosts in
+    let no_uses = subst (λ (v : RawDescription). first_of (use_conditions v) ≡ None) same uses in
+    no_refusal (first_of (table_conditions ms)) _ _ _ (network_of (written ms)) (by_groups ms) (formed_where_written ms w is) no_hosts no_uses
+    ∙ ap (λ (v : RawDescription). Ok (network_of v)) (sym same)
 
 -- The table in version 2 describes the same network.
 pub migrated_describes : (ms : Members) (d : Network) → described_by_table ms ≡ Ok d → described_by_table (migrated ms) ≡ Ok d

@@ -16,23 +16,23 @@ use Rattle.desc_core.proofs.UseFactsLaws.{PassesUses-uses}
 use Rattle.flow_set.proofs.ListedLaws.{IsFlowSet-set_of}
 use Rattle.net_core.specs.Network.{Network}
 use Rattle.net_core.specs.inner.Fitting.{IsNetwork}
-use Rattle.desc_core.specs.WrittenNetwork.{Known, asked_of, invariant_of, invariants_of, known_of, made_of, network_of}
+use Rattle.desc_core.specs.RawNetwork.{Known, asked_of, invariant_of, invariants_of, known_of, made_of, network_of}
 use Rattle.flow_set.specs.EveryFlow.{every_flow}
 use Rattle.desc_core.proofs.ChoiceLaws.{made_sized}
-use Rattle.desc_form.specs.WrittenTemplate.{WrittenTemplate}
-use Rattle.text_core.specs.Firsts.{first_of}
-use Rattle.desc_form.specs.Written.{Written, WrittenInvariant, written}
+use Rattle.desc_form.specs.RawTemplate.{RawTemplate}
+use Rattle.text_core.specs.FirstMatch.{first_of}
+use Rattle.desc_form.specs.RawDescription.{RawDescription, RawInvariant, written}
 use Rattle.desc_form.proofs.EntriesLaws.{no_longer}
 use Rattle.desc_form.specs.HostConditions.{host_conditions}
 use Rattle.desc_form.proofs.FactsLaws.{has_hosts}
 use Rattle.desc_form.proofs.HostsLaws.{IsHosts-network_hosts, length-network_hosts}
-use Rattle.desc_form.specs.WrittenHosts.{network_hosts}
+use Rattle.desc_form.specs.RawHosts.{network_hosts}
 use Rattle.host_net.specs.Host.{Host}
 use Rattle.flow_set.specs.inner.FlowSetView.{IsFlowSet}
 use Rattle.inv_any.specs.Templates.{meaning_of}
 use Rattle.inv_any.specs.declared.any_inv.AnyInv.{AnyInv}
 
-asked_by : (w : Written) (given : Bool) → length w.hosts ≤ 256
+asked_by : (w : RawDescription) (given : Bool) → length w.hosts ≤ 256
     → IsFlowSet (length w.hosts) (if given then set_of (filter_map (flow_of_names (network_hosts w)) w.flows) else every_flow (length w.hosts))
 asked_by w true few =
     IsFlowSet-set_of (length w.hosts) (filter_map (flow_of_names (network_hosts w)) w.flows) few (λ f listed. rw (← length-network_hosts w) (are_between (network_hosts w) w.flows f listed))
@@ -45,12 +45,12 @@ sized_by : (hosts : List Host) (o : Option Known) (invs : List AnyInv)
 sized_by hosts None invs behind = behind
 sized_by hosts (Some k) invs behind = (made_sized hosts k.template k.assigns, behind)
 
-sized_all : (ts : List WrittenTemplate) (hosts : List Host) (is : List WrittenInvariant)
+sized_all : (ts : List RawTemplate) (hosts : List Host) (is : List RawInvariant)
     → AllByRecursion (λ (inv : AnyInv). (meaning_of inv).size ≡ length hosts) (filter_map (invariant_of ts hosts) is)
 sized_all ts hosts [] = tt
 sized_all ts hosts (i ∷ is) = sized_by hosts (known_of ts hosts i) (filter_map (invariant_of ts hosts) is) (sized_all ts hosts is)
 
-pub IsNetwork-network_of : (w : Written) → first_of (host_conditions w) ≡ None → first_of (use_conditions w) ≡ None → IsNetwork (network_of w)
+pub IsNetwork-network_of : (w : RawDescription) → first_of (host_conditions w) ≡ None → first_of (use_conditions w) ≡ None → IsNetwork (network_of w)
 unfolding network_of asked_of invariants_of
 IsNetwork-network_of w free no_use =
     let small = (has_hosts w).0 free in
@@ -60,7 +60,7 @@ IsNetwork-network_of w free no_use =
       asked = asked_by w w.given (omega (arith, small.few_hosts));
       services = AreServices-services_in w (PassesUses-uses w no_use);
       invariants = All-from_recursion (λ (inv : AnyInv). (meaning_of inv).size ≡ length (network_hosts w)) (invariants_of w) (sized_all w.templates (network_hosts w) w.invariants);
-      few = omega (arith, small.few_invariants, no_longer {A = WrittenInvariant} {B = AnyInv});
+      few = omega (arith, small.few_invariants, no_longer {A = RawInvariant} {B = AnyInv});
     }
 
 pub IsNetwork-table : (table : Members) (d : Network) → described_by_table table ≡ Ok d → IsNetwork d

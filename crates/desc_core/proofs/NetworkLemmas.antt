@@ -4,7 +4,7 @@ use Rattle.std.specs.Option.{option_or}
 use Rattle.std.specs.Prelude.{if◌then◌else◌}
 use Rattle.desc_core.proofs.KnownLaws.{asked_is, bad_is, invariants_are, names_known, self_is, twice_is}
 use Rattle.desc_core.proofs.ServicesLemmas.{services_are}
-use Rattle.desc_core.specs.Description.{refused_or}
+use Rattle.desc_core.specs.Description.{ok_unless_refused}
 use Rattle.desc_core.proofs.DescriptionLaws.{first_of-append}
 use Rattle.desc_core.proofs.NetworkLaws.{IsNetwork-network_of}
 use Rattle.desc_core.specs.inner.Parts.{bad_known, ends_of, name_conditions, narrowed_among, network_by_uses, network_or, self_found, services_found, templates_found, twice_found}
@@ -13,37 +13,37 @@ use Rattle.desc_core.specs.inner.Reads.{Reads}
 use Rattle.desc_core.specs.declared.fault.DescFault.{DescFault}
 use Rattle.desc_core.specs.declared.fault.DescFault.TheVariants.{Memory, Refused}
 use Rattle.desc_core.specs.UseConditions.{bad_attribute, bad_service, duplicate_assign, duplicate_flow, many_services, self_flow, undeclared_host, unknown_template, use_conditions}
-use Rattle.desc_core.specs.WrittenNetwork.{Known, asked_of, invariants_of, known_of, made_of, network_of, services_in}
-use Rattle.desc_form.specs.Written.{Written}
+use Rattle.desc_core.specs.RawNetwork.{Known, asked_of, invariants_of, known_of, made_of, network_of, services_in}
+use Rattle.desc_form.specs.RawDescription.{RawDescription}
 use Rattle.desc_form.specs.declared.refusal.Refusal.{Refusal}
 use Rattle.desc_form.specs.HostConditions.{host_conditions}
 use Rattle.desc_form.proofs.HostsLaws.{length-network_hosts}
-use Rattle.desc_form.specs.WrittenHosts.{network_hosts}
+use Rattle.desc_form.specs.RawHosts.{network_hosts}
 use Rattle.flow_set.specs.EveryFlow.{every_flow}
 use Rattle.flow_set.specs.FlowSet.{SetOfFlows, set_of}
 use Rattle.flow_set.specs.declared.flow.Flow.{Flow}
 use Rattle.host_net.specs.Host.{Host}
-use Rattle.host_net.specs.Services.{NarrowedFlow}
+use Rattle.host_net.specs.Services.{RestrictedFlow}
 use Rattle.inv_any.specs.declared.any_inv.AnyInv.{AnyInv}
 use Rattle.net_core.specs.inner.Fitting.{IsNetwork}
 use Rattle.net_core.specs.Network.{Network}
 use Rattle.table_core.specs.Listing.{each}
-use Rattle.text_core.specs.Firsts.{first_of}
+use Rattle.text_core.specs.FirstMatch.{first_of}
 
 -- All names are known: the resolved invariants and flows.
-pub record AreKnown (w : Written) (hosts : List Host) (ks : List Known) (es : List Flow) : Type 0 where
+pub record AreKnown (w : RawDescription) (hosts : List Host) (ks : List Known) (es : List Flow) : Type 0 where
   pub same : hosts ≡ network_hosts w
   pub known : each (known_of w.templates hosts) w.invariants ≡ Some ks
   pub found : each (ends_of hosts) w.flows ≡ Some es
 
-known_here : (w : Written) (hosts : List Host) (ks : List Known) (es : List Flow) → AreKnown w hosts ks es → each (known_of w.templates (network_hosts w)) w.invariants ≡ Some ks
+known_here : (w : RawDescription) (hosts : List Host) (ks : List Known) (es : List Flow) → AreKnown w hosts ks es → each (known_of w.templates (network_hosts w)) w.invariants ≡ Some ks
 known_here w hosts ks es all = ap (λ hs. each (known_of w.templates hs) w.invariants) (sym all.same) ∙ all.known
 
-found_here : (w : Written) (hosts : List Host) (ks : List Known) (es : List Flow) → AreKnown w hosts ks es → each (ends_of (network_hosts w)) w.flows ≡ Some es
+found_here : (w : RawDescription) (hosts : List Host) (ks : List Known) (es : List Flow) → AreKnown w hosts ks es → each (ends_of (network_hosts w)) w.flows ≡ Some es
 found_here w hosts ks es all = ap (λ hs. each (ends_of hs) w.flows) (sym all.same) ∙ all.found
 
 -- Conditions 17, 18 and 19.
-abbrev before_last : Written → List Host → List Known → List Flow → Option Refusal
+abbrev before_last : RawDescription → List Host → List Known → List Flow → Option Refusal
 before_last w hosts ks es = option_or (duplicate_assign w) (option_or (bad_known hosts ks) (self_found es))
 
 grouped : (c d e rest : Option Refusal) → option_or c (option_or d (option_or e rest)) ≡ option_or (option_or c (option_or d e)) rest
@@ -68,7 +68,7 @@ in_groups a b c d e f g h i j first second =
     rw (first, second)
     (grouped c d e (option_or f (option_or g (option_or h (option_or i (option_or j None))))) ∙ ap (option_or (option_or c (option_or d e))) (last_four f g h i j))
 
-uses_are : (w : Written) (hosts : List Host) (ks : List Known) (es : List Flow) → AreKnown w hosts ks es
+uses_are : (w : RawDescription) (hosts : List Host) (ks : List Known) (es : List Flow) → AreKnown w hosts ks es
     → first_of (use_conditions w) ≡ option_or (before_last w hosts ks es) (option_or (twice_found es) (option_or (services_found w.flows) (templates_found w)))
 unfolding use_conditions bad_service many_services
 uses_are w hosts ks es all =
@@ -79,32 +79,32 @@ uses_are w hosts ks es all =
     ∙ (λ j. option_or (option_or (duplicate_assign w) (option_or ((bad_is w ks known ∙ ap (λ hs. bad_known hs ks) (sym all.same)) j) (self_is w es found j))) (option_or (twice_is w es found j) (option_or (services_found w.flows) (templates_found w))))
 
 -- The refusal of the description.
-told : (w : Written) (r : Refusal) → first_of (use_conditions w) ≡ Some r → network_by_uses w ≡ Err r
+told : (w : RawDescription) (r : Refusal) → first_of (use_conditions w) ≡ Some r → network_by_uses w ≡ Err r
 told w r is = rw is refl
 
-names_first : (w : Written) → first_of (use_conditions w) ≡ option_or (first_of (name_conditions w)) (first_of (duplicate_assign w ∷ bad_attribute w ∷ self_flow w ∷ duplicate_flow w ∷ bad_service w ∷ many_services w ∷ bad_template w ∷ not_lawful w ∷ []))
+names_first : (w : RawDescription) → first_of (use_conditions w) ≡ option_or (first_of (name_conditions w)) (first_of (duplicate_assign w ∷ bad_attribute w ∷ self_flow w ∷ duplicate_flow w ∷ bad_service w ∷ many_services w ∷ bad_template w ∷ not_lawful w ∷ []))
 unfolding use_conditions
 names_first w = first_of-append (name_conditions w) (duplicate_assign w ∷ bad_attribute w ∷ self_flow w ∷ duplicate_flow w ∷ bad_service w ∷ many_services w ∷ bad_template w ∷ not_lawful w ∷ [])
 
-refused_for_name : (w : Written) (r : Refusal) → first_of (name_conditions w) ≡ Some r → network_by_uses w ≡ Err r
+refused_for_name : (w : RawDescription) (r : Refusal) → first_of (name_conditions w) ≡ Some r → network_by_uses w ≡ Err r
 refused_for_name w r name = told w r (names_first w ∙ rw name refl)
 
-pub fault_for_name : (w : Written) (fault : DescFault) → ((r : Refusal) → fault ≡ Refused r → first_of (name_conditions w) ≡ Some r) → Reads {A = Network} (Err fault) (network_by_uses w)
+pub fault_for_name : (w : RawDescription) (fault : DescFault) → ((r : Refusal) → fault ≡ Refused r → first_of (name_conditions w) ≡ Some r) → Reads {A = Network} (Err fault) (network_by_uses w)
 fault_for_name w (Refused r) name = refused_for_name w r (name r refl)
 fault_for_name w Memory name = tt
 
-pub refused_before : (w : Written) (hosts : List Host) (ks : List Known) (es : List Flow) (r : Refusal) → AreKnown w hosts ks es → before_last w hosts ks es ≡ Some r → network_by_uses w ≡ Err r
+pub refused_before : (w : RawDescription) (hosts : List Host) (ks : List Known) (es : List Flow) (r : Refusal) → AreKnown w hosts ks es → before_last w hosts ks es ≡ Some r → network_by_uses w ≡ Err r
 refused_before w hosts ks es r all is = told w r (uses_are w hosts ks es all ∙ rw is refl)
 
-refused_twice : (w : Written) (hosts : List Host) (ks : List Known) (es : List Flow) (r : Refusal) → AreKnown w hosts ks es → before_last w hosts ks es ≡ None → twice_found es ≡ Some r
+refused_twice : (w : RawDescription) (hosts : List Host) (ks : List Known) (es : List Flow) (r : Refusal) → AreKnown w hosts ks es → before_last w hosts ks es ≡ None → twice_found es ≡ Some r
     → network_by_uses w ≡ Err r
 refused_twice w hosts ks es r all before is = told w r (uses_are w hosts ks es all ∙ rw (before, is) refl)
 
-pub refused_services : (w : Written) (hosts : List Host) (ks : List Known) (es : List Flow) (r : Refusal) → AreKnown w hosts ks es → before_last w hosts ks es ≡ None → twice_found es ≡ None
+pub refused_services : (w : RawDescription) (hosts : List Host) (ks : List Known) (es : List Flow) (r : Refusal) → AreKnown w hosts ks es → before_last w hosts ks es ≡ None → twice_found es ≡ None
     → services_found w.flows ≡ Some r → network_by_uses w ≡ Err r
 refused_services w hosts ks es r all before once is = told w r (uses_are w hosts ks es all ∙ rw (before, once, is) refl)
 
-pub refused_templates : (w : Written) (hosts : List Host) (ks : List Known) (es : List Flow) (r : Refusal) → AreKnown w hosts ks es → before_last w hosts ks es ≡ None
+pub refused_templates : (w : RawDescription) (hosts : List Host) (ks : List Known) (es : List Flow) (r : Refusal) → AreKnown w hosts ks es → before_last w hosts ks es ≡ None
     → twice_found es ≡ None → services_found w.flows ≡ None → templates_found w ≡ Some r → network_by_uses w ≡ Err r
 refused_templates w hosts ks es r all before once last is = told w r (uses_are w hosts ks es all ∙ rw (before, once, last, is) refl)
 
@@ -116,28 +116,28 @@ none_before None (Some r) e none = cc
 none_before (Some r) d e none = cc
 
 -- The asked flows, as they are built.
-abbrev pub made_set : Written → ℕ → List Flow → SetOfFlows
+abbrev pub made_set : RawDescription → ℕ → List Flow → SetOfFlows
 made_set w n es = record { size = n; flows = if w.given then set_of es else every_flow n }
 
-told_twice : {A : Type 0} (o : Option Refusal) (x : A) (r : Refusal) → refused_or o x ≡ Err r → o ≡ Some r
+told_twice : {A : Type 0} (o : Option Refusal) (x : A) (r : Refusal) → ok_unless_refused o x ≡ Err r → o ≡ Some r
 told_twice None x r said = cc
 told_twice (Some s) x r said = cc
 
-none_twice : {A : Type 0} (o : Option Refusal) (x y : A) → refused_or o x ≡ Ok y → (o ≡ None) × (x ≡ y)
+none_twice : {A : Type 0} (o : Option Refusal) (x y : A) → ok_unless_refused o x ≡ Ok y → (o ≡ None) × (x ≡ y)
 none_twice None x y said = (refl, cc)
 none_twice (Some s) x y said = cc
 
-asked_refused : (w : Written) (hosts : List Host) (ks : List Known) (es : List Flow) (n : ℕ) (r : Refusal) → AreKnown w hosts ks es → before_last w hosts ks es ≡ None
-    → refused_or (twice_found es) (made_set w n es) ≡ Err r → network_by_uses w ≡ Err r
+asked_refused : (w : RawDescription) (hosts : List Host) (ks : List Known) (es : List Flow) (n : ℕ) (r : Refusal) → AreKnown w hosts ks es → before_last w hosts ks es ≡ None
+    → ok_unless_refused (twice_found es) (made_set w n es) ≡ Err r → network_by_uses w ≡ Err r
 asked_refused w hosts ks es n r all before said = refused_twice w hosts ks es r all before (told_twice (twice_found es) (made_set w n es) r said)
 
-pub asked_fails : (w : Written) (hosts : List Host) (ks : List Known) (es : List Flow) (n : ℕ) (fault : DescFault) → AreKnown w hosts ks es → before_last w hosts ks es ≡ None
-    → Reads {A = SetOfFlows} (Err fault) (refused_or (twice_found es) (made_set w n es)) → Reads {A = Network} (Err fault) (network_by_uses w)
+pub asked_fails : (w : RawDescription) (hosts : List Host) (ks : List Known) (es : List Flow) (n : ℕ) (fault : DescFault) → AreKnown w hosts ks es → before_last w hosts ks es ≡ None
+    → Reads {A = SetOfFlows} (Err fault) (ok_unless_refused (twice_found es) (made_set w n es)) → Reads {A = Network} (Err fault) (network_by_uses w)
 asked_fails w hosts ks es n (Refused r) all before said = asked_refused w hosts ks es n r all before said
 asked_fails w hosts ks es n Memory all before said = tt
 
-pub asked_made : (w : Written) (hosts : List Host) (ks : List Known) (es : List Flow) (n : ℕ) (asked : SetOfFlows) → AreKnown w hosts ks es → before_last w hosts ks es ≡ None → n ≡ length hosts
-    → refused_or (twice_found es) (made_set w n es) ≡ Ok asked → (twice_found es ≡ None) × (asked ≡ record { size = length w.hosts; flows = asked_of w })
+pub asked_made : (w : RawDescription) (hosts : List Host) (ks : List Known) (es : List Flow) (n : ℕ) (asked : SetOfFlows) → AreKnown w hosts ks es → before_last w hosts ks es ≡ None → n ≡ length hosts
+    → ok_unless_refused (twice_found es) (made_set w n es) ≡ Ok asked → (twice_found es ≡ None) × (asked ≡ record { size = length w.hosts; flows = asked_of w })
 asked_made w hosts ks es n asked all before count said =
     let (none, made) = none_twice (twice_found es) (made_set w n es) asked said in
     let size : n ≡ length w.hosts = count ∙ ap length all.same ∙ length-network_hosts w in
@@ -145,7 +145,7 @@ asked_made w hosts ks es n asked all before count said =
     (none, sym made ∙ ap (λ k. made_set w k es) size ∙ (λ j. record { size = length w.hosts; flows = sym flows j }))
 
 -- The network, part by part.
-network_is : (w : Written) (hosts : List Host) (ks : List Known) (es : List Flow) (asked : SetOfFlows) (services : List NarrowedFlow) (invariants : List AnyInv) → AreKnown w hosts ks es
+network_is : (w : RawDescription) (hosts : List Host) (ks : List Known) (es : List Flow) (asked : SetOfFlows) (services : List RestrictedFlow) (invariants : List AnyInv) → AreKnown w hosts ks es
     → before_last w hosts ks es ≡ None → asked ≡ record { size = length w.hosts; flows = asked_of w } → services ≡ narrowed_among es w.flows → invariants ≡ map (made_of hosts) ks
     → network_of w ≡ record { hosts = hosts; asked = asked; services = services; given = w.given; answers = w.answers; invariants = invariants }
 unfolding network_of
@@ -155,7 +155,7 @@ network_is w hosts ks es asked services invariants all before set narrowed made 
     λ i. record { hosts = sym all.same i; asked = sym set i; services = said i; given = w.given; answers = w.answers; invariants = read i }
 
 -- The result is a network, and it is the one that the description specifies.
-pub network_read : (w : Written) (hosts : List Host) (ks : List Known) (es : List Flow) (asked : SetOfFlows) (services : List NarrowedFlow) (invariants : List AnyInv) → AreKnown w hosts ks es
+pub network_read : (w : RawDescription) (hosts : List Host) (ks : List Known) (es : List Flow) (asked : SetOfFlows) (services : List RestrictedFlow) (invariants : List AnyInv) → AreKnown w hosts ks es
     → first_of (host_conditions w) ≡ None → before_last w hosts ks es ≡ None → twice_found es ≡ None → services_found w.flows ≡ None → templates_found w ≡ None
     → asked ≡ record { size = length w.hosts; flows = asked_of w } → services ≡ narrowed_among es w.flows → invariants ≡ map (made_of hosts) ks
     → let d : Network = record { hosts = hosts; asked = asked; services = services; given = w.given; answers = w.answers; invariants = invariants } in
@@ -166,13 +166,13 @@ network_read w hosts ks es asked services invariants all free before once last t
     (subst IsNetwork network (IsNetwork-network_of w free none), rw none (ap Ok network))
 
 -- With the conditions on hosts before them.
-pub hosts_refused : (w : Written) (r : Refusal) → first_of (host_conditions w) ≡ Some r → network_or w ≡ Err r
+pub hosts_refused : (w : RawDescription) (r : Refusal) → first_of (host_conditions w) ≡ Some r → network_or w ≡ Err r
 unfolding network_or
 hosts_refused w r here =
     let told : first_of (host_conditions w ++ use_conditions w) ≡ Some r = first_of-append (host_conditions w) (use_conditions w) ∙ rw here refl in
     rw told refl
 
-pub hosts_unrefused : (w : Written) → first_of (host_conditions w) ≡ None → network_or w ≡ network_by_uses w
+pub hosts_unrefused : (w : RawDescription) → first_of (host_conditions w) ≡ None → network_or w ≡ network_by_uses w
 unfolding network_or
 hosts_unrefused w none =
     let uses : first_of (host_conditions w ++ use_conditions w) ≡ first_of (use_conditions w) = first_of-append (host_conditions w) (use_conditions w) ∙ rw none refl in

@@ -9,7 +9,7 @@ use Rattle.desc_form.specs.declared.refusal.Place.TheVariants.{Assign, Invariant
 use Rattle.desc_form.specs.declared.refusal.Place.TheVariants as place
 use Rattle.desc_form.specs.declared.refusal.Refusal.{Refusal}
 use Rattle.desc_form.specs.declared.refusal.Why.TheVariants.{BadAttribute, TooMany}
-use Rattle.text_core.specs.Firsts.{where_holds, first_of, first_found, Numbered, numbered}
+use Rattle.text_core.specs.FirstMatch.{some_if, first_of, first_found, Numbered, numbered}
 use Rattle.desc_form.specs.HostConditions.{Entry, host_conditions, bad_version, too_many, bad_name, duplicate_host, bad_prefix, host_bits, no_address, two_rests, overlap, beyond, all_entries, template_limit}
 use Rattle.desc_form.specs.inner.EntryView.{too_many_prefixes}
 use Rattle.host_net.specs.Limits.{invariant_limit, host_limit, prefix_limit}
@@ -17,19 +17,19 @@ use Rattle.desc_core.specs.Description.{described, described_by_table}
 use Rattle.desc_core.proofs.DescriptionLaws.{none_of_table, none_told, told, told_of_table}
 use Rattle.desc_core.specs.Document.{document}
 use Rattle.net_core.specs.Network.{Network}
-use Rattle.desc_core.specs.WrittenNetwork.{Known, known_of}
+use Rattle.desc_core.specs.RawNetwork.{Known, known_of}
 use Rattle.desc_core.specs.inner.AllConditions.{conditions, not_toml, too_long}
 use Rattle.desc_core.specs.Conditions.{table_conditions}
 use Rattle.desc_core.specs.inner.Order.{IsLeast, NoneHolds}
-use Rattle.desc_form.specs.WrittenHosts.{network_hosts}
+use Rattle.desc_form.specs.RawHosts.{network_hosts}
 use Rattle.desc_form.specs.Places.{first_place}
 use Rattle.desc_form.specs.Refusals.{number, refused, refused_item}
 use Rattle.desc_core.specs.UseConditions.{use_conditions, unknown_template, undeclared_host, duplicate_assign, duplicate_assign_of, bad_attribute, bad_attribute_of, bad_at, self_flow, duplicate_flow, bad_service, bad_service_of, many_services}
 use Rattle.desc_form.specs.FormConditions.{form_conditions}
-use Rattle.desc_form.specs.Written.{Written, WrittenHost, WrittenInvariant, written}
+use Rattle.desc_form.specs.RawDescription.{RawDescription, RawHost, RawInvariant, written}
 use Rattle.desc_core.specs.Choices.{bad_of}
 use Rattle.desc_core.specs.TemplateConditions.{bad_template, not_lawful, unlawful_at}
-use Rattle.desc_form.specs.WrittenTemplate.{WrittenTemplate}
+use Rattle.desc_form.specs.RawTemplate.{RawTemplate}
 use Rattle.host_net.specs.Host.{Host}
 
 -- The refusal of the condition has this number.
@@ -53,7 +53,7 @@ tells_map : {A : Type 0} (n : ℕ) (f : A → Refusal) → ((x : A) → number (
 tells_map n f told None = tells_none n
 tells_map n f told (Some x) = tells_some n (f x) (told x)
 
-tells_where : (n : ℕ) (s : Refusal) → number s.why ≡ n → (b : Bool) → Tells n (where_holds b s)
+tells_where : (n : ℕ) (s : Refusal) → number s.why ≡ n → (b : Bool) → Tells n (some_if b s)
 tells_where n s told true = tells_some n s told
 tells_where n s told false = tells_none n
 
@@ -71,7 +71,7 @@ tells_beyond limit place xs = tells_where 7 (refused TooMany (place (limit + 1))
 tells_prefixes : (es : List Entry) → Tells 7 (too_many_prefixes es)
 tells_prefixes es = tells_map 7 (λ e. refused_item TooMany (place.Host e.host) e.item) (λ e. refl) (slice_get es prefix_limit)
 
-tells_too_many : (hs : List WrittenHost) (es : List Entry) (is : List WrittenInvariant) (ts : List WrittenTemplate) → Tells 7 (too_many hs es is ts)
+tells_too_many : (hs : List RawHost) (es : List Entry) (is : List RawInvariant) (ts : List RawTemplate) → Tells 7 (too_many hs es is ts)
 unfolding too_many
 tells_too_many hs es is ts =
     let invariants = beyond invariant_limit Invariant is in
@@ -81,23 +81,23 @@ tells_too_many hs es is ts =
     (tells_or 7 invariants (option_or templates None) (tells_beyond invariant_limit Invariant is)
     (tells_or 7 templates None (tells_beyond template_limit Template ts) (tells_none 7))))
 
-tells_attribute : (hosts : List Host) (i : Numbered WrittenInvariant) (o : Option Known) → Tells 18 (option_and_then (bad_at hosts i.number) o)
+tells_attribute : (hosts : List Host) (i : Numbered RawInvariant) (o : Option Known) → Tells 18 (option_and_then (bad_at hosts i.number) o)
 tells_attribute hosts i None = tells_none 18
 tells_attribute hosts i (Some k) = tells_map 18 (λ assign. refused BadAttribute (Assign i.number (assign + 1))) (λ assign. refl) (bad_of hosts k.template k.assigns)
 
-tells_bad_attribute : (w : Written) → Tells 18 (bad_attribute w)
+tells_bad_attribute : (w : RawDescription) → Tells 18 (bad_attribute w)
 unfolding bad_attribute
 tells_bad_attribute w = tells_found 18 (bad_attribute_of w.templates (network_hosts w)) (λ i. tells_attribute (network_hosts w) i (known_of w.templates (network_hosts w) i.what)) (numbered w.invariants)
 
-tells_duplicate_assign : (w : Written) → Tells 17 (duplicate_assign w)
+tells_duplicate_assign : (w : RawDescription) → Tells 17 (duplicate_assign w)
 unfolding duplicate_assign
 tells_duplicate_assign w = tells_found 17 duplicate_assign_of (λ i. tells_map 17 _ (λ p. refl) _) (numbered w.invariants)
 
-tells_not_lawful : (w : Written) → Tells 24 (not_lawful w)
+tells_not_lawful : (w : RawDescription) → Tells 24 (not_lawful w)
 unfolding not_lawful
 tells_not_lawful w = tells_found 24 unlawful_at (λ t. tells_map 24 _ (λ p. refl) _) (numbered w.templates)
 
-tells_bad_service : (w : Written) → Tells 21 (bad_service w)
+tells_bad_service : (w : RawDescription) → Tells 21 (bad_service w)
 unfolding bad_service
 tells_bad_service w = tells_found 21 bad_service_of (λ f. tells_map 21 _ (λ s. refl) _) (numbered w.flows)
 
@@ -106,7 +106,7 @@ form_in_order : (table : Members) → InOrder 3 (form_conditions table)
 unfolding form_conditions first_place
 form_in_order table = (tells_map 3 _ (λ p. refl) _, (tells_map 4 _ (λ p. refl) _, (tells_map 5 _ (λ p. refl) _, tt)))
 
-hosts_in_order : (w : Written) → InOrder 6 (host_conditions w)
+hosts_in_order : (w : RawDescription) → InOrder 6 (host_conditions w)
 unfolding host_conditions bad_version bad_name duplicate_host bad_prefix host_bits no_address two_rests overlap
 hosts_in_order w = (
   tells_where 6 _ refl _,
@@ -134,7 +134,7 @@ hosts_in_order w = (
   ),
 )
 
-uses_in_order : (w : Written) → InOrder 15 (use_conditions w)
+uses_in_order : (w : RawDescription) → InOrder 15 (use_conditions w)
 unfolding use_conditions unknown_template undeclared_host self_flow duplicate_flow many_services bad_template
 uses_in_order w = (
   tells_map 15 _ (λ i. refl) _,
@@ -168,7 +168,7 @@ in_order-append n (x ∷ xs) ys first second =
     let same : n + suc (length xs) ≡ n + 1 + length xs = omega arith in
     (first.0, in_order-append (n + 1) xs ys first.1 (subst (λ (k : ℕ). InOrder k ys) same second))
 
-content_in_order : (w : Written) → InOrder 6 (host_conditions w ++ use_conditions w)
+content_in_order : (w : RawDescription) → InOrder 6 (host_conditions w ++ use_conditions w)
 unfolding host_conditions
 content_in_order w = in_order-append 6 (host_conditions w) (use_conditions w) (hosts_in_order w) (uses_in_order w)
 

@@ -8,18 +8,18 @@ use Rattle.flow_set.specs.laws.FlowLaws.{same_flow_sym}
 use Rattle.flow_set.specs.FlowSet.{SetOfFlows, has, with_flow, set_of}
 use Rattle.flow_set.proofs.ListedLaws.{has-set_of}
 use Rattle.flow_set.specs.declared.flow.Flow.{Flow}
-use Rattle.desc_core.specs.Description.{refused_or}
+use Rattle.desc_core.specs.Description.{ok_unless_refused}
 use Rattle.desc_core.specs.inner.Parts.{twice_found}
 use Rattle.desc_form.specs.Refusals.{refused_by}
 use Rattle.desc_form.specs.declared.refusal.Place.TheVariants.{FlowAt}
 use Rattle.desc_form.specs.declared.refusal.Refusal.{Refusal}
 use Rattle.desc_form.specs.declared.refusal.Why.TheVariants.{DuplicateFlow}
-use Rattle.text_core.specs.Firsts.{Numbered, Pair, first_pair, first_pair_behind, numbered, numbered_from}
+use Rattle.text_core.specs.FirstMatch.{Numbered, Conflict, first_conflict, first_conflict_after, numbered, numbered_from}
 
 abbrev nth : ℕ → Flow → Numbered Flow
 nth k f = record { number = k; what = f }
 
-abbrev tell_twice : Pair (Numbered Flow) → Refusal
+abbrev tell_twice : Conflict (Numbered Flow) → Refusal
 tell_twice p = refused_by DuplicateFlow (FlowAt p.later.number) p.earlier.number
 
 abbrev same_as : Numbered Flow → Numbered Flow → Bool
@@ -62,20 +62,20 @@ next_numbered fs i f d within here =
     let place : 1 + length (take i fs) ≡ i + 1 = omega (arith, taken) in
     ap numbered (next_taken fs i f d within here) ∙ numbered_from-push 1 (take i fs) f ∙ ap (λ n. numbered (take i fs) ++ nth n f ∷ []) place
 
-abbrev from_here : List Flow → ℕ → Option (Pair (Numbered Flow))
-from_here fs i = first_pair_behind same_as (numbered (take i fs)) (numbered_from (i + 1) (drop i fs))
+abbrev from_here : List Flow → ℕ → Option (Conflict (Numbered Flow))
+from_here fs i = first_conflict_after same_as (numbered (take i fs)) (numbered_from (i + 1) (drop i fs))
 
 -- The first of the flows before an index that is equal to f.
 abbrev earlier_than : List Flow → ℕ → Flow → Option (Numbered Flow)
 earlier_than fs i f = find (λ (g : Numbered Flow). same_flow f g.what) (numbered (take i fs))
 
-abbrev with_later : ℕ → Flow → Option (Numbered Flow) → Option (Pair (Numbered Flow))
+abbrev with_later : ℕ → Flow → Option (Numbered Flow) → Option (Conflict (Numbered Flow))
 with_later i f o = option_map (λ (g : Numbered Flow). record { later = nth (i + 1) f; earlier = g }) o
 
 here_is : (fs : List Flow) (i : ℕ) (f d : Flow) → i < length fs → f ≡ get_or fs i d → from_here fs i ≡ option_or (with_later i f (earlier_than fs i f)) (from_here fs (i + 1))
 here_is fs i f d within here =
-    ap (λ gs. first_pair_behind same_as (numbered (take i fs)) (numbered_from (i + 1) gs)) (next_left fs i f d within here)
-    ∙ ap (λ before. option_or (with_later i f (earlier_than fs i f)) (first_pair_behind same_as before (numbered_from (i + 1 + 1) (drop (i + 1) fs))))
+    ap (λ gs. first_conflict_after same_as (numbered (take i fs)) (numbered_from (i + 1) gs)) (next_left fs i f d within here)
+    ∙ ap (λ before. option_or (with_later i f (earlier_than fs i f)) (first_conflict_after same_as before (numbered_from (i + 1 + 1) (drop (i + 1) fs))))
     (sym (next_numbered fs i f d within here))
 
 abbrev set_until : ℕ → List Flow → ℕ → SetOfFlows
@@ -98,7 +98,7 @@ pub was_there : (fs : List Flow) (i : ℕ) (f : Flow) (n : ℕ) (s : SetOfFlows)
 was_there fs i f n s changed made is same = sym (in_set fs i f n s made) ∙ not_false (has s.flows f) (sym same ∙ is)
 
 -- A flow that changes the set differs from each of them.
-pub one_more : (fs : List Flow) (i : ℕ) (f d : Flow) (n : ℕ) (s t : SetOfFlows) (changed : Bool) (whole : Option (Pair (Numbered Flow))) → i < length fs → f ≡ get_or fs i d → s ≡ set_until n fs i
+pub one_more : (fs : List Flow) (i : ℕ) (f d : Flow) (n : ℕ) (s t : SetOfFlows) (changed : Bool) (whole : Option (Conflict (Numbered Flow))) → i < length fs → f ≡ get_or fs i d → s ≡ set_until n fs i
     → from_here fs i ≡ whole → t ≡ record { size = s.size; flows = with_flow s.flows f } → changed ≡ not (has s.flows f) → changed ≡ true
     → (t ≡ set_until n fs (i + 1)) × (from_here fs (i + 1) ≡ whole)
 one_more fs i f d n s t changed whole within here made so_far grown is differs =
@@ -110,8 +110,8 @@ one_more fs i f d n s t changed whole within here made so_far grown is differs =
 
 -- The report of the first flow that is present.
 pub repeated : (fs : List Flow) (i : ℕ) (f d : Flow) (earlier : ℕ) (x : SetOfFlows) → i < length fs → f ≡ get_or fs i d → earlier_than fs i f ≡ Some (nth earlier f)
-    → from_here fs i ≡ first_pair_behind same_as [] (numbered fs) → refused_or (twice_found fs) x ≡ Err (refused_by DuplicateFlow (FlowAt (i + 1)) earlier)
+    → from_here fs i ≡ first_conflict_after same_as [] (numbered fs) → ok_unless_refused (twice_found fs) x ≡ Err (refused_by DuplicateFlow (FlowAt (i + 1)) earlier)
 repeated fs i f d earlier x within here found so_far =
-    let pair : first_pair same_as (numbered fs) ≡ Some (record { later = nth (i + 1) f; earlier = nth earlier f }) =
+    let pair : first_conflict same_as (numbered fs) ≡ Some (record { later = nth (i + 1) f; earlier = nth earlier f }) =
     sym so_far ∙ here_is fs i f d within here ∙ ap (λ o. option_or (with_later i f o) (from_here fs (i + 1))) found in
-    ap (λ o. refused_or (option_map tell_twice o) x) pair
+    ap (λ o. ok_unless_refused (option_map tell_twice o) x) pair

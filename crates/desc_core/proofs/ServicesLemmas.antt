@@ -9,29 +9,29 @@ use Rattle.desc_core.proofs.KnownLaws.{all_apart, each_zip, flow_is}
 use Rattle.desc_core.proofs.ListingLaws.{zip_length}
 use Rattle.desc_core.specs.inner.Parts.{ends_of, many_found, narrowed_among, self_found, twice_found, with_services}
 use Rattle.desc_core.specs.inner.Flows.{has_many_services}
-use Rattle.desc_core.specs.WrittenNetwork.{narrowed_of, narrowed_to, services_in, services_said}
-use Rattle.desc_form.specs.Written.{Written}
-use Rattle.desc_form.specs.WrittenFlow.{WrittenFlow}
-use Rattle.desc_form.specs.WrittenHosts.{network_hosts}
+use Rattle.desc_core.specs.RawNetwork.{narrowed_of, narrowed_to, services_in, declared_services}
+use Rattle.desc_form.specs.RawDescription.{RawDescription}
+use Rattle.desc_form.specs.RawFlow.{RawFlow}
+use Rattle.desc_form.specs.RawHosts.{network_hosts}
 use Rattle.flow_set.specs.Flow.{same_flow}
 use Rattle.flow_set.specs.declared.flow.Flow.{Flow}
 use Rattle.host_net.specs.Host.{Host}
-use Rattle.host_net.specs.Services.{NarrowedFlow, is_between, services_of}
+use Rattle.host_net.specs.Services.{RestrictedFlow, is_between, services_of}
 use Rattle.host_net.specs.inner.Services.{with_service}
 use Rattle.host_net.specs.declared.service.Service.{Service}
 use Rattle.table_core.specs.Listing.{each}
 use Rattle.text_core.proofs.FirstsLaws.{all_numbered, no_pair_numbered, none_barred, none_found, none_mapped}
-use Rattle.text_core.specs.Firsts.{numbered}
+use Rattle.text_core.specs.FirstMatch.{numbered}
 use Rattle.text_core.specs.inner.Pairs.{no_pair}
 
-abbrev narrowed : Flow → List Service → NarrowedFlow
+abbrev narrowed : Flow → List Service → RestrictedFlow
 narrowed e ss = record { from = e.from; to = e.to; services = ss }
 
 -- The flow is not among the restricted ones.
-abbrev pub is_new : List NarrowedFlow → Flow → Bool
+abbrev pub is_new : List RestrictedFlow → Flow → Bool
 is_new ns e = list_all (λ n. not (is_between e.from e.to n)) ns
 
-pub none_yet : (ns : List NarrowedFlow) (e : Flow) → is_new ns e ≡ true → services_of ns e.from e.to ≡ []
+pub none_yet : (ns : List RestrictedFlow) (e : Flow) → is_new ns e ≡ true → services_of ns e.from e.to ≡ []
 none_yet [] e new = refl
 none_yet (n ∷ ns) e new =
     let (here, behind) = and_parts (not (is_between e.from e.to n)) _ new in
@@ -41,21 +41,21 @@ own_ends : (from to : ℕ) → ((from == from) && (to == to)) ≡ true
 own_ends from to = grind (arith, nat_tests)
 
 -- One more service of a flow that is the last, or that is not restricted yet.
-last_grows : (ns : List NarrowedFlow) (e : Flow) (ss : List Service) (s : Service) → is_new ns e ≡ true
+last_grows : (ns : List RestrictedFlow) (e : Flow) (ss : List Service) (s : Service) → is_new ns e ≡ true
     → with_service (ns ++ narrowed e ss ∷ []) e.from e.to s ≡ ns ++ narrowed e (ss ++ s ∷ []) ∷ []
 last_grows [] e ss s new = rw (own_ends e.from e.to) refl
 last_grows (n ∷ ns) e ss s new =
     let (here, behind) = and_parts (not (is_between e.from e.to n)) _ new in
     rw (not-true (is_between e.from e.to n) here) (ap (λ ms. n ∷ ms) (last_grows ns e ss s behind))
 
-new_comes : (ns : List NarrowedFlow) (e : Flow) (s : Service) → is_new ns e ≡ true → with_service ns e.from e.to s ≡ ns ++ narrowed e (s ∷ []) ∷ []
+new_comes : (ns : List RestrictedFlow) (e : Flow) (s : Service) → is_new ns e ≡ true → with_service ns e.from e.to s ≡ ns ++ narrowed e (s ∷ []) ∷ []
 new_comes [] e s new = refl
 new_comes (n ∷ ns) e s new =
     let (here, behind) = and_parts (not (is_between e.from e.to n)) _ new in
     rw (not-true (is_between e.from e.to n) here) (ap (λ ms. n ∷ ms) (new_comes ns e s behind))
 
 -- Several services.
-all_grow : (ns : List NarrowedFlow) (e : Flow) (ss more : List Service) → is_new ns e ≡ true
+all_grow : (ns : List RestrictedFlow) (e : Flow) (ss more : List Service) → is_new ns e ≡ true
     → with_services (ns ++ narrowed e ss ∷ []) e more ≡ ns ++ narrowed e (ss ++ more) ∷ []
 all_grow ns e ss [] new = ap (λ (us : List Service). ns ++ narrowed e us ∷ []) (sym (append-nil ss))
 all_grow ns e ss (s ∷ more) new =
@@ -63,18 +63,18 @@ all_grow ns e ss (s ∷ more) new =
     ∙ all_grow ns e (ss ++ s ∷ []) more new
     ∙ ap (λ (us : List Service). ns ++ narrowed e us ∷ []) (append_assoc ss (s ∷ []) more)
 
-added : (ns : List NarrowedFlow) (e : Flow) (ss : List Service) → is_new ns e ≡ true → with_services ns e ss ≡ ns ++ cons_option (narrowed_to e ss) []
+added : (ns : List RestrictedFlow) (e : Flow) (ss : List Service) → is_new ns e ≡ true → with_services ns e ss ≡ ns ++ cons_option (narrowed_to e ss) []
 added ns e [] new = sym (append-nil ns)
 added ns e (s ∷ ss) new = ap (λ ms. with_services ms e ss) (new_comes ns e s new) ∙ all_grow ns e (s ∷ []) ss new
 
 -- The other flows are still new.
-new_by : (ns : List NarrowedFlow) (e f : Flow) (ss : List Service) → is_new ns f ≡ true → not (same_flow f e) ≡ true → is_new (ns ++ cons_option (narrowed_to e ss) []) f ≡ true
+new_by : (ns : List RestrictedFlow) (e f : Flow) (ss : List Service) → is_new ns f ≡ true → not (same_flow f e) ≡ true → is_new (ns ++ cons_option (narrowed_to e ss) []) f ≡ true
 new_by ns e f [] new other = ap (λ ms. is_new ms f) (append-nil ns) ∙ new
 new_by ns e f (s ∷ ss) new other =
     list_all-append (λ n. not (is_between f.from f.to n)) ns (narrowed e (s ∷ ss) ∷ [])
     ∙ and_from (is_new ns f) (not (same_flow f e) && true) new (and_from (not (same_flow f e)) true other refl)
 
-all_new : (ns : List NarrowedFlow) (e : Flow) (ss : List Service) (es : List Flow) → list_all (is_new ns) es ≡ true → list_all (λ f. not (same_flow f e)) es ≡ true
+all_new : (ns : List RestrictedFlow) (e : Flow) (ss : List Service) (es : List Flow) → list_all (is_new ns) es ≡ true → list_all (λ f. not (same_flow f e)) es ≡ true
     → list_all (is_new (ns ++ cons_option (narrowed_to e ss) [])) es ≡ true
 all_new ns e ss [] new others = refl
 all_new ns e ss (f ∷ es) new others =
@@ -83,21 +83,21 @@ all_new ns e ss (f ∷ es) new others =
     and_from (is_new (ns ++ cons_option (narrowed_to e ss) []) f) (list_all (is_new (ns ++ cons_option (narrowed_to e ss) [])) es) (new_by ns e f ss here other) (all_new ns e ss es behind rest)
 
 -- The restricted flows so far, and the remaining flows.
-pub record AreLeft (ns : List NarrowedFlow) (es : List Flow) (ws : List WrittenFlow) (whole : List NarrowedFlow) : Type 0 where
+pub record AreLeft (ns : List RestrictedFlow) (es : List Flow) (ws : List RawFlow) (whole : List RestrictedFlow) : Type 0 where
   pub new : list_all (is_new ns) es ≡ true
   pub different : no_pair same_flow es ≡ true
   pub so_far : ns ++ narrowed_among es ws ≡ whole
 
-behind_one : (ns : List NarrowedFlow) (o : Option NarrowedFlow) (rest : List NarrowedFlow) → (ns ++ cons_option o []) ++ rest ≡ ns ++ cons_option o rest
+behind_one : (ns : List RestrictedFlow) (o : Option RestrictedFlow) (rest : List RestrictedFlow) → (ns ++ cons_option o []) ++ rest ≡ ns ++ cons_option o rest
 behind_one ns None rest = ap (λ ms. ms ++ rest) (append-nil ns)
 behind_one ns (Some n) rest = append_assoc ns (n ∷ []) rest
 
-pub one_added : (ns : List NarrowedFlow) (e : Flow) (es : List Flow) (w : WrittenFlow) (ws : List WrittenFlow) (whole : List NarrowedFlow)
-    → AreLeft ns (e ∷ es) (w ∷ ws) whole → AreLeft (with_services ns e (services_said w)) es ws whole
+pub one_added : (ns : List RestrictedFlow) (e : Flow) (es : List Flow) (w : RawFlow) (ws : List RawFlow) (whole : List RestrictedFlow)
+    → AreLeft ns (e ∷ es) (w ∷ ws) whole → AreLeft (with_services ns e (declared_services w)) es ws whole
 one_added ns e es w ws whole left =
     let (new, later) = and_parts (is_new ns e) _ left.new in
     let (others, different) = and_parts (list_all (λ f. not (same_flow f e)) es) _ left.different in
-    let ss = services_said w in
+    let ss = declared_services w in
     record {
       new = rw (added ns e ss new) (all_new ns e ss es later others);
       different = different;
@@ -109,7 +109,7 @@ all_at_first : (es : List Flow) → list_all (is_new []) es ≡ true
 all_at_first [] = refl
 all_at_first (e ∷ es) = all_at_first es
 
-pub at_first : (es : List Flow) (ws : List WrittenFlow) → no_pair same_flow es ≡ true → AreLeft [] es ws (narrowed_among es ws)
+pub at_first : (es : List Flow) (ws : List RawFlow) → no_pair same_flow es ≡ true → AreLeft [] es ws (narrowed_among es ws)
 at_first es ws different = record { new = all_at_first es; different = different; so_far = refl }
 
 -- ---- the flows of a description
@@ -118,21 +118,21 @@ pub all_different : (es : List Flow) → twice_found es ≡ None → no_pair sam
 all_different es none =
     sym (no_pair_numbered same_flow 1 es) ∙ none_barred (λ f g. same_flow f.what g.what) (numbered es) (none_mapped _ _ none)
 
-pub as_many : (hosts : List Host) (ws : List WrittenFlow) (es : List Flow) → each (ends_of hosts) ws ≡ Some es → length es ≡ length ws
+pub as_many : (hosts : List Host) (ws : List RawFlow) (es : List Flow) → each (ends_of hosts) ws ≡ Some es → length es ≡ length ws
 as_many hosts ws es found = zip_length (λ w e. ends_of hosts w ≡ Some e) ws es (each_zip (ends_of hosts) ws es found)
 
-narrowed_zip : (hosts : List Host) (ws : List WrittenFlow) (es : List Flow) → AllZip (λ w e. ends_of hosts w ≡ Some e) ws es → list_all (λ (e : Flow). not (e.from == e.to)) es ≡ true
+narrowed_zip : (hosts : List Host) (ws : List RawFlow) (es : List Flow) → AllZip (λ w e. ends_of hosts w ≡ Some e) ws es → list_all (λ (e : Flow). not (e.from == e.to)) es ≡ true
     → filter_map (narrowed_of hosts) ws ≡ narrowed_among es ws
 narrowed_zip hosts [] [] zipped apart = refl
 narrowed_zip hosts [] (e ∷ es) zipped apart = absurd zipped
 narrowed_zip hosts (w ∷ ws) [] zipped apart = absurd zipped
 narrowed_zip hosts (w ∷ ws) (e ∷ es) zipped apart =
     let (here, behind) = and_parts (not (e.from == e.to)) _ apart in
-    λ j. cons_option (option_and_then (λ flow. narrowed_to flow (services_said w)) (flow_is hosts w e zipped.0 here j)) (narrowed_zip hosts ws es zipped.1 behind j)
+    λ j. cons_option (option_and_then (λ flow. narrowed_to flow (declared_services w)) (flow_is hosts w e zipped.0 here j)) (narrowed_zip hosts ws es zipped.1 behind j)
 
-pub services_are : (w : Written) (es : List Flow) → each (ends_of (network_hosts w)) w.flows ≡ Some es → self_found es ≡ None → services_in w ≡ narrowed_among es w.flows
+pub services_are : (w : RawDescription) (es : List Flow) → each (ends_of (network_hosts w)) w.flows ≡ Some es → self_found es ≡ None → services_in w ≡ narrowed_among es w.flows
 unfolding services_in
 services_are w es found none = narrowed_zip (network_hosts w) w.flows es (each_zip (ends_of (network_hosts w)) w.flows es found) (all_apart es none)
 
-pub all_few : (ws : List WrittenFlow) → many_found ws ≡ None → list_all (λ f. not (has_many_services f)) ws ≡ true
+pub all_few : (ws : List RawFlow) → many_found ws ≡ None → list_all (λ f. not (has_many_services f)) ws ≡ true
 all_few ws none = sym (all_numbered (λ f. not (has_many_services f)) 1 ws) ∙ none_found (λ f. has_many_services f.what) (numbered ws) (none_mapped _ _ none)

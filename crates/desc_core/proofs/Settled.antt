@@ -7,12 +7,12 @@ use Rattle.attr_core.specs.Templates.{template_named}
 use Rattle.desc_core.specs.Choices.{bad_of, made_by}
 use Rattle.desc_core.specs.TemplateConditions.{bad_template, not_lawful}
 use Rattle.desc_core.proofs.Examples.{list, texts, host_with, host_at, rest_host, flow, level, invariant, host_a, host_b, a_to_b, described_as, of_hosts, of_flows, of_invariants}
-use Rattle.desc_form.specs.WrittenFlow.{flow_written}
+use Rattle.desc_form.specs.RawFlow.{raw_flow}
 use Rattle.desc_form.specs.HostConditions.{bad_version, too_many, bad_name, duplicate_host, bad_prefix, host_bits, no_address, two_rests, overlap, all_entries, host_conditions}
 use Rattle.desc_form.specs.Mentions.{used_names, all_names}
-use Rattle.desc_core.specs.WrittenNetwork.{network_of, asked_of, services_in, invariants_of, known_of}
+use Rattle.desc_core.specs.RawNetwork.{network_of, asked_of, services_in, invariants_of, known_of}
 use Rattle.flow_set.specs.EveryFlow.{every_flow}
-use Rattle.desc_form.specs.Places.{has_wrong_type, first_place, spots, listed, assigns_of}
+use Rattle.desc_form.specs.Places.{has_wrong_type, first_place, locations, listed, assigns_of}
 use Rattle.desc_core.specs.UseConditions.{use_conditions, unknown_template, undeclared_host, duplicate_assign, bad_attribute, self_flow, duplicate_flow, bad_service, many_services}
 use Rattle.desc_core.specs.Conditions.{table_conditions}
 use Rattle.desc_core.specs.Description.{described_by_table}
@@ -21,8 +21,8 @@ use Rattle.desc_form.specs.inner.Refused.{refused_item_by, refused_name}
 use Rattle.desc_form.specs.declared.refusal.Place.TheVariants.{Assign, Document, FlowAt, Host, Invariant}
 use Rattle.desc_form.specs.declared.refusal.Why.TheVariants.{BadName, BadPrefix, DuplicateAssign, MissingKey, NoAddress, Overlap, TooMany, TwoRests, UndeclaredHost, UnknownTemplate, WrongType}
 use Rattle.desc_form.specs.FormConditions.{form_conditions}
-use Rattle.desc_form.specs.Written.{written, host_written, invariant_written, assign_written}
-use Rattle.desc_form.specs.WrittenHosts.{network_hosts}
+use Rattle.desc_form.specs.RawDescription.{written, raw_host, raw_invariant, raw_assign}
+use Rattle.desc_form.specs.RawHosts.{network_hosts}
 use Rattle.host_net.specs.Prefix.{prefix_of, is_exact, meets, prefix_text, address_text, octet}
 use Rattle.table_core.specs.Keys.{all_suit, has_only_keys, lacks_key}
 use Rattle.table_core.specs.Tables.{has_only, has_key, text_at, integer_at, boolean_at, number_at, elements_of, list_at}
@@ -53,5 +53,5 @@ settled_rows =
     ∷ []
 
 pub settled : map (λ r. described_by_table r.document) settled_rows ≡ map (λ r. Err r.refusal) settled_rows
-unfolding has_only_keys lacks_key all_suit of_shape has_wrong_type first_place spots listed assigns_of has_only has_key text_at integer_at boolean_at number_at elements_of list_at flow_written written host_written invariant_written assign_written bad_version too_many bad_name duplicate_host bad_prefix host_bits no_address two_rests overlap all_entries used_names all_names unknown_template undeclared_host duplicate_assign bad_attribute self_flow duplicate_flow bad_service many_services network_of network_hosts asked_of services_in invariants_of known_of every_flow described_by_table table_conditions form_conditions host_conditions use_conditions prefix_of octet address_text prefix_text number is_exact meets template_named bad_of made_by blp_attribute bad_template not_lawful digits
+unfolding has_only_keys lacks_key all_suit of_shape has_wrong_type first_place locations listed assigns_of has_only has_key text_at integer_at boolean_at number_at elements_of list_at raw_flow written raw_host raw_invariant raw_assign bad_version too_many bad_name duplicate_host bad_prefix host_bits no_address two_rests overlap all_entries used_names all_names unknown_template undeclared_host duplicate_assign bad_attribute self_flow duplicate_flow bad_service many_services network_of network_hosts asked_of services_in invariants_of known_of every_flow described_by_table table_conditions form_conditions host_conditions use_conditions prefix_of octet address_text prefix_text number is_exact meets template_named bad_of made_by blp_attribute bad_template not_lawful digits
 settled = refl

@@ -7,13 +7,13 @@ use Rattle.attr_core.specs.Assigns.{Given}
 use Rattle.attr_core.specs.Forms.{bad_assign}
 use Rattle.attr_core.proofs.ShallowLaws.{IsShallowGiven, assigns_shallow, kinds_shallow}
 use Rattle.desc_core.specs.Choices.{Choice, OneOfTen, OwnTable, choice_form, declared_by}
-use Rattle.desc_form.specs.WrittenTemplate.{WrittenTemplate}
+use Rattle.desc_form.specs.RawTemplate.{RawTemplate}
 use Rattle.desc_core.proofs.WholeLaws.{IsDescribedByTable-described}
 use Rattle.desc_core.specs.Description.{described_by_table}
 use Rattle.desc_core.specs.inner.Whole.{IsInvariantOf}
-use Rattle.desc_core.specs.WrittenNetwork.{given_by}
+use Rattle.desc_core.specs.RawNetwork.{given_by}
 use Rattle.desc_form.proofs.ShallowFormLaws.{AreShallowAssigns, IsShallowAssign, written_shallow}
-use Rattle.desc_form.specs.Written.{WrittenAssign, WrittenInvariant}
+use Rattle.desc_form.specs.RawDescription.{RawAssign, RawInvariant}
 use Rattle.host_net.specs.Host.{Host, host_named}
 use Rattle.inv_any.specs.declared.any_inv.AnyInv.{AnyInv}
 use Rattle.net_core.specs.Network.{Network}
@@ -21,14 +21,14 @@ use Rattle.table_core.specs.Listing.{each}
 use Rattle.table_core.specs.Shallow.{IsShallow}
 
 -- An assign and its resolved form have the same table.
-given_table : (hosts : List Host) (a : WrittenAssign) (g : Given) → given_by hosts a ≡ Some g → IsShallowGiven g → IsShallowAssign a
+given_table : (hosts : List Host) (a : RawAssign) (g : Given) → given_by hosts a ≡ Some g → IsShallowGiven g → IsShallowAssign a
 given_table hosts a g gives shallow = by_host (host_named hosts a.host) gives
   where
     by_host : (o : Option ℕ) → option_map (λ host. record { host = host; table = a.table }) o ≡ Some g → IsShallowAssign a
     by_host None gives = cc
     by_host (Some host) gives = let same : g.table ≡ a.table = cc in subst (λ (t : Members). members_are_sorted t ≡ true → IsShallow 2 (table t)) same shallow
 
-given_by_each : (hosts : List Host) (ws : List WrittenAssign) (here : Option Given) (rest : Option (List Given)) (a : WrittenAssign) (gs : List Given)
+given_by_each : (hosts : List Host) (ws : List RawAssign) (here : Option Given) (rest : Option (List Given)) (a : RawAssign) (gs : List Given)
     → given_by hosts a ≡ here → ((others : List Given) → rest ≡ Some others → AllByRecursion IsShallowGiven others → AllByRecursion IsShallowAssign ws)
     → option_and_then (λ g. option_map (λ more. g ∷ more) rest) here ≡ Some gs → AllByRecursion IsShallowGiven gs → AllByRecursion IsShallowAssign (a ∷ ws)
 given_by_each hosts ws None rest a gs is behind gives all = cc
@@ -41,7 +41,7 @@ given_by_each hosts ws (Some g) (Some others) a (h ∷ hs) is behind gives (firs
       behind others refl (subst (AllByRecursion IsShallowGiven) same_rest all),
     )
 
-assigns_are : (hosts : List Host) (ws : List WrittenAssign) (gs : List Given) → each (given_by hosts) ws ≡ Some gs → AllByRecursion IsShallowGiven gs
+assigns_are : (hosts : List Host) (ws : List RawAssign) (gs : List Given) → each (given_by hosts) ws ≡ Some gs → AllByRecursion IsShallowGiven gs
     → AllByRecursion IsShallowAssign ws
 assigns_are hosts [] gs gives all = tt
 assigns_are hosts (a ∷ ws) gs gives all =
@@ -51,7 +51,7 @@ choice_shallow : (hosts : List Host) (c : Choice) (assigns : List Given) → bad
 choice_shallow hosts (OneOfTen t) assigns good = assigns_shallow hosts t assigns good
 choice_shallow hosts (OwnTable t) assigns good = kinds_shallow hosts (declared_by t) assigns good
 
-invariants_are : (ts : List WrittenTemplate) (hosts : List Host) (is : List WrittenInvariant) (made : List AnyInv) → AllZip (IsInvariantOf ts hosts) is made
+invariants_are : (ts : List RawTemplate) (hosts : List Host) (is : List RawInvariant) (made : List AnyInv) → AllZip (IsInvariantOf ts hosts) is made
     → AllByRecursion AreShallowAssigns is
 invariants_are ts hosts [] made zipped = tt
 invariants_are ts hosts (i ∷ is) [] zipped = absurd zipped

@@ -8,11 +8,11 @@ use Rattle.std.specs.Prelude.{◌↔◌, if◌then◌else◌}
 use Rattle.std.specs.Str.{bytes_eq}
 use Rattle.attr_core.specs.Templates.{template_named}
 use Rattle.desc_core.specs.TemplateConditions as test
-use Rattle.desc_core.specs.TemplateConditions.{are_different, bad_template, first_bad, has_kinds, has_strategy, is_good, is_kind, kind_limit, uses_kinds}
+use Rattle.desc_core.specs.TemplateConditions.{are_different, bad_template, first_bad, has_kinds, has_strategy, is_well_formed, is_kind, kind_limit, uses_kinds}
 use Rattle.desc_core.specs.inner.TemplateFacts.{Denies, HasPartner, IsKind, IsTemplate}
 use Rattle.desc_form.specs.Refusals.{refused}
-use Rattle.desc_form.specs.Written.{Written}
-use Rattle.desc_form.specs.WrittenTemplate.{WrittenPair, WrittenTemplate}
+use Rattle.desc_form.specs.RawDescription.{RawDescription}
+use Rattle.desc_form.specs.RawTemplate.{RawPair, RawTemplate}
 use Rattle.desc_form.specs.declared.refusal.Place.TheVariants.{Template}
 use Rattle.desc_form.specs.declared.refusal.Why.TheVariants.{BadTemplate}
 use Rattle.desc_form.proofs.NoneLaws.{all_tested}
@@ -42,17 +42,17 @@ word_among word words = (
   contained_found (bytes_eq word) word ((bytes_eq-Decides word word).1 refl) words,
 )
 
-abbrev is_pair : List ℕ → List ℕ → WrittenPair → Bool
+abbrev is_pair : List ℕ → List ℕ → RawPair → Bool
 is_pair sender receiver p = bytes_eq p.sender sender && bytes_eq p.receiver receiver
 
-only_pair : (sender receiver : List ℕ) (p : WrittenPair) → is_pair sender receiver p ≡ true → p ≡ record { sender = sender; receiver = receiver }
+only_pair : (sender receiver : List ℕ) (p : RawPair) → is_pair sender receiver p ≡ true → p ≡ record { sender = sender; receiver = receiver }
 only_pair sender receiver p same =
     let (first, second) = and_parts (bytes_eq p.sender sender) (bytes_eq p.receiver receiver) same in
     let senders = (bytes_eq-Decides p.sender sender).0 first in
     let receivers = (bytes_eq-Decides p.receiver receiver).0 second in
     λ k. record { sender = senders k; receiver = receivers k }
 
-pair_among : (t : WrittenTemplate) (sender receiver : List ℕ) → (test.denies t sender receiver ≡ true) ↔ Denies t sender receiver
+pair_among : (t : RawTemplate) (sender receiver : List ℕ) → (test.denies t sender receiver ≡ true) ↔ Denies t sender receiver
 pair_among t sender receiver = (
   found_contained (is_pair sender receiver) (record { sender = sender; receiver = receiver }) (only_pair sender receiver) t.deny,
   contained_found (is_pair sender receiver) (record { sender = sender; receiver = receiver })
@@ -62,16 +62,16 @@ pair_among t sender receiver = (
 -- ---- 23: the test of a single template, and that of its name among the earlier ones
 
 -- The template is valid by itself, regardless of the others.
-abbrev pub is_template : WrittenTemplate → Bool
+abbrev pub is_template : RawTemplate → Bool
 is_template t = is_name t.name && is_none (template_named t.name) && has_strategy t && has_kinds t && uses_kinds t
 
-abbrev pub same_name : WrittenTemplate → WrittenTemplate → Bool
+abbrev pub same_name : RawTemplate → RawTemplate → Bool
 same_name t earlier = bytes_eq t.name earlier.name
 
-abbrev is_free : List WrittenTemplate → WrittenTemplate → Bool
+abbrev is_free : List RawTemplate → RawTemplate → Bool
 is_free earlier t = not (list_any (same_name t) earlier)
 
-good_parts : (earlier : List WrittenTemplate) (t : WrittenTemplate) → is_good earlier t ≡ true → (is_template t ≡ true) × (is_free earlier t ≡ true)
+good_parts : (earlier : List RawTemplate) (t : RawTemplate) → is_well_formed earlier t ≡ true → (is_template t ≡ true) × (is_free earlier t ≡ true)
 good_parts earlier t good =
     let (third, uses) = and_parts _ (uses_kinds t) good in
     let (second, kinds) = and_parts _ (has_kinds t) third in
@@ -79,7 +79,7 @@ good_parts earlier t good =
     let (named, free) = and_parts (is_name t.name && is_none (template_named t.name)) (is_free earlier t) first in
     (and_from _ _ (and_from _ _ (and_from _ _ named strategy) kinds) uses, free)
 
-good_from : (earlier : List WrittenTemplate) (t : WrittenTemplate) → is_template t ≡ true → is_free earlier t ≡ true → is_good earlier t ≡ true
+good_from : (earlier : List RawTemplate) (t : RawTemplate) → is_template t ≡ true → is_free earlier t ≡ true → is_well_formed earlier t ≡ true
 good_from earlier t alone free =
     let (second, uses) = and_parts _ (uses_kinds t) alone in
     let (first, kinds) = and_parts _ (has_kinds t) second in
@@ -94,7 +94,7 @@ not_or_false : (b : Bool) → not (b || false) ≡ not b
 not_or_false true = refl
 not_or_false false = refl
 
-free_behind : (earlier : List WrittenTemplate) (t u : WrittenTemplate) → is_free (earlier ++ t ∷ []) u ≡ (is_free earlier u && not (same_name u t))
+free_behind : (earlier : List RawTemplate) (t u : RawTemplate) → is_free (earlier ++ t ∷ []) u ≡ (is_free earlier u && not (same_name u t))
 free_behind [] t u = not_or_false (same_name u t)
 free_behind (e ∷ earlier) t u =
     free_by (same_name u e) (list_any (same_name u) (earlier ++ t ∷ [])) (list_any (same_name u) earlier) (not (same_name u t)) (free_behind earlier t u)
@@ -109,12 +109,12 @@ all_both : {A : Type 0} (p q : A → Bool) (xs : List A) → list_all (λ x. p x
 all_both p q [] = refl
 all_both p q (x ∷ xs) = ap (λ b. (p x && q x) && b) (all_both p q xs) ∙ both_by (p x) (q x) (list_all p xs) (list_all q xs)
 
-all_free_behind : (earlier : List WrittenTemplate) (t : WrittenTemplate) (ts : List WrittenTemplate)
+all_free_behind : (earlier : List RawTemplate) (t : RawTemplate) (ts : List RawTemplate)
     → list_all (is_free (earlier ++ t ∷ [])) ts ≡ (list_all (is_free earlier) ts && list_all (λ u. not (same_name u t)) ts)
 all_free_behind earlier t ts = (λ k. list_all (λ u. free_behind earlier t u k) ts) ∙ all_both (is_free earlier) (λ u. not (same_name u t)) ts
 
 -- The facts about the templates after the earlier ones.
-pub record AreTemplates (earlier ts : List WrittenTemplate) : Type 0 where
+pub record AreTemplates (earlier ts : List RawTemplate) : Type 0 where
   pub each : list_all is_template ts ≡ true
   pub apart : no_pair same_name ts ≡ true
   pub free : list_all (is_free earlier) ts ≡ true
@@ -127,10 +127,10 @@ later_by : (b : Bool) (later : Option ℕ) (k : ℕ) → b ≡ true → later �
 later_by true later k good none = none
 later_by false later k good none = absurd (false≢true good)
 
-none_are : (earlier : List WrittenTemplate) (k : ℕ) (ts : List WrittenTemplate) → first_bad earlier k ts ≡ None → AreTemplates earlier ts
+none_are : (earlier : List RawTemplate) (k : ℕ) (ts : List RawTemplate) → first_bad earlier k ts ≡ None → AreTemplates earlier ts
 none_are earlier k [] none = record { each = refl; apart = refl; free = refl }
 none_are earlier k (t ∷ ts) none =
-    let (good, later) = good_by (is_good earlier t) (first_bad (earlier ++ t ∷ []) (k + 1) ts) k none in
+    let (good, later) = good_by (is_well_formed earlier t) (first_bad (earlier ++ t ∷ []) (k + 1) ts) k none in
     let (alone, free) = good_parts earlier t good in
     let behind = none_are (earlier ++ t ∷ []) (k + 1) ts later in
     let (others, apart) = and_parts (list_all (is_free earlier) ts) _ (sym (all_free_behind earlier t ts) ∙ behind.free) in
@@ -140,20 +140,20 @@ none_are earlier k (t ∷ ts) none =
       free = and_from (is_free earlier t) (list_all (is_free earlier) ts) free others;
     }
 
-are_none : (earlier : List WrittenTemplate) (k : ℕ) (ts : List WrittenTemplate) → AreTemplates earlier ts → first_bad earlier k ts ≡ None
+are_none : (earlier : List RawTemplate) (k : ℕ) (ts : List RawTemplate) → AreTemplates earlier ts → first_bad earlier k ts ≡ None
 are_none earlier k [] are = refl
 are_none earlier k (t ∷ ts) are =
     let (alone, each) = and_parts (is_template t) _ are.each in
     let (unlike, apart) = and_parts (list_all (λ u. not (same_name u t)) ts) _ are.apart in
     let (free, others) = and_parts (is_free earlier t) _ are.free in
-    later_by (is_good earlier t) (first_bad (earlier ++ t ∷ []) (k + 1) ts) k (good_from earlier t alone free)
+    later_by (is_well_formed earlier t) (first_bad (earlier ++ t ∷ []) (k + 1) ts) k (good_from earlier t alone free)
     (are_none (earlier ++ t ∷ []) (k + 1) ts (record {
       each = each;
       apart = apart;
       free = all_free_behind earlier t ts ∙ and_from (list_all (is_free earlier) ts) (list_all (λ u. not (same_name u t)) ts) others unlike;
     }))
 
-all_free : (ts : List WrittenTemplate) → list_all (is_free []) ts ≡ true
+all_free : (ts : List RawTemplate) → list_all (is_free []) ts ≡ true
 all_free [] = refl
 all_free (t ∷ ts) = all_free ts
 
@@ -195,10 +195,10 @@ words_differ : (words : List (List ℕ)) → (are_different words ≡ true) ↔ 
 words_differ words =
     then_words (same_test (different_same words)) (pairs_say is_earlier (λ word other. word ≢ other) unequal_words words)
 
-abbrev names_differ : WrittenTemplate → WrittenTemplate → Type 0
+abbrev names_differ : RawTemplate → RawTemplate → Type 0
 names_differ t u = t.name ≢ u.name
 
-templates_differ : (ts : List WrittenTemplate) → (no_pair same_name ts ≡ true) ↔ AllPairs names_differ ts
+templates_differ : (ts : List RawTemplate) → (no_pair same_name ts ≡ true) ↔ AllPairs names_differ ts
 templates_differ ts = pairs_say same_name names_differ (λ t u. differ_words t.name u.name) ts
 
 at_least_one : (n : ℕ) → (nat_lt 0 n ≡ true) ↔ (1 ≤ n)
@@ -207,16 +207,16 @@ at_least_one n = (λ h. grind (arith, nat_tests), λ h. grind (arith, nat_tests)
 at_most : (n limit : ℕ) → (nat_le n limit ≡ true) ↔ (n ≤ limit)
 at_most n limit = (λ h. grind (arith, nat_tests), λ h. grind (arith, nat_tests))
 
-abbrev pair_test : WrittenTemplate → WrittenPair → Bool
+abbrev pair_test : RawTemplate → RawPair → Bool
 pair_test t p = is_kind t p.sender && is_kind t p.receiver
 
-pair_words : (t : WrittenTemplate) (p : WrittenPair) → (pair_test t p ≡ true) ↔ (IsKind t p.sender × IsKind t p.receiver)
+pair_words : (t : RawTemplate) (p : RawPair) → (pair_test t p ≡ true) ↔ (IsKind t p.sender × IsKind t p.receiver)
 pair_words t p = and_words (is_kind t p.sender) (is_kind t p.receiver) (word_among p.sender t.kinds) (word_among p.receiver t.kinds)
 
-pairs_words : (t : WrittenTemplate) → (list_all (pair_test t) t.deny ≡ true) ↔ All (λ (p : WrittenPair). IsKind t p.sender × IsKind t p.receiver) t.deny
-pairs_words t = each_says (pair_test t) (λ (p : WrittenPair). IsKind t p.sender × IsKind t p.receiver) (pair_words t) t.deny
+pairs_words : (t : RawTemplate) → (list_all (pair_test t) t.deny ≡ true) ↔ All (λ (p : RawPair). IsKind t p.sender × IsKind t p.receiver) t.deny
+pairs_words t = each_says (pair_test t) (λ (p : RawPair). IsKind t p.sender × IsKind t p.receiver) (pair_words t) t.deny
 
-tested_template : (t : WrittenTemplate) → is_template t ≡ true → IsTemplate t
+tested_template : (t : RawTemplate) → is_template t ≡ true → IsTemplate t
 tested_template t h =
     let (front, uses) = and_parts _ (uses_kinds t) h in
     let (named, kinds) = and_parts _ (has_kinds t) front in
@@ -238,7 +238,7 @@ tested_template t h =
       pairs = (pairs_words t).0 pairs;
     }
 
-template_tested : (t : WrittenTemplate) → IsTemplate t → is_template t ≡ true
+template_tested : (t : RawTemplate) → IsTemplate t → is_template t ≡ true
 template_tested t is =
     and_from _ (uses_kinds t)
     (and_from _ (has_kinds t)
@@ -255,7 +255,7 @@ template_tested t is =
     ((pairs_words t).1 is.pairs))
 
 -- Each is a valid template, and no two have the same name.
-pub templates_are : (w : Written) → (bad_template w ≡ None) ↔ (All IsTemplate w.templates × AllPairs (λ t u. t.name ≢ u.name) w.templates)
+pub templates_are : (w : RawDescription) → (bad_template w ≡ None) ↔ (All IsTemplate w.templates × AllPairs (λ t u. t.name ≢ u.name) w.templates)
 unfolding bad_template
 templates_are w =
     let each_is = each_says is_template IsTemplate (λ t. (tested_template t, template_tested t)) w.templates in
@@ -281,7 +281,7 @@ partner_by false a b P Q Is says first second = (
   λ both. second.1 (both.1 (λ is. false≢true (says.1 is))),
 )
 
-pub partner_words : (t : WrittenTemplate) (p : WrittenPair) → (test.has_partner t p ≡ true) ↔ HasPartner t p
+pub partner_words : (t : RawTemplate) (p : RawPair) → (test.has_partner t p ≡ true) ↔ HasPartner t p
 partner_words t p =
     let (says, said) = partner_by (bytes_eq t.strategy (codes "access")) (test.denies t t.default p.receiver) (test.denies t p.sender t.default)
     (Denies t t.default p.receiver) (Denies t p.sender t.default) (t.strategy ≡ codes "access")
@@ -291,8 +291,8 @@ partner_words t p =
     )
 
 -- Each denied pair of each template has its partner.
-pub partners_are : (ts : List WrittenTemplate)
+pub partners_are : (ts : List RawTemplate)
     → (list_all (λ t. list_all (test.has_partner t) t.deny) ts ≡ true) ↔ All (λ t. All (HasPartner t) t.deny) ts
 partners_are ts =
-    each_says (λ (t : WrittenTemplate). list_all (test.has_partner t) t.deny) (λ (t : WrittenTemplate). All (HasPartner t) t.deny)
+    each_says (λ (t : RawTemplate). list_all (test.has_partner t) t.deny) (λ (t : RawTemplate). All (HasPartner t) t.deny)
     (λ t. each_says (test.has_partner t) (HasPartner t) (partner_words t) t.deny) ts

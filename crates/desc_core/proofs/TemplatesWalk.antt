@@ -3,11 +3,11 @@ use Rattle.std.proofs.Common.{◌≡◌, ℕ, ◌+◌, ◌<◌, Bool, true, fals
 use Rattle.std.proofs.lemmas.List.{map-append, take_more}
 use Rattle.std.specs.Prelude.{if◌then◌else◌}
 use Rattle.std.specs.Option.{option_or}
-use Rattle.desc_core.specs.TemplateConditions.{first_bad, is_good, unlawful_at}
+use Rattle.desc_core.specs.TemplateConditions.{first_bad, is_well_formed, unlawful_at}
 use Rattle.desc_form.specs.declared.refusal.Refusal.{Refusal}
-use Rattle.text_core.specs.Firsts.{first_found, numbered_from}
-use Rattle.desc_form.specs.inner.WrittenView.{template_view}
-use Rattle.desc_form.specs.declared.written.WrittenTemplate.{WrittenTemplate}
+use Rattle.text_core.specs.FirstMatch.{first_found, numbered_from}
+use Rattle.desc_form.specs.inner.RawView.{template_view}
+use Rattle.desc_form.specs.declared.raw.RawTemplate.{RawTemplate}
 
 good_by : (b : Bool) (later : Option ℕ) (k : ℕ) (whole : Option ℕ) → b ≡ true → (if b then later else Some k) ≡ whole → later ≡ whole
 good_by true later k whole good is = is
@@ -17,36 +17,36 @@ bad_by : (b : Bool) (later : Option ℕ) (k : ℕ) (whole : Option ℕ) → b �
 bad_by true later k whole bad is = cc
 bad_by false later k whole bad is = is
 
-next : (ts : List WrittenTemplate) (i : ℕ) (t : WrittenTemplate) → i < length ts → t ≡ get_or ts i t → drop i ts ≡ t ∷ drop (i + 1) ts
+next : (ts : List RawTemplate) (i : ℕ) (t : RawTemplate) → i < length ts → t ≡ get_or ts i t → drop i ts ≡ t ∷ drop (i + 1) ts
 next ts i t within here = drop-cons ts i t within ∙ (λ j. sym here j ∷ drop (sym (add-one i) j) ts)
 
-front : (ts : List WrittenTemplate) (i : ℕ) (t : WrittenTemplate) → i < length ts → t ≡ get_or ts i t
+front : (ts : List RawTemplate) (i : ℕ) (t : RawTemplate) → i < length ts → t ≡ get_or ts i t
     → map template_view (take (i + 1) ts) ≡ map template_view (take i ts) ++ template_view t ∷ []
 front ts i t within here =
     ap (map template_view) (take_more ts i t within) ∙ map-append template_view (take i ts) (get_or ts i t ∷ [])
-    ∙ ap (λ (u : WrittenTemplate). map template_view (take i ts) ++ template_view u ∷ []) (sym here)
+    ∙ ap (λ (u : RawTemplate). map template_view (take i ts) ++ template_view u ∷ []) (sym here)
 
-pub good_more : (ts : List WrittenTemplate) (i : ℕ) (t : WrittenTemplate) (whole : Option ℕ) → i < length ts → t ≡ get_or ts i t
-    → is_good (map template_view (take i ts)) (template_view t) ≡ true
+pub good_more : (ts : List RawTemplate) (i : ℕ) (t : RawTemplate) (whole : Option ℕ) → i < length ts → t ≡ get_or ts i t
+    → is_well_formed (map template_view (take i ts)) (template_view t) ≡ true
     → first_bad (map template_view (take i ts)) (i + 1) (map template_view (drop i ts)) ≡ whole
     → first_bad (map template_view (take (i + 1) ts)) (i + 1 + 1) (map template_view (drop (i + 1) ts)) ≡ whole
 good_more ts i t whole within here good so_far =
     ap (λ earlier. first_bad earlier (i + 1 + 1) (map template_view (drop (i + 1) ts))) (front ts i t within here)
-    ∙ good_by (is_good (map template_view (take i ts)) (template_view t)) _ (i + 1) whole good
+    ∙ good_by (is_well_formed (map template_view (take i ts)) (template_view t)) _ (i + 1) whole good
     (sym (ap (λ us. first_bad (map template_view (take i ts)) (i + 1) (map template_view us)) (next ts i t within here)) ∙ so_far)
 
-pub bad_here : (ts : List WrittenTemplate) (i : ℕ) (t : WrittenTemplate) (whole : Option ℕ) → i < length ts → t ≡ get_or ts i t
-    → is_good (map template_view (take i ts)) (template_view t) ≡ false
+pub bad_here : (ts : List RawTemplate) (i : ℕ) (t : RawTemplate) (whole : Option ℕ) → i < length ts → t ≡ get_or ts i t
+    → is_well_formed (map template_view (take i ts)) (template_view t) ≡ false
     → first_bad (map template_view (take i ts)) (i + 1) (map template_view (drop i ts)) ≡ whole → Some (i + 1) ≡ whole
 bad_here ts i t whole within here bad so_far =
-    bad_by (is_good (map template_view (take i ts)) (template_view t)) _ (i + 1) whole bad
+    bad_by (is_well_formed (map template_view (take i ts)) (template_view t)) _ (i + 1) whole bad
     (sym (ap (λ us. first_bad (map template_view (take i ts)) (i + 1) (map template_view us)) (next ts i t within here)) ∙ so_far)
 
 some_first : (o rest whole : Option Refusal) → is_some o ≡ true → option_or o rest ≡ whole → o ≡ whole
 some_first None rest whole there is = cc
 some_first (Some r) rest whole there is = is
 
-pub unlawful_here : (ts : List WrittenTemplate) (i : ℕ) (t : WrittenTemplate) (found whole : Option Refusal) → i < length ts → t ≡ get_or ts i t
+pub unlawful_here : (ts : List RawTemplate) (i : ℕ) (t : RawTemplate) (found whole : Option Refusal) → i < length ts → t ≡ get_or ts i t
     → found ≡ unlawful_at (record { number = i + 1; what = template_view t }) → is_some found ≡ true
     → first_found unlawful_at (numbered_from (i + 1) (map template_view (drop i ts))) ≡ whole → found ≡ whole
 unlawful_here ts i t found whole within here said there so_far =

@@ -11,9 +11,9 @@ use Rattle.desc_core.proofs.ListingLaws.{all_both}
 use Rattle.desc_core.specs.Flows.{flow_of_names}
 use Rattle.desc_core.proofs.UseFactsLaws.{PassesUses}
 use Rattle.desc_core.specs.UseConditions.{is_declared}
-use Rattle.desc_form.specs.Written.{Written}
-use Rattle.desc_form.specs.WrittenFlow.{WrittenFlow}
-use Rattle.desc_form.specs.WrittenHosts.{network_hosts}
+use Rattle.desc_form.specs.RawDescription.{RawDescription}
+use Rattle.desc_form.specs.RawFlow.{RawFlow}
+use Rattle.desc_form.specs.RawHosts.{network_hosts}
 use Rattle.flow_set.specs.declared.flow.Flow.{Flow}
 use Rattle.host_net.specs.Host.{host_named}
 use Rattle.host_net.proofs.NamedLaws.{one_name}
@@ -35,7 +35,7 @@ two_hosts None to starts ends differ = cc
 two_hosts (Some i) None starts ends differ = cc
 two_hosts (Some i) (Some j) starts ends differ = two_by (i == j) i j refl (λ same. differ i refl (ap Some (sym same)))
 
-is_between : (w : Written) (f : WrittenFlow) → (is_declared w f.from && is_declared w f.to) ≡ true → not (bytes_eq f.from f.to) ≡ true → is_some (flow_of_names (network_hosts w) f) ≡ true
+is_between : (w : RawDescription) (f : RawFlow) → (is_declared w f.from && is_declared w f.to) ≡ true → not (bytes_eq f.from f.to) ≡ true → is_some (flow_of_names (network_hosts w) f) ≡ true
 is_between w f declared differ =
     let (from, to) = and_parts (is_declared w f.from) _ declared in
     two_hosts (host_named (network_hosts w) f.from) (host_named (network_hosts w) f.to) (is_host w f.from ∙ from) (is_host w f.to ∙ to) (λ k starts ends.
@@ -43,7 +43,7 @@ is_between w f declared differ =
     let never : not true ≡ true = sym (ap not same) ∙ differ in
     cc)
 
-pub all_between : (w : Written) → PassesUses w → list_all (λ f. is_some (flow_of_names (network_hosts w) f)) w.flows ≡ true
+pub all_between : (w : RawDescription) → PassesUses w → list_all (λ f. is_some (flow_of_names (network_hosts w) f)) w.flows ≡ true
 all_between w sound =
-    all_both (λ (f : WrittenFlow). is_declared w f.from && is_declared w f.to) (λ (f : WrittenFlow). not (bytes_eq f.from f.to)) (λ f. is_some (flow_of_names (network_hosts w) f)) (is_between w) w.flows
+    all_both (λ (f : RawFlow). is_declared w f.from && is_declared w f.to) (λ (f : RawFlow). not (bytes_eq f.from f.to)) (λ f. is_some (flow_of_names (network_hosts w) f)) (is_between w) w.flows
     sound.joined sound.apart

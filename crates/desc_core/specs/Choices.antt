@@ -8,7 +8,7 @@ use Rattle.attr_core.specs.OwnTables.{Declared, kind_numbered, table_form}
 use Rattle.attr_core.specs.Forms.{Form, bad_assign, invariant_by}
 use Rattle.attr_core.specs.Templates.{form, template_named}
 use Rattle.attr_core.specs.declared.template.Template.{Template}
-use Rattle.desc_form.specs.WrittenTemplate.{WrittenTemplate}
+use Rattle.desc_form.specs.RawTemplate.{RawTemplate}
 use Rattle.host_net.specs.Host.{Host}
 use Rattle.inv_any.specs.declared.any_inv.AnyInv.{AnyInv}
 use Rattle.inv_law.specs.declared.strategy.Strategy.{Strategy}
@@ -17,34 +17,34 @@ use Rattle.tmpl_table.specs.KindTable.{KindTable}
 
 pub data Choice : Type 0 where
   OneOfTen : (template : Template) → Choice
-  OwnTable : (template : WrittenTemplate) → Choice
+  OwnTable : (template : RawTemplate) → Choice
 
 -- The template of a name: one of the ten, otherwise the first one that is declared under it.
-abbrev pub chosen : List WrittenTemplate → List ℕ → Option Choice
+abbrev pub chosen : List RawTemplate → List ℕ → Option Choice
 chosen templates name =
     option_or (option_map OneOfTen (template_named name)) (option_map OwnTable (find (λ t. bytes_eq name t.name) templates))
 
 -- The strategy of a word: `access`, otherwise information.
-abbrev pub strategy_said : List ℕ → Strategy
-strategy_said word = if bytes_eq word (codes "access") then Access else Information
+abbrev pub declared_strategy : List ℕ → Strategy
+declared_strategy word = if bytes_eq word (codes "access") then Access else Information
 
 -- The number of a kind. A word that is no kind of the template is refused, so its number is irrelevant.
-abbrev pub number_of_kind : WrittenTemplate → List ℕ → ℕ
+abbrev pub number_of_kind : RawTemplate → List ℕ → ℕ
 number_of_kind t word = unwrap_or (kind_numbered t.kinds word) 0
 
 -- The table of a declared template, with its kinds as numbers.
-abbrev pub table_said : WrittenTemplate → KindTable
-table_said t = record {
+abbrev pub declared_table : RawTemplate → KindTable
+declared_table t = record {
   name = t.name;
-  strategy = strategy_said t.strategy;
+  strategy = declared_strategy t.strategy;
   kinds = length t.kinds;
   default = number_of_kind t t.default;
   denied = map (λ p. (number_of_kind t p.sender, number_of_kind t p.receiver)) t.deny;
 }
 
 -- The declared template: the words of its kinds, and its table.
-abbrev pub declared_by : WrittenTemplate → Declared
-declared_by t = record { words = t.kinds; table = table_said t }
+abbrev pub declared_by : RawTemplate → Declared
+declared_by t = record { words = t.kinds; table = declared_table t }
 
 -- The attribute format of the template.
 abbrev pub choice_form : Choice → Form

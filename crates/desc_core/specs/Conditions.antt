@@ -4,7 +4,7 @@ use Rattle.std.specs.Prelude.{ℕ, List, ◌++◌, Option}
 use Rattle.toml.specs.Data.{Members}
 use Rattle.desc_core.specs.UseConditions.{use_conditions}
 use Rattle.desc_form.specs.FormConditions.{form_conditions}
-use Rattle.desc_form.specs.Written.{written}
+use Rattle.desc_form.specs.RawDescription.{written}
 use Rattle.desc_form.specs.declared.refusal.Refusal.{Refusal}
 use Rattle.desc_form.specs.HostConditions.{host_conditions}
 

@@ -6,5 +6,5 @@ pub mod Flows
 pub mod Migrated
 pub mod TemplateConditions
 pub mod UseConditions
-pub mod WrittenNetwork
+pub mod RawNetwork
 pub mod inner

@@ -3,24 +3,21 @@ ghost use Rattle.std.specs.Prelude.{◌≡◌, option_map, map, find};
 ghost use Rattle.std.specs.Str.{bytes_eq};
 ghost use Rattle.desc_core.specs.Choices.{OwnTable, chosen};
 ghost use Rattle.desc_core.specs.inner.ChoiceView.{choice_view};
-ghost use Rattle.desc_form.specs.inner.WrittenView.{template_view};
+ghost use Rattle.desc_form.specs.inner.RawView.{template_view};
 
 use attr_core::Template;
-use desc_form::WrittenTemplate;
+use desc_form::RawTemplate;
 
 /// One of the ten templates, or a declared one.
 #[derive(Clone, Copy)]
 pub(crate) enum Choice<'w, 'a> {
     OneOfTen(Template),
-    OwnTable(&'w WrittenTemplate<'a>),
+    OwnTable(&'w RawTemplate<'a>),
 }
 
 /// Returns the template of a name: one of the ten, otherwise the first one that is declared under
 /// it.
-pub(crate) fn chosen<'w, 'a>(
-    templates: &'w [WrittenTemplate<'a>],
-    name: &str,
-) -> Option<Choice<'w, 'a>>
+pub(crate) fn chosen<'w, 'a>(templates: &'w [RawTemplate<'a>], name: &str) -> Option<Choice<'w, 'a>>
     ensures { option_map choice_view result ≡ chosen (map template_view templates.now) name.now }
 {
     match Template::named(name) {
@@ -30,7 +27,7 @@ pub(crate) fn chosen<'w, 'a>(
 }
 
 /// Returns the first template that is declared under the name.
-fn declared<'w, 'a>(templates: &'w [WrittenTemplate<'a>], name: &str) -> Option<Choice<'w, 'a>>
+fn declared<'w, 'a>(templates: &'w [RawTemplate<'a>], name: &str) -> Option<Choice<'w, 'a>>
     ensures { option_map choice_view result
         ≡ option_map OwnTable (find (λ t. bytes_eq name.now t.name) (map template_view templates.now)) }
 {

@@ -15,7 +15,7 @@ ghost use Rattle.toml.specs.View.{table_view};
 use crate::document::read_table;
 use crate::fault::DescFault;
 use crate::network::read_network;
-use desc_form::{form_refusal, read_written};
+use desc_form::{form_refusal, read_raw};
 use net_core::Description;
 use std::alloc::Global;
 use toml::Table;
@@ -65,6 +65,6 @@ fn read_described(alloc: Global, table: &Table) -> Result<Description, DescFault
     if let Some(refusal) = form_refusal(table) {
         return Err(DescFault::Refused(refusal));
     }
-    let written = read_written(alloc, table)?;
+    let written = read_raw(alloc, table)?;
     read_network(alloc, &written)
 }

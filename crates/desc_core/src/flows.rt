@@ -1,6 +1,6 @@
 //! The flows of a description with resolved hosts: their refusals, and the set of asked flows.
 ghost use Rattle.std.specs.Prelude.{◌≡◌, ◌≤◌, Some, find, All, IsTrue, if◌then◌else◌};
-ghost use Rattle.desc_core.specs.Description.{refused_or};
+ghost use Rattle.desc_core.specs.Description.{ok_unless_refused};
 ghost use Rattle.desc_core.specs.inner.Parts.{self_found, twice_found};
 ghost use Rattle.desc_core.specs.inner.Reads.{Reads};
 ghost use Rattle.desc_core.specs.declared.fault.DescFault.TheVariants.{Refused};
@@ -10,7 +10,7 @@ ghost use Rattle.desc_form.specs.declared.refusal.Why.TheVariants.{DuplicateFlow
 ghost use Rattle.flow_set.specs.EveryFlow.{every_flow};
 ghost use Rattle.flow_set.specs.Flow.{IsFlow, same_flow};
 ghost use Rattle.flow_set.specs.FlowSet.{has, set_of};
-ghost use Rattle.text_core.specs.Firsts.{numbered};
+ghost use Rattle.text_core.specs.FirstMatch.{numbered};
 
 use crate::fault::DescFault;
 use desc_form::{Place, Refusal, Why};
@@ -39,7 +39,7 @@ pub(crate) fn asked_flows(
 ) -> Result<FlowSet, DescFault>
     requires small { count ≤ 256 }
     requires flows { All (IsFlow count) flows.now }
-    ensures { Reads result (refused_or (twice_found flows.now)
+    ensures { Reads result (ok_unless_refused (twice_found flows.now)
         (record { size = count; flows = if given then set_of flows.now else every_flow count })) }
 {
     let listed = listed_flows(alloc, count, flows)?;
@@ -55,7 +55,7 @@ pub(crate) fn asked_flows(
 fn listed_flows(alloc: Global, count: u16, flows: &[Flow]) -> Result<FlowSet, DescFault>
     requires small { count ≤ 256 }
     requires flows { All (IsFlow count) flows.now }
-    ensures { Reads result (refused_or (twice_found flows.now) (record { size = count; flows = set_of flows.now })) }
+    ensures { Reads result (ok_unless_refused (twice_found flows.now) (record { size = count; flows = set_of flows.now })) }
 {
     let mut listed = FlowSet::empty(alloc, count)?;
     for (index, flow) in flows.iter().enumerate() {

@@ -7,17 +7,17 @@ ghost use Rattle.attr_core.specs.OwnTables.{table_form};
 ghost use Rattle.attr_core.specs.Forms.{invariant_by};
 ghost use Rattle.desc_core.specs.Choices.{bad_of, declared_by};
 ghost use Rattle.desc_core.specs.inner.Makeable.{CanBeMade, IsMakeable};
-ghost use Rattle.desc_form.specs.inner.WrittenView.{template_view};
+ghost use Rattle.desc_form.specs.inner.RawView.{template_view};
 ghost use Rattle.desc_core.specs.inner.KnownView.{known_view};
 ghost use Rattle.desc_core.specs.inner.Parts.{bad_known};
 ghost use Rattle.desc_core.specs.UseConditions.{bad_at};
-ghost use Rattle.desc_core.specs.WrittenNetwork.{made_of};
+ghost use Rattle.desc_core.specs.RawNetwork.{made_of};
 
 use crate::choice::Choice;
 use crate::known::KnownInvariant;
 use crate::own_table::rule_of;
 use attr_core::{Assign, AttrFault, Template, bad_kind, read_invariant, read_kinds};
-use desc_form::{Place, Refusal, Why, WrittenTemplate};
+use desc_form::{Place, RawTemplate, Refusal, Why};
 use host_net::Hosts;
 use inv_any::AnyInv;
 use std::alloc::{AllocError, Global};
@@ -148,7 +148,7 @@ fn read_good(
 fn read_declared(
     alloc: Global,
     hosts: &Hosts,
-    template: &WrittenTemplate<'_>,
+    template: &RawTemplate<'_>,
     assigns: &[Assign<'_>],
 ) -> Result<AnyInv, AllocError>
     requires hosts { All (λ a. a.host < length hosts.now) assigns.now }

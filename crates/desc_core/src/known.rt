@@ -4,13 +4,13 @@ ghost use Rattle.std.specs.Prelude.{◌≡◌, ◌<◌, length, map, option_map,
 ghost use Rattle.attr_core.specs.inner.AssignView.{given_of};
 ghost use Rattle.desc_core.specs.inner.KnownView.{known_view};
 ghost use Rattle.desc_core.specs.inner.Parts.{ends_of};
-ghost use Rattle.desc_core.specs.WrittenNetwork.{given_by, known_of};
-ghost use Rattle.desc_form.specs.inner.WrittenView.{assign_view, flow_view, invariant_view, template_view};
+ghost use Rattle.desc_core.specs.RawNetwork.{given_by, known_of};
+ghost use Rattle.desc_form.specs.inner.RawView.{assign_view, flow_view, invariant_view, template_view};
 ghost use Rattle.table_core.specs.Listing.{each};
 
 use crate::choice::{Choice, chosen};
 use attr_core::Assign;
-use desc_form::{WrittenAssign, WrittenFlow, WrittenInvariant, WrittenTemplate};
+use desc_form::{RawAssign, RawFlow, RawInvariant, RawTemplate};
 use flow_set::Flow;
 use host_net::Hosts;
 use std::alloc::{AllocError, Global};
@@ -26,9 +26,9 @@ pub(crate) struct KnownInvariant<'w, 'a> {
 /// unknown.
 pub(crate) fn known_invariants<'w, 'a>(
     alloc: Global,
-    templates: &'w [WrittenTemplate<'a>],
+    templates: &'w [RawTemplate<'a>],
     hosts: &Hosts,
-    written: &[WrittenInvariant<'a>],
+    written: &[RawInvariant<'a>],
 ) -> Result<Option<Vec<KnownInvariant<'w, 'a>>>, AllocError>
     ensures known { IfOk result (λ known. option_map (λ ks. map known_view ks.items) known
         ≡ each (known_of (map template_view templates.now) hosts.now) (map invariant_view written.now)) }
@@ -44,12 +44,12 @@ pub(crate) fn known_invariants<'w, 'a>(
     Ok(Some(known))
 }
 
-#[tactic(auto, unfolding(crate::specs::WrittenNetwork::known_of))]
+#[tactic(auto, unfolding(crate::specs::RawNetwork::known_of))]
 fn known_invariant<'w, 'a>(
     alloc: Global,
-    templates: &'w [WrittenTemplate<'a>],
+    templates: &'w [RawTemplate<'a>],
     hosts: &Hosts,
-    written: &WrittenInvariant<'a>,
+    written: &RawInvariant<'a>,
 ) -> Result<Option<KnownInvariant<'w, 'a>>, AllocError>
     ensures known { IfOk result (λ known. option_map known_view known
         ≡ known_of (map template_view templates.now) hosts.now (invariant_view written.now)) }
@@ -68,7 +68,7 @@ fn known_invariant<'w, 'a>(
 fn assigns_among<'a>(
     alloc: Global,
     hosts: &Hosts,
-    written: &[WrittenAssign<'a>],
+    written: &[RawAssign<'a>],
 ) -> Result<Option<Vec<Assign<'a>>>, AllocError>
     ensures given { IfOk result (λ among. option_map (λ assigns. map given_of assigns.items) among
         ≡ each (given_by hosts.now) (map assign_view written.now)) }
@@ -92,7 +92,7 @@ fn assigns_among<'a>(
 pub(crate) fn found_flows(
     alloc: Global,
     hosts: &Hosts,
-    written: &[WrittenFlow<'_>],
+    written: &[RawFlow<'_>],
 ) -> Result<Option<Vec<Flow>>, AllocError>
     ensures { IfOk result (λ found. option_map (λ flows. flows.items) found ≡ each (ends_of hosts.now) (map flow_view written.now)) }
 {
@@ -106,7 +106,7 @@ pub(crate) fn found_flows(
     Ok(Some(flows))
 }
 
-fn found_flow(hosts: &Hosts, flow: &WrittenFlow<'_>) -> Option<Flow>
+fn found_flow(hosts: &Hosts, flow: &RawFlow<'_>) -> Option<Flow>
     ensures { result ≡ ends_of hosts.now (flow_view flow.now) }
 {
     let from = hosts.find(flow.from.as_bytes())?;

@@ -7,36 +7,35 @@ ghost use Rattle.desc_core.specs.Choices.{chosen};
 ghost use Rattle.desc_core.specs.declared.fault.DescFault.TheVariants.{Refused};
 ghost use Rattle.desc_core.specs.inner.Parts.{name_conditions};
 ghost use Rattle.desc_core.specs.UseConditions.{duplicate_assign_of, undeclared_host};
-ghost use Rattle.text_core.specs.Firsts.{first_found, first_of, first_pair, numbered};
+ghost use Rattle.text_core.specs.FirstMatch.{first_found, first_of, first_conflict, numbered};
 ghost use Rattle.text_core.specs.inner.FirstsView.{pair_seen};
 ghost use Rattle.desc_form.specs.Refusals.{refused, refused_by};
 ghost use Rattle.desc_form.specs.inner.Refused.{refused_name};
-ghost use Rattle.desc_form.specs.inner.WrittenView.{assign_view, invariant_view, template_view, written_view};
+ghost use Rattle.desc_form.specs.inner.RawView.{assign_view, invariant_view, template_view, raw_view};
 ghost use Rattle.desc_form.specs.declared.refusal.Place.TheVariants.{Assign, Invariant};
 ghost use Rattle.desc_form.specs.declared.refusal.Refusal.{Refusal};
 ghost use Rattle.desc_form.specs.declared.refusal.Why.TheVariants.{DuplicateAssign, UndeclaredHost, UnknownTemplate};
 ghost use Rattle.desc_form.specs.HostConditions.{host_conditions};
-ghost use Rattle.desc_form.specs.inner.MentionView.{mention_view};
-ghost use Rattle.desc_form.specs.WrittenHosts.{network_hosts};
+ghost use Rattle.desc_form.specs.inner.NameUseView.{mention_view};
+ghost use Rattle.desc_form.specs.RawHosts.{network_hosts};
 ghost use Rattle.host_net.specs.Host.{host_named};
 ghost use Rattle.text_core.specs.Name.{is_name};
 
 use crate::choice::chosen;
 use crate::fault::DescFault;
 use desc_form::{
-    Mention, Place, Refusal, Why, Written, WrittenAssign, WrittenInvariant, WrittenTemplate,
-    used_names,
+    NameUse, Place, RawAssign, RawDescription, RawInvariant, RawTemplate, Refusal, Why, used_names,
 };
 use host_net::{Hosts, Name};
 use std::alloc::{AllocError, Global};
-use text_core::{Pair, first_pair};
+use text_core::{Conflict, first_conflict};
 
 /// Returns the refusal of an unknown template or an undeclared host, if there is one.
-pub(crate) fn unknown_name(alloc: Global, hosts: &Hosts, written: &Written<'_>) -> DescFault
-    requires hosts { hosts.now ≡ network_hosts (written_view written.now) }
-    requires unrefused { first_of (host_conditions (written_view written.now)) ≡ None }
-    requires unknown { first_of (name_conditions (written_view written.now)) ≢ None }
-    ensures { (refusal : Refusal) → result ≡ Refused refusal → first_of (name_conditions (written_view written.now)) ≡ Some refusal }
+pub(crate) fn unknown_name(alloc: Global, hosts: &Hosts, written: &RawDescription<'_>) -> DescFault
+    requires hosts { hosts.now ≡ network_hosts (raw_view written.now) }
+    requires no_refusal { first_of (host_conditions (raw_view written.now)) ≡ None }
+    requires unknown { first_of (name_conditions (raw_view written.now)) ≢ None }
+    ensures { (refusal : Refusal) → result ≡ Refused refusal → first_of (name_conditions (raw_view written.now)) ≡ Some refusal }
 {
     match name_refusal(alloc, hosts, written) {
         Ok(Some(refusal)) => DescFault::Refused(refusal),
@@ -49,11 +48,11 @@ pub(crate) fn unknown_name(alloc: Global, hosts: &Hosts, written: &Written<'_>) 
 fn name_refusal(
     alloc: Global,
     hosts: &Hosts,
-    written: &Written<'_>,
+    written: &RawDescription<'_>,
 ) -> Result<Option<Refusal>, AllocError>
-    requires hosts { hosts.now ≡ network_hosts (written_view written.now) }
-    requires unrefused { first_of (host_conditions (written_view written.now)) ≡ None }
-    ensures { IfOk result (λ refusal. refusal ≡ first_of (name_conditions (written_view written.now))) }
+    requires hosts { hosts.now ≡ network_hosts (raw_view written.now) }
+    requires no_refusal { first_of (host_conditions (raw_view written.now)) ≡ None }
+    ensures { IfOk result (λ refusal. refusal ≡ first_of (name_conditions (raw_view written.now))) }
 {
     let template = unknown_template(&written.templates, &written.invariants);
     if template.is_some() {
@@ -64,8 +63,8 @@ fn name_refusal(
 
 /// Returns the refusal of a name that is neither that of a template nor that of a declared one.
 fn unknown_template(
-    templates: &[WrittenTemplate<'_>],
-    invariants: &[WrittenInvariant<'_>],
+    templates: &[RawTemplate<'_>],
+    invariants: &[RawInvariant<'_>],
 ) -> Option<Refusal>
     ensures { result ≡ option_map (λ i. refused UnknownTemplate (Invariant i.number))
         (find (λ i. is_none (chosen (map template_view templates.now) i.what.template)) (numbered (map invariant_view invariants.now))) }
@@ -83,17 +82,17 @@ fn unknown_template(
 fn undeclared_host(
     alloc: Global,
     hosts: &Hosts,
-    written: &Written<'_>,
+    written: &RawDescription<'_>,
 ) -> Result<Option<Refusal>, AllocError>
-    requires hosts { hosts.now ≡ network_hosts (written_view written.now) }
-    requires unrefused { first_of (host_conditions (written_view written.now)) ≡ None }
-    ensures { IfOk result (λ refusal. refusal ≡ undeclared_host (written_view written.now)) }
+    requires hosts { hosts.now ≡ network_hosts (raw_view written.now) }
+    requires no_refusal { first_of (host_conditions (raw_view written.now)) ≡ None }
+    ensures { IfOk result (λ refusal. refusal ≡ undeclared_host (raw_view written.now)) }
 {
     let names = used_names(alloc, written)?;
     Ok(first_undeclared(hosts, &names))
 }
 
-fn first_undeclared(hosts: &Hosts, names: &[Mention<'_>]) -> Option<Refusal>
+fn first_undeclared(hosts: &Hosts, names: &[NameUse<'_>]) -> Option<Refusal>
     requires { IsTrue (list_all (λ m. is_name m.name) (map mention_view names.now)) }
     ensures { result ≡ option_map (λ m. refused_name UndeclaredHost m.place m.item m.name)
         (find (λ m. is_none (host_named hosts.now m.name)) (map mention_view names.now)) }
@@ -107,7 +106,7 @@ fn first_undeclared(hosts: &Hosts, names: &[Mention<'_>]) -> Option<Refusal>
 }
 
 /// Returns the refusal of a name that no host has.
-fn no_host(mention: &Mention<'_>) -> Refusal
+fn no_host(mention: &NameUse<'_>) -> Refusal
     requires { IsTrue (is_name mention.now.name.now) }
     ensures { result ≡ refused_name UndeclaredHost mention.now.place mention.now.item mention.now.name.now }
 {
@@ -117,7 +116,7 @@ fn no_host(mention: &Mention<'_>) -> Refusal
 }
 
 /// Returns the refusal of an assign with the host of an earlier one of the same invariant.
-pub(crate) fn duplicate_assign(invariants: &[WrittenInvariant<'_>]) -> Option<Refusal>
+pub(crate) fn duplicate_assign(invariants: &[RawInvariant<'_>]) -> Option<Refusal>
     ensures { result ≡ first_found duplicate_assign_of (numbered (map invariant_view invariants.now)) }
 {
     for (index, invariant) in invariants.iter().enumerate() {
@@ -130,16 +129,19 @@ pub(crate) fn duplicate_assign(invariants: &[WrittenInvariant<'_>]) -> Option<Re
 }
 
 /// The same among the assigns of the invariant with a number.
-fn duplicate_in(invariant: u64, assigns: &[WrittenAssign<'_>]) -> Option<Refusal>
+fn duplicate_in(invariant: u64, assigns: &[RawAssign<'_>]) -> Option<Refusal>
     ensures { result ≡ option_map (λ p. refused_by DuplicateAssign (Assign invariant p.later.number) p.earlier.number)
-        (first_pair (λ a b. bytes_eq a.what.host b.what.host) (numbered (map assign_view assigns.now))) }
+        (first_conflict (λ a b. bytes_eq a.what.host b.what.host) (numbered (map assign_view assigns.now))) }
 {
-    let pair = first_pair(assigns, |later, earlier| later.host == earlier.host);
-    barred_assign(invariant, pair)
+    let pair = first_conflict(assigns, |later, earlier| later.host == earlier.host);
+    duplicate_assign_refusal(invariant, pair)
 }
 
 /// Returns the refusal of an assign that duplicates an earlier one.
-fn barred_assign(invariant: u64, pair: Option<Pair<'_, WrittenAssign<'_>>>) -> Option<Refusal>
+fn duplicate_assign_refusal(
+    invariant: u64,
+    pair: Option<Conflict<'_, RawAssign<'_>>>,
+) -> Option<Refusal>
     ensures { result ≡ option_map (λ p. refused_by DuplicateAssign (Assign invariant p.later.number) p.earlier.number)
         (option_map pair_seen pair.entry) }
 {

@@ -5,12 +5,12 @@ ghost use Rattle.desc_core.specs.inner.KnownView.{known_view};
 ghost use Rattle.desc_core.specs.inner.Parts.{bad_known, ends_of, network_by_uses, network_or, self_found};
 ghost use Rattle.desc_core.specs.inner.Reads.{Reads};
 ghost use Rattle.desc_core.specs.UseConditions.{duplicate_assign};
-ghost use Rattle.desc_core.specs.WrittenNetwork.{known_of};
+ghost use Rattle.desc_core.specs.RawNetwork.{known_of};
 ghost use Rattle.table_core.specs.Listing.{each};
-ghost use Rattle.text_core.specs.Firsts.{first_of};
-ghost use Rattle.desc_form.specs.inner.WrittenView.{written_view};
+ghost use Rattle.text_core.specs.FirstMatch.{first_of};
+ghost use Rattle.desc_form.specs.inner.RawView.{raw_view};
 ghost use Rattle.desc_form.specs.HostConditions.{host_conditions};
-ghost use Rattle.desc_form.specs.WrittenHosts.{network_hosts};
+ghost use Rattle.desc_form.specs.RawHosts.{network_hosts};
 
 use crate::fault::DescFault;
 use crate::flows::{asked_flows, self_flow};
@@ -19,15 +19,18 @@ use crate::known::{KnownInvariant, found_flows, known_invariants};
 use crate::names::{duplicate_assign, unknown_name};
 use crate::services::{read_services, service_refusal};
 use crate::templates::template_refusal;
-use desc_form::{Refusal, Written, host_refusal, read_hosts};
+use desc_form::{RawDescription, Refusal, host_refusal, read_hosts};
 use flow_set::Flow;
 use host_net::Hosts;
 use net_core::Description;
 use std::alloc::{AllocError, Global};
 
 /// Returns the network of the raw description, or its first refusal.
-pub(crate) fn read_network(alloc: Global, written: &Written<'_>) -> Result<Description, DescFault>
-    ensures { Reads result (network_or (written_view written.now)) }
+pub(crate) fn read_network(
+    alloc: Global,
+    written: &RawDescription<'_>,
+) -> Result<Description, DescFault>
+    ensures { Reads result (network_or (raw_view written.now)) }
 {
     if let Some(refusal) = host_refusal(alloc, written)? {
         return Err(DescFault::Refused(refusal));
@@ -40,11 +43,11 @@ pub(crate) fn read_network(alloc: Global, written: &Written<'_>) -> Result<Descr
 fn network_of_hosts(
     alloc: Global,
     hosts: Hosts,
-    written: &Written<'_>,
+    written: &RawDescription<'_>,
 ) -> Result<Description, DescFault>
-    requires hosts { hosts ≡ network_hosts (written_view written.now) }
-    requires unrefused { first_of (host_conditions (written_view written.now)) ≡ None }
-    ensures { Reads result (network_by_uses (written_view written.now)) }
+    requires hosts { hosts ≡ network_hosts (raw_view written.now) }
+    requires no_refusal { first_of (host_conditions (raw_view written.now)) ≡ None }
+    ensures { Reads result (network_by_uses (raw_view written.now)) }
 {
     let known = known_invariants(alloc, &written.templates, &hosts, &written.invariants)?;
     let Some(invariants) = known else {
@@ -60,17 +63,17 @@ fn network_of_hosts(
 fn network_of_known(
     alloc: Global,
     hosts: Hosts,
-    written: &Written<'_>,
+    written: &RawDescription<'_>,
     invariants: &[KnownInvariant<'_, '_>],
     flows: &[Flow],
 ) -> Result<Description, DescFault>
-    requires hosts { hosts ≡ network_hosts (written_view written.now) }
-    requires unrefused { first_of (host_conditions (written_view written.now)) ≡ None }
-    requires known { each (known_of (written_view written.now).templates hosts) (written_view written.now).invariants
+    requires hosts { hosts ≡ network_hosts (raw_view written.now) }
+    requires no_refusal { first_of (host_conditions (raw_view written.now)) ≡ None }
+    requires known { each (known_of (raw_view written.now).templates hosts) (raw_view written.now).invariants
         ≡ Some (map known_view invariants.now) }
     requires within { All (λ k. All (λ a. a.host < length hosts) k.assigns.items) invariants.now }
-    requires found { each (ends_of hosts) (written_view written.now).flows ≡ Some flows.now }
-    ensures { Reads result (network_by_uses (written_view written.now)) }
+    requires found { each (ends_of hosts) (raw_view written.now).flows ≡ Some flows.now }
+    ensures { Reads result (network_by_uses (raw_view written.now)) }
 {
     if let Some(refusal) = use_refusal(alloc, &hosts, written, invariants, flows)? {
         return Err(DescFault::Refused(refusal));
@@ -99,12 +102,12 @@ fn network_of_known(
 fn use_refusal(
     alloc: Global,
     hosts: &Hosts,
-    written: &Written<'_>,
+    written: &RawDescription<'_>,
     invariants: &[KnownInvariant<'_, '_>],
     flows: &[Flow],
 ) -> Result<Option<Refusal>, AllocError>
     requires { All (λ k. All (λ a. a.host < length hosts.now) k.assigns.items) invariants.now }
-    ensures { IfOk result (λ refusal. refusal ≡ option_or (duplicate_assign (written_view written.now))
+    ensures { IfOk result (λ refusal. refusal ≡ option_or (duplicate_assign (raw_view written.now))
         (option_or (bad_known hosts.now (map known_view invariants.now)) (self_found flows.now))) }
 {
     let assign = duplicate_assign(&written.invariants);

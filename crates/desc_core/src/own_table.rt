@@ -1,11 +1,11 @@
 //! The rule of a declared template, with its kinds as numbers.
 ghost use Rattle.std.specs.Prelude.{◌≡◌, ◌≤◌, ◌<◌, IfOk, length, replicate};
-ghost use Rattle.desc_core.specs.Choices.{number_of_kind, strategy_said, table_said};
+ghost use Rattle.desc_core.specs.Choices.{number_of_kind, declared_strategy, declared_table};
 ghost use Rattle.desc_core.specs.inner.Makeable.{IsMakeable};
-ghost use Rattle.desc_form.specs.inner.WrittenView.{pair_view, template_view};
+ghost use Rattle.desc_form.specs.inner.RawView.{pair_view, template_view};
 
 use attr_core::kind_numbered;
-use desc_form::{WrittenPair, WrittenTemplate};
+use desc_form::{RawPair, RawTemplate};
 use host_net::Name;
 use inv_law::Strategy;
 use std::alloc::{AllocError, Global};
@@ -15,17 +15,17 @@ use tmpl_table::{TableFault, TableRule};
 pub(crate) fn rule_of(
     alloc: Global,
     n: u16,
-    template: &WrittenTemplate<'_>,
+    template: &RawTemplate<'_>,
 ) -> Result<TableRule, AllocError>
     requires { IsMakeable (template_view template.now) }
     ensures { IfOk result (λ rule. rule ≡ record {
-      table = table_said (template_view template.now);
-      hosts = replicate n (table_said (template_view template.now)).default;
+      table = declared_table (template_view template.now);
+      hosts = replicate n (declared_table (template_view template.now)).default;
     }) }
 {
     let denied = denied_pairs(alloc, template)?;
     let name = Name::of(template.name.as_bytes());
-    let strategy = strategy_said(template.strategy);
+    let strategy = declared_strategy(template.strategy);
     let kinds = template.kinds.len() as u8;
     let default = number_of_kind(template, template.default);
     match TableRule::new(alloc, n, name, strategy, kinds, default, &denied) {
@@ -35,8 +35,8 @@ pub(crate) fn rule_of(
     }
 }
 
-fn strategy_said(word: &str) -> Strategy
-    ensures { result ≡ strategy_said word.now }
+fn declared_strategy(word: &str) -> Strategy
+    ensures { result ≡ declared_strategy word.now }
 {
     if word == "access" {
         Strategy::Access
@@ -46,7 +46,7 @@ fn strategy_said(word: &str) -> Strategy
 }
 
 /// Returns the number of a kind of the template, given by its word.
-fn number_of_kind(template: &WrittenTemplate<'_>, word: &str) -> u8
+fn number_of_kind(template: &RawTemplate<'_>, word: &str) -> u8
     requires some { 1 ≤ length (template_view template.now).kinds }
     requires few { length (template_view template.now).kinds ≤ 64 }
     ensures value { result ≡ number_of_kind (template_view template.now) word.now }
@@ -59,7 +59,7 @@ fn number_of_kind(template: &WrittenTemplate<'_>, word: &str) -> u8
 }
 
 /// Returns the pair of the numbers of two kinds.
-fn pair_of(template: &WrittenTemplate<'_>, pair: &WrittenPair<'_>) -> (u8, u8)
+fn pair_of(template: &RawTemplate<'_>, pair: &RawPair<'_>) -> (u8, u8)
     requires some { 1 ≤ length (template_view template.now).kinds }
     requires few { length (template_view template.now).kinds ≤ 64 }
     ensures sender { result.0 ≡ number_of_kind (template_view template.now) (pair_view pair.now).sender }
@@ -73,10 +73,10 @@ fn pair_of(template: &WrittenTemplate<'_>, pair: &WrittenPair<'_>) -> (u8, u8)
 }
 
 /// Returns the denied pairs of the template.
-fn denied_pairs(alloc: Global, template: &WrittenTemplate<'_>) -> Result<Vec<(u8, u8)>, AllocError>
+fn denied_pairs(alloc: Global, template: &RawTemplate<'_>) -> Result<Vec<(u8, u8)>, AllocError>
     requires some { 1 ≤ length (template_view template.now).kinds }
     requires few { length (template_view template.now).kinds ≤ 64 }
-    ensures { IfOk result (λ pairs. pairs.items ≡ (table_said (template_view template.now)).denied) }
+    ensures { IfOk result (λ pairs. pairs.items ≡ (declared_table (template_view template.now)).denied) }
 {
     let mut pairs = Vec::new(alloc);
     for pair in &template.deny {

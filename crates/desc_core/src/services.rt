@@ -5,16 +5,16 @@ ghost use Rattle.desc_core.specs.inner.Parts.{many_found, narrowed_among, servic
 ghost use Rattle.desc_core.specs.UseConditions.{bad_service_of};
 ghost use Rattle.desc_core.specs.inner.Flows.{has_many_services};
 ghost use Rattle.desc_form.specs.Refusals.{refused_item};
-ghost use Rattle.desc_form.specs.inner.WrittenView.{flow_view};
+ghost use Rattle.desc_form.specs.inner.RawView.{flow_view};
 ghost use Rattle.desc_form.specs.declared.refusal.Place.TheVariants.{FlowAt};
 ghost use Rattle.desc_form.specs.declared.refusal.Why.TheVariants.{BadService};
 ghost use Rattle.flow_set.specs.Flow.{same_flow};
 ghost use Rattle.host_net.specs.Services.{service_limit, services_of};
 ghost use Rattle.host_net.specs.ServiceText.{service_of};
-ghost use Rattle.text_core.specs.Firsts.{first_found, numbered};
+ghost use Rattle.text_core.specs.FirstMatch.{first_found, numbered};
 ghost use Rattle.text_core.specs.inner.Pairs.{no_pair};
 
-use desc_form::{Place, Refusal, Why, WrittenFlow};
+use desc_form::{Place, RawFlow, Refusal, Why};
 use flow_set::Flow;
 use host_net::{SERVICE_LIMIT, Services, read_service};
 use std::alloc::{AllocError, Global};
@@ -24,7 +24,7 @@ const FIRST_SERVICE: u64 = 3;
 
 /// Returns the refusal of a string that denotes no service, otherwise that of a flow with too many
 /// services.
-pub(crate) fn service_refusal(flows: &[WrittenFlow<'_>]) -> Option<Refusal>
+pub(crate) fn service_refusal(flows: &[RawFlow<'_>]) -> Option<Refusal>
     ensures { result ≡ services_found (map flow_view flows.now) }
 {
     let bad = bad_service(flows);
@@ -35,7 +35,7 @@ pub(crate) fn service_refusal(flows: &[WrittenFlow<'_>]) -> Option<Refusal>
 }
 
 /// Returns the refusal of a string after the names of a flow that denotes no service.
-fn bad_service(flows: &[WrittenFlow<'_>]) -> Option<Refusal>
+fn bad_service(flows: &[RawFlow<'_>]) -> Option<Refusal>
     ensures { result ≡ first_found bad_service_of (numbered (map flow_view flows.now)) }
 {
     for (index, flow) in flows.iter().enumerate() {
@@ -62,7 +62,7 @@ fn bad_service_in(flow: u64, texts: &[&str]) -> Option<Refusal>
 }
 
 /// Returns the refusal of a flow with more services than the limit.
-fn many_services(flows: &[WrittenFlow<'_>]) -> Option<Refusal>
+fn many_services(flows: &[RawFlow<'_>]) -> Option<Refusal>
     ensures { result ≡ many_found (map flow_view flows.now) }
 {
     for (index, flow) in flows.iter().enumerate() {
@@ -79,7 +79,7 @@ fn many_services(flows: &[WrittenFlow<'_>]) -> Option<Refusal>
 pub(crate) fn read_services(
     alloc: Global,
     flows: &[Flow],
-    written: &[WrittenFlow<'_>],
+    written: &[RawFlow<'_>],
 ) -> Result<Services, AllocError>
     requires beside { length flows.now ≡ length written.now }
     requires different { IsTrue (no_pair same_flow flows.now) }

@@ -3,16 +3,16 @@ ghost use Rattle.std.specs.Prelude.{◌≡◌, ◌&&◌, [], map, option_map};
 ghost use Rattle.std.specs.List.{list_all, list_any};
 ghost use Rattle.std.specs.Str.{bytes_eq};
 ghost use Rattle.desc_core.specs.inner.Parts.{templates_found};
-ghost use Rattle.desc_core.specs.TemplateConditions.{are_different, denies, first_bad, has_kinds, has_own_name, has_partner, has_strategy, is_good, unlawful_at, uses_kinds};
+ghost use Rattle.desc_core.specs.TemplateConditions.{are_different, denies, first_bad, has_kinds, has_own_name, has_partner, has_strategy, is_well_formed, unlawful_at, uses_kinds};
 ghost use Rattle.desc_form.specs.Refusals.{refused};
-ghost use Rattle.desc_form.specs.inner.WrittenView.{pair_view, template_view, written_view};
+ghost use Rattle.desc_form.specs.inner.RawView.{pair_view, template_view, raw_view};
 ghost use Rattle.desc_form.specs.declared.refusal.Place.TheVariants as place;
 ghost use Rattle.desc_form.specs.declared.refusal.Why.TheVariants.{BadTemplate, NotLawful};
-ghost use Rattle.text_core.specs.Firsts.{first_found, numbered};
+ghost use Rattle.text_core.specs.FirstMatch.{first_found, numbered};
 ghost use Rattle.text_core.specs.Name.{is_name};
 
 use attr_core::Template;
-use desc_form::{Place, Refusal, Why, Written, WrittenPair, WrittenTemplate};
+use desc_form::{Place, RawDescription, RawPair, RawTemplate, Refusal, Why};
 use table_core::is_one_of;
 use text_core::is_name;
 
@@ -21,8 +21,8 @@ const KIND_LIMIT: usize = 64;
 
 /// Returns the refusal of a template that is invalid, or that denies a pair without its partner.
 #[tactic(auto, unfolding(crate::specs::TemplateConditions::bad_template, crate::specs::TemplateConditions::not_lawful))]
-pub(crate) fn template_refusal(written: &Written<'_>) -> Option<Refusal>
-    ensures { result ≡ templates_found (written_view written.now) }
+pub(crate) fn template_refusal(written: &RawDescription<'_>) -> Option<Refusal>
+    ensures { result ≡ templates_found (raw_view written.now) }
 {
     let bad = bad_template(&written.templates);
     if bad.is_some() {
@@ -32,12 +32,12 @@ pub(crate) fn template_refusal(written: &Written<'_>) -> Option<Refusal>
 }
 
 /// Returns the refusal of a template that is invalid after the templates before it.
-fn bad_template(templates: &[WrittenTemplate<'_>]) -> Option<Refusal>
+fn bad_template(templates: &[RawTemplate<'_>]) -> Option<Refusal>
     ensures { result ≡ option_map (λ k. refused BadTemplate (place.Template k))
         (first_bad [] 1 (map template_view templates.now)) }
 {
     for (index, template) in templates.iter().enumerate() {
-        if !is_good(&templates[..index], template) {
+        if !is_well_formed(&templates[..index], template) {
             let place = Place::Template(index as u64 + 1);
             return Some(Refusal::at(Why::BadTemplate, place));
         }
@@ -46,8 +46,8 @@ fn bad_template(templates: &[WrittenTemplate<'_>]) -> Option<Refusal>
 }
 
 /// Whether the template is valid, after these earlier ones.
-fn is_good(earlier: &[WrittenTemplate<'_>], template: &WrittenTemplate<'_>) -> bool
-    ensures { result ≡ is_good (map template_view earlier.now) (template_view template.now) }
+fn is_well_formed(earlier: &[RawTemplate<'_>], template: &RawTemplate<'_>) -> bool
+    ensures { result ≡ is_well_formed (map template_view earlier.now) (template_view template.now) }
 {
     has_own_name(earlier, template)
         && has_strategy(template)
@@ -57,7 +57,7 @@ fn is_good(earlier: &[WrittenTemplate<'_>], template: &WrittenTemplate<'_>) -> b
 
 /// Whether the name is legal, and differs from the ten templates and from those of earlier
 /// templates.
-fn has_own_name(earlier: &[WrittenTemplate<'_>], template: &WrittenTemplate<'_>) -> bool
+fn has_own_name(earlier: &[RawTemplate<'_>], template: &RawTemplate<'_>) -> bool
     ensures { result ≡ has_own_name (map template_view earlier.now) (template_view template.now) }
 {
     is_name(template.name.as_bytes())
@@ -66,7 +66,7 @@ fn has_own_name(earlier: &[WrittenTemplate<'_>], template: &WrittenTemplate<'_>)
 }
 
 /// Whether one of the templates has the name.
-fn is_declared(templates: &[WrittenTemplate<'_>], name: &str) -> bool
+fn is_declared(templates: &[RawTemplate<'_>], name: &str) -> bool
     ensures { result ≡ list_any (λ t. bytes_eq name.now t.name) (map template_view templates.now) }
 {
     for template in templates {
@@ -77,14 +77,14 @@ fn is_declared(templates: &[WrittenTemplate<'_>], name: &str) -> bool
     false
 }
 
-fn has_strategy(template: &WrittenTemplate<'_>) -> bool
+fn has_strategy(template: &RawTemplate<'_>) -> bool
     ensures { result ≡ has_strategy (template_view template.now) }
 {
     template.strategy == "access" || template.strategy == "information"
 }
 
 /// Whether there are 1 to 64 kinds, with distinct legal names.
-fn has_kinds(template: &WrittenTemplate<'_>) -> bool
+fn has_kinds(template: &RawTemplate<'_>) -> bool
     ensures { result ≡ has_kinds (template_view template.now) }
 {
     !template.kinds.is_empty()
@@ -118,14 +118,14 @@ fn are_different(words: &[&str]) -> bool
 }
 
 /// Whether the default and all words of the denied pairs are kinds of the template.
-fn uses_kinds(template: &WrittenTemplate<'_>) -> bool
+fn uses_kinds(template: &RawTemplate<'_>) -> bool
     ensures { result ≡ uses_kinds (template_view template.now) }
 {
     is_one_of(template.default, &template.kinds) && are_of_kinds(&template.kinds, &template.deny)
 }
 
 /// Whether all words of the pairs are among the kinds.
-fn are_of_kinds(kinds: &[&str], pairs: &[WrittenPair<'_>]) -> bool
+fn are_of_kinds(kinds: &[&str], pairs: &[RawPair<'_>]) -> bool
     ensures { result ≡ list_all (λ p. list_any (bytes_eq p.sender) (map (λ kind. kind.now) kinds.now)
         && list_any (bytes_eq p.receiver) (map (λ kind. kind.now) kinds.now)) (map pair_view pairs.now) }
 {
@@ -139,7 +139,7 @@ fn are_of_kinds(kinds: &[&str], pairs: &[WrittenPair<'_>]) -> bool
 
 /// Returns the refusal of the first denied pair without a partner, of the first template that has
 /// one.
-fn not_lawful(templates: &[WrittenTemplate<'_>]) -> Option<Refusal>
+fn not_lawful(templates: &[RawTemplate<'_>]) -> Option<Refusal>
     ensures { result ≡ first_found unlawful_at (numbered (map template_view templates.now)) }
 {
     for (index, template) in templates.iter().enumerate() {
@@ -152,7 +152,7 @@ fn not_lawful(templates: &[WrittenTemplate<'_>]) -> Option<Refusal>
 }
 
 /// Returns the refusal of the first denied pair without a partner, of the template with a number.
-fn unlawful_at(number: u64, template: &WrittenTemplate<'_>) -> Option<Refusal>
+fn unlawful_at(number: u64, template: &RawTemplate<'_>) -> Option<Refusal>
     ensures { result ≡ unlawful_at (record { number = number; what = template_view template.now }) }
 {
     for (index, pair) in template.deny.iter().enumerate() {
@@ -165,7 +165,7 @@ fn unlawful_at(number: u64, template: &WrittenTemplate<'_>) -> Option<Refusal>
 }
 
 /// Whether the pair is also denied with the default at the offending host.
-fn has_partner(template: &WrittenTemplate<'_>, pair: &WrittenPair<'_>) -> bool
+fn has_partner(template: &RawTemplate<'_>, pair: &RawPair<'_>) -> bool
     ensures { result ≡ has_partner (template_view template.now) (pair_view pair.now) }
 {
     if template.strategy == "access" {
@@ -176,13 +176,13 @@ fn has_partner(template: &WrittenTemplate<'_>, pair: &WrittenPair<'_>) -> bool
 }
 
 /// Whether the template denies the pair.
-fn denies(template: &WrittenTemplate<'_>, sender: &str, receiver: &str) -> bool
+fn denies(template: &RawTemplate<'_>, sender: &str, receiver: &str) -> bool
     ensures { result ≡ denies (template_view template.now) sender.now receiver.now }
 {
     lists(&template.deny, sender, receiver)
 }
 
-fn lists(pairs: &[WrittenPair<'_>], sender: &str, receiver: &str) -> bool
+fn lists(pairs: &[RawPair<'_>], sender: &str, receiver: &str) -> bool
     ensures { result ≡ list_any (λ p. bytes_eq p.sender sender.now && bytes_eq p.receiver receiver.now) (map pair_view pairs.now) }
 {
     for pair in pairs {

@@ -9,14 +9,14 @@ use Rattle.std.proofs.lemmas.List.Elements.{filter_map-append}
 use Rattle.std.proofs.lemmas.List.Folds.{list_all-map}
 use Rattle.std.specs.List.{cons_option, list_all, filter_map, flat_map}
 use Rattle.std.specs.Option.{option_map_or}
-use Rattle.text_core.specs.Firsts.{numbered_from}
+use Rattle.text_core.specs.FirstMatch.{numbered_from}
 use Rattle.text_core.specs.inner.Pairs.{no_pair}
-use Rattle.desc_form.specs.Written.{Written, WrittenHost}
-use Rattle.text_core.proofs.PairLaws.{no_pair-map}
+use Rattle.desc_form.specs.RawDescription.{RawDescription, RawHost}
+use Rattle.text_core.proofs.ConflictLaws.{no_pair-map}
 use Rattle.desc_form.specs.HostConditions.{Entry, all_entries, entries_of, entries_meet}
 use Rattle.desc_form.specs.inner.EntryView.{entries_at, entry_at, has_host_bits, is_prefix}
 use Rattle.desc_form.specs.inner.HostFacts.{texts}
-use Rattle.desc_form.specs.WrittenHosts.{network_host, network_hosts}
+use Rattle.desc_form.specs.RawHosts.{network_host, network_hosts}
 use Rattle.host_net.specs.Host.{Host}
 use Rattle.host_net.specs.Hosts.{all_prefixes}
 use Rattle.host_net.specs.inner.Hosts.{prefix_count}
@@ -30,7 +30,7 @@ said_of_host : (host k : ℕ) (ts : List (List ℕ))
 said_of_host host k [] = refl
 said_of_host host k (t ∷ ts) = ap (λ us. prefix_of t ∷ us) (said_of_host host (k + 1) ts)
 
-said_from : (k : ℕ) (hs : List WrittenHost)
+said_from : (k : ℕ) (hs : List RawHost)
     → map (λ (e : Entry). e.prefix) (flat_map entries_of (numbered_from k hs)) ≡ map prefix_of (texts hs)
 said_from k [] = refl
 said_from k (h ∷ hs) =
@@ -39,38 +39,38 @@ said_from k (h ∷ hs) =
     ∙ sym (map-append prefix_of h.at (texts hs))
 
 -- An entry has the prefix that its text denotes.
-pub said_by_entries : (w : Written) → map (λ (e : Entry). e.prefix) (all_entries w) ≡ map prefix_of (texts w.hosts)
+pub said_by_entries : (w : RawDescription) → map (λ (e : Entry). e.prefix) (all_entries w) ≡ map prefix_of (texts w.hosts)
 unfolding all_entries
 said_by_entries w = said_from 1 w.hosts
 
 -- A test of all entries that depends only on their prefixes.
-pub all_texts : (p : Option Prefix → Bool) (w : Written)
+pub all_texts : (p : Option Prefix → Bool) (w : RawDescription)
     → list_all (λ (e : Entry). p e.prefix) (all_entries w) ≡ list_all (λ t. p (prefix_of t)) (texts w.hosts)
 all_texts p w =
     sym (list_all-map p (λ (e : Entry). e.prefix) (all_entries w))
     ∙ ap (list_all p) (said_by_entries w)
     ∙ list_all-map p prefix_of (texts w.hosts)
 
-pub no_pair_texts : (r : Option Prefix → Option Prefix → Bool) (w : Written)
+pub no_pair_texts : (r : Option Prefix → Option Prefix → Bool) (w : RawDescription)
     → no_pair (λ (e f : Entry). r e.prefix f.prefix) (all_entries w) ≡ no_pair (λ t u. r (prefix_of t) (prefix_of u)) (texts w.hosts)
 no_pair_texts r w =
     sym (no_pair-map r (λ (e : Entry). e.prefix) (all_entries w))
     ∙ ap (no_pair r) (said_by_entries w)
     ∙ no_pair-map r prefix_of (texts w.hosts)
 
-pub length_texts : (w : Written) → length (texts w.hosts) ≡ length (all_entries w)
+pub length_texts : (w : RawDescription) → length (texts w.hosts) ≡ length (all_entries w)
 length_texts w =
     sym (length-map (texts w.hosts) prefix_of)
     ∙ sym (ap length (said_by_entries w))
     ∙ length-map (all_entries w) (λ (e : Entry). e.prefix)
 
 -- The prefixes of all hosts are those of their entries.
-prefixes_from : (hs : List WrittenHost) → all_prefixes (map network_host hs) ≡ filter_map prefix_of (texts hs)
+prefixes_from : (hs : List RawHost) → all_prefixes (map network_host hs) ≡ filter_map prefix_of (texts hs)
 prefixes_from [] = refl
 prefixes_from (h ∷ hs) =
     ap (λ ps. filter_map prefix_of h.at ++ ps) (prefixes_from hs) ∙ sym (filter_map-append prefix_of h.at (texts hs))
 
-pub prefixes_of_texts : (w : Written) → all_prefixes (network_hosts w) ≡ filter_map prefix_of (texts w.hosts)
+pub prefixes_of_texts : (w : RawDescription) → all_prefixes (network_hosts w) ≡ filter_map prefix_of (texts w.hosts)
 unfolding network_hosts
 prefixes_of_texts w = prefixes_from w.hosts
 
@@ -83,7 +83,7 @@ pub no_longer : {A B : Type 0} (f : A → Option B) (xs : List A) → length (fi
 no_longer f [] = omega arith
 no_longer f (x ∷ xs) = shorter_by (f x) (filter_map f xs) (length xs) (no_longer f xs)
 
-pub prefix_count_entries : (w : Written) → prefix_count (network_hosts w) ≤ length (all_entries w)
+pub prefix_count_entries : (w : RawDescription) → prefix_count (network_hosts w) ≤ length (all_entries w)
 prefix_count_entries w =
     let few = no_longer prefix_of (texts w.hosts) in
     let all : length (filter_map prefix_of (texts w.hosts)) ≡ prefix_count (network_hosts w) =

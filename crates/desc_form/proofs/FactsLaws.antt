@@ -7,8 +7,8 @@ use Rattle.std.specs.List.{All, AllPairs, list_all}
 use Rattle.std.specs.Ordering.{int_eq}
 use Rattle.std.specs.Str.{bytes_eq}
 use Rattle.desc_form.specs.Refusals.{refused, refused_item}
-use Rattle.desc_form.specs.Written.{Written, WrittenAssign, WrittenHost, WrittenInvariant}
-use Rattle.desc_form.specs.WrittenFlow.{WrittenFlow}
+use Rattle.desc_form.specs.RawDescription.{RawDescription, RawAssign, RawHost, RawInvariant}
+use Rattle.desc_form.specs.RawFlow.{RawFlow}
 use Rattle.desc_form.specs.declared.refusal.Place.{Place}
 use Rattle.desc_form.specs.declared.refusal.Place.TheVariants as place
 use Rattle.desc_form.specs.declared.refusal.Refusal.{Refusal}
@@ -17,19 +17,19 @@ use Rattle.desc_form.proofs.EntriesLaws.{all_texts, length_texts, no_pair_texts}
 use Rattle.desc_form.specs.HostConditions.{Entry, all_entries, bad_name, bad_prefix, bad_version, beyond, duplicate_host, entries_meet, host_bits, host_conditions, no_address, overlap, template_limit, too_many, two_rests}
 use Rattle.desc_form.specs.inner.EntryView.{has_host_bits, is_prefix, too_many_prefixes}
 use Rattle.desc_form.specs.inner.HostFacts.{AreApart, HasAddress, HasHosts, SaysExact, SaysPrefix, texts}
-use Rattle.desc_form.specs.Mentions.{Mention, all_names}
+use Rattle.desc_form.specs.Mentions.{NameUse, all_names}
 use Rattle.desc_form.proofs.NamesLaws.{all_assigns, all_ends, names_tested}
 use Rattle.desc_form.proofs.NoneLaws.{all_tested, none_where}
 use Rattle.desc_form.proofs.RowLaws.{and_words, as_it_is, differ_words, each_row, each_says, few_words, in_turn, never_words, none_says, not_words, numbered_pairs_row, numbered_row, pairs_row, pairs_say, passed_row, same_test, then_words}
 use Rattle.host_net.specs.Limits.{host_limit, prefix_limit}
-use Rattle.host_net.specs.Host.{lacks_address}
+use Rattle.host_net.specs.Host.{has_no_address}
 use Rattle.host_net.specs.Limits.{invariant_limit}
 use Rattle.host_net.specs.inner.PrefixView.{ShareAddress}
 use Rattle.host_net.specs.Prefix.{is_exact, meets, prefix_of}
 use Rattle.host_net.proofs.PrefixLaws.{meets_ShareAddress}
 use Rattle.host_net.proofs.PrefixTextLaws.{prefix_of-fits}
 use Rattle.host_net.specs.declared.prefix.Prefix.{Prefix}
-use Rattle.text_core.specs.Firsts.{first_of}
+use Rattle.text_core.specs.FirstMatch.{first_of}
 use Rattle.text_core.specs.inner.Pairs.{no_pair}
 use Rattle.text_core.proofs.FirstsLaws.{none_mapped, some_same}
 use Rattle.text_core.specs.Name.{is_name}
@@ -77,7 +77,7 @@ few_entries es =
       λ few. ap (option_map tell) (nothing_at es prefix_limit few),
     )
 
-sizes_are : (w : Written)
+sizes_are : (w : RawDescription)
     → (too_many w.hosts (all_entries w) w.invariants w.templates ≡ None)
     ↔ ((length w.hosts ≤ host_limit) × (length (texts w.hosts) ≤ prefix_limit) × (length w.invariants ≤ invariant_limit) × (length w.templates ≤ template_limit))
 unfolding too_many
@@ -95,43 +95,43 @@ sizes_are w =
     )
 
 -- Condition 8.
-pub all_legal : (names : List Mention) → (bad_name names ≡ None) ↔ (list_all (λ (m : Mention). is_name m.name) names ≡ true)
+pub all_legal : (names : List NameUse) → (bad_name names ≡ None) ↔ (list_all (λ (m : NameUse). is_name m.name) names ≡ true)
 unfolding bad_name
-all_legal names = passed_row (λ (m : Mention). is_name m.name) (λ (m : Mention). refused_item BadName m.place m.item) names
+all_legal names = passed_row (λ (m : NameUse). is_name m.name) (λ (m : NameUse). refused_item BadName m.place m.item) names
 
-assigns_named : (is : List WrittenInvariant)
-    → (all_assigns is_name is ≡ true) ↔ All (λ (i : WrittenInvariant). All (λ (a : WrittenAssign). IsTrue (is_name a.host)) i.assigns) is
+assigns_named : (is : List RawInvariant)
+    → (all_assigns is_name is ≡ true) ↔ All (λ (i : RawInvariant). All (λ (a : RawAssign). IsTrue (is_name a.host)) i.assigns) is
 assigns_named is =
-    each_says (λ (i : WrittenInvariant). list_all (λ (a : WrittenAssign). is_name a.host) i.assigns)
-    (λ (i : WrittenInvariant). All (λ (a : WrittenAssign). IsTrue (is_name a.host)) i.assigns)
-    (λ i. all_tested (λ (a : WrittenAssign). is_name a.host) i.assigns) is
+    each_says (λ (i : RawInvariant). list_all (λ (a : RawAssign). is_name a.host) i.assigns)
+    (λ (i : RawInvariant). All (λ (a : RawAssign). IsTrue (is_name a.host)) i.assigns)
+    (λ i. all_tested (λ (a : RawAssign). is_name a.host) i.assigns) is
 
-ends_named : (fs : List WrittenFlow)
-    → (all_ends is_name fs ≡ true) ↔ All (λ (f : WrittenFlow). IsTrue (is_name f.from) × IsTrue (is_name f.to)) fs
+ends_named : (fs : List RawFlow)
+    → (all_ends is_name fs ≡ true) ↔ All (λ (f : RawFlow). IsTrue (is_name f.from) × IsTrue (is_name f.to)) fs
 ends_named fs =
-    each_says (λ (f : WrittenFlow). is_name f.from && is_name f.to)
-    (λ (f : WrittenFlow). IsTrue (is_name f.from) × IsTrue (is_name f.to))
+    each_says (λ (f : RawFlow). is_name f.from && is_name f.to)
+    (λ (f : RawFlow). IsTrue (is_name f.from) × IsTrue (is_name f.to))
     (λ f. and_words (is_name f.from) (is_name f.to) as_it_is as_it_is) fs
 
-names_are : (w : Written)
+names_are : (w : RawDescription)
     → (bad_name (all_names w) ≡ None)
-    ↔ (All (λ (h : WrittenHost). IsTrue (is_name h.name)) w.hosts
-    × (All (λ (i : WrittenInvariant). All (λ (a : WrittenAssign). IsTrue (is_name a.host)) i.assigns) w.invariants
-    × All (λ (f : WrittenFlow). IsTrue (is_name f.from) × IsTrue (is_name f.to)) w.flows))
+    ↔ (All (λ (h : RawHost). IsTrue (is_name h.name)) w.hosts
+    × (All (λ (i : RawInvariant). All (λ (a : RawAssign). IsTrue (is_name a.host)) i.assigns) w.invariants
+    × All (λ (f : RawFlow). IsTrue (is_name f.from) × IsTrue (is_name f.to)) w.flows))
 names_are w =
     then_words (all_legal (all_names w))
     (then_words (same_test (names_tested is_name w))
-    (and_words {P = All (λ (h : WrittenHost). IsTrue (is_name h.name)) w.hosts} (list_all (λ (h : WrittenHost). is_name h.name) w.hosts) _ (all_tested (λ (h : WrittenHost). is_name h.name) w.hosts)
+    (and_words {P = All (λ (h : RawHost). IsTrue (is_name h.name)) w.hosts} (list_all (λ (h : RawHost). is_name h.name) w.hosts) _ (all_tested (λ (h : RawHost). is_name h.name) w.hosts)
     (and_words (all_assigns is_name w.invariants) (all_ends is_name w.flows) (assigns_named w.invariants) (ends_named w.flows))))
 
 -- Condition 9.
-abbrev pub same_name : WrittenHost → WrittenHost → Bool
+abbrev pub same_name : RawHost → RawHost → Bool
 same_name h g = bytes_eq h.name g.name
 
-pub names_differ : (hs : List WrittenHost) → (no_pair same_name hs ≡ true) ↔ AllPairs (λ (h g : WrittenHost). h.name ≢ g.name) hs
-names_differ hs = pairs_say same_name (λ (h g : WrittenHost). h.name ≢ g.name) (λ h g. differ_words h.name g.name) hs
+pub names_differ : (hs : List RawHost) → (no_pair same_name hs ≡ true) ↔ AllPairs (λ (h g : RawHost). h.name ≢ g.name) hs
+names_differ hs = pairs_say same_name (λ (h g : RawHost). h.name ≢ g.name) (λ h g. differ_words h.name g.name) hs
 
-hosts_differ : (hs : List WrittenHost) → (duplicate_host hs ≡ None) ↔ AllPairs (λ (h g : WrittenHost). h.name ≢ g.name) hs
+hosts_differ : (hs : List RawHost) → (duplicate_host hs ≡ None) ↔ AllPairs (λ (h g : RawHost). h.name ≢ g.name) hs
 unfolding duplicate_host
 hosts_differ hs = then_words (numbered_pairs_row same_name _ hs) (names_differ hs)
 
@@ -152,7 +152,7 @@ says_prefix (Some p) = (
 pub all_say_prefixes : (ts : List (List ℕ)) → (list_all (λ t. is_prefix (prefix_of t)) ts ≡ true) ↔ All SaysPrefix ts
 all_say_prefixes ts = each_says (λ t. is_prefix (prefix_of t)) SaysPrefix (λ t. says_prefix (prefix_of t)) ts
 
-all_prefixes : (w : Written) → (bad_prefix (all_entries w) ≡ None) ↔ All SaysPrefix (texts w.hosts)
+all_prefixes : (w : RawDescription) → (bad_prefix (all_entries w) ≡ None) ↔ All SaysPrefix (texts w.hosts)
 unfolding bad_prefix
 all_prefixes w =
     then_words (passed_row (λ (e : Entry). is_prefix e.prefix) (λ (e : Entry). refused_item BadPrefix (place.Host e.host) e.item) (all_entries w))
@@ -170,27 +170,27 @@ says_exact (Some p) =
 pub all_say_exact : (ts : List (List ℕ)) → (list_all (λ t. not (has_host_bits (prefix_of t))) ts ≡ true) ↔ All SaysExact ts
 all_say_exact ts = none_says (λ t. has_host_bits (prefix_of t)) SaysExact (λ t. says_exact (prefix_of t)) ts
 
-all_exact : (w : Written) → (host_bits (all_entries w) ≡ None) ↔ All SaysExact (texts w.hosts)
+all_exact : (w : RawDescription) → (host_bits (all_entries w) ≡ None) ↔ All SaysExact (texts w.hosts)
 unfolding host_bits
 all_exact w =
     then_words (each_row (λ (e : Entry). has_host_bits e.prefix) (λ (e : Entry). refused_item HostBits (place.Host e.host) e.item) (all_entries w))
     (then_words (same_test (all_texts (λ o. not (has_host_bits o)) w)) (all_say_exact (texts w.hosts)))
 
 -- Condition 12.
-addressed : (ts : List (List ℕ)) (rest : Bool) → (lacks_address ts rest ≡ false) ↔ ((rest ≡ true) ↔ (ts ≡ []))
+addressed : (ts : List (List ℕ)) (rest : Bool) → (has_no_address ts rest ≡ false) ↔ ((rest ≡ true) ↔ (ts ≡ []))
 addressed [] true = (λ h. (λ marked. refl, λ none. refl), λ iff. refl)
 addressed [] false = (λ h. cc, λ iff. absurd (false≢true (iff.1 refl)))
 addressed (t ∷ ts) true = (λ h. cc, λ iff. let none = iff.0 refl in cc)
 addressed (t ∷ ts) false = (λ h. (λ marked. cc, λ none. cc), λ iff. refl)
 
-pub have_addresses : (hs : List WrittenHost)
-    → (list_all (λ (h : WrittenHost). not (lacks_address h.at h.rest)) hs ≡ true) ↔ All HasAddress hs
-have_addresses hs = none_says (λ (h : WrittenHost). lacks_address h.at h.rest) HasAddress (λ h. addressed h.at h.rest) hs
+pub have_addresses : (hs : List RawHost)
+    → (list_all (λ (h : RawHost). not (has_no_address h.at h.rest)) hs ≡ true) ↔ All HasAddress hs
+have_addresses hs = none_says (λ (h : RawHost). has_no_address h.at h.rest) HasAddress (λ h. addressed h.at h.rest) hs
 
-all_addressed : (hs : List WrittenHost) → (no_address hs ≡ None) ↔ All HasAddress hs
+all_addressed : (hs : List RawHost) → (no_address hs ≡ None) ↔ All HasAddress hs
 unfolding no_address
 all_addressed hs =
-    then_words (numbered_row (λ (h : WrittenHost). lacks_address h.at h.rest) (λ h. refused NoAddress (place.Host h.number)) hs)
+    then_words (numbered_row (λ (h : RawHost). has_no_address h.at h.rest) (λ h. refused NoAddress (place.Host h.number)) hs)
     (have_addresses hs)
 
 -- Condition 13.
@@ -200,16 +200,16 @@ not_both true false = (λ h first second. false≢true second, λ never. refl)
 not_both false true = (λ h first second. false≢true first, λ never. refl)
 not_both false false = (λ h first second. false≢true first, λ never. refl)
 
-abbrev pub both_rest : WrittenHost → WrittenHost → Bool
+abbrev pub both_rest : RawHost → RawHost → Bool
 both_rest h g = h.rest && g.rest
 
-abbrev pub AreNotBothRest : WrittenHost → WrittenHost → Type 0
+abbrev pub AreNotBothRest : RawHost → RawHost → Type 0
 AreNotBothRest h g = h.rest ≡ true → g.rest ≡ true → ⊥
 
-pub rests_apart : (hs : List WrittenHost) → (no_pair both_rest hs ≡ true) ↔ AllPairs AreNotBothRest hs
+pub rests_apart : (hs : List RawHost) → (no_pair both_rest hs ≡ true) ↔ AllPairs AreNotBothRest hs
 rests_apart hs = pairs_say both_rest AreNotBothRest (λ h g. not_both h.rest g.rest) hs
 
-one_rest : (hs : List WrittenHost) → (two_rests hs ≡ None) ↔ AllPairs AreNotBothRest hs
+one_rest : (hs : List RawHost) → (two_rests hs ≡ None) ↔ AllPairs AreNotBothRest hs
 unfolding two_rests
 one_rest hs = then_words (numbered_pairs_row both_rest _ hs) (rests_apart hs)
 
@@ -240,14 +240,14 @@ texts_meet t u = entries_meet (prefix_of t) (prefix_of u)
 pub texts_apart : (ts : List (List ℕ)) → (no_pair texts_meet ts ≡ true) ↔ AllPairs AreApart ts
 texts_apart ts = pairs_say texts_meet AreApart (λ s t. said_apart s t (prefix_of s) (prefix_of t) refl refl) ts
 
-all_apart : (w : Written) → (overlap (all_entries w) ≡ None) ↔ AllPairs AreApart (texts w.hosts)
+all_apart : (w : RawDescription) → (overlap (all_entries w) ≡ None) ↔ AllPairs AreApart (texts w.hosts)
 unfolding overlap
 all_apart w =
     then_words (pairs_row (λ (e f : Entry). entries_meet e.prefix f.prefix) _ (all_entries w))
     (then_words (same_test (no_pair_texts entries_meet w)) (texts_apart (texts w.hosts)))
 
 -- Conditions 6 to 14 do not refuse a description if and only if these facts hold for it.
-pub has_hosts : (w : Written) → (first_of (host_conditions w) ≡ None) ↔ HasHosts w
+pub has_hosts : (w : RawDescription) → (first_of (host_conditions w) ≡ None) ↔ HasHosts w
 unfolding host_conditions
 has_hosts w = (
   λ none.

@@ -10,8 +10,8 @@ use Rattle.std.specs.Prelude.{IsSomeAnd, SomeIff, filter_map}
 use Rattle.std.specs.List.{All, AllZip, list_all}
 use Rattle.toml.specs.Data.{Data, string, array, as_integer, as_str}
 use Rattle.desc_form.specs.Places.{fits_version}
-use Rattle.desc_form.specs.WrittenFlow.{WrittenFlow, flow_of_texts, flow_of_values, flow_written}
-use Rattle.desc_form.specs.inner.WrittenForm.{IsFlow, IsInteger, IsText}
+use Rattle.desc_form.specs.RawFlow.{RawFlow, flow_of_texts, flow_of_values, raw_flow}
+use Rattle.desc_form.specs.inner.RawForm.{IsFlow, IsInteger, IsText}
 use Rattle.table_core.specs.Keys.{is_text}
 use Rattle.table_core.specs.Listing.{each}
 use Rattle.table_core.specs.Tables.{elements, elements_of}
@@ -38,21 +38,21 @@ texts_say [] (t ∷ texts) zipped = absurd zipped
 texts_say (d ∷ ds) [] zipped = absurd zipped
 texts_say (d ∷ ds) (t ∷ texts) (is_text, zipped) = rw (is_text, texts_say ds texts zipped) refl
 
-flow_texts : (texts : List (List ℕ)) (f : WrittenFlow) → flow_of_texts texts ≡ Some f → texts ≡ f.from ∷ f.to ∷ f.services
+flow_texts : (texts : List (List ℕ)) (f : RawFlow) → flow_of_texts texts ≡ Some f → texts ≡ f.from ∷ f.to ∷ f.services
 flow_texts [] f said = cc
 flow_texts (a ∷ []) f said = cc
 flow_texts (a ∷ b ∷ texts) f said = cc
 
 -- The flow that is parsed from a value corresponds to the value.
-pub flow_read : (d : Data) (f : WrittenFlow) → flow_written d ≡ Some f → IsFlow d f
-unfolding flow_written elements_of
+pub flow_read : (d : Data) (f : RawFlow) → raw_flow d ≡ Some f → IsFlow d f
+unfolding raw_flow elements_of
 flow_read (array ds) f read =
     let (texts, texts_are, said) = bind_some (each as_str (elements ds)) flow_of_texts f read in
     (ds, refl, subst (AllZip IsText (elements ds)) (flow_texts texts f said) (texts_read (elements ds) texts texts_are))
 flow_read _ f read = cc
 
-pub flow_says : (d : Data) (f : WrittenFlow) → IsFlow d f → flow_written d ≡ Some f
-unfolding flow_written elements_of
+pub flow_says : (d : Data) (f : RawFlow) → IsFlow d f → raw_flow d ≡ Some f
+unfolding raw_flow elements_of
 flow_says d f (ds, is_array, zipped) = rw (is_array, texts_say (elements ds) (f.from ∷ f.to ∷ f.services) zipped) refl
 
 -- ---- values, without the services
@@ -82,11 +82,11 @@ pub values_no_texts : (a b : Data) (ds : List Data) (from to : List ℕ) → as_
 values_no_texts a b ds from to first second none = rw (first, second, not_all_texts ds none) refl
 
 -- Their number only.
-pub no_services : (ds : List Data) → list_all is_text ds ≡ false → option_map (λ (f : WrittenFlow). length f.services) (flow_of_values ds) ≡ None
+pub no_services : (ds : List Data) → list_all is_text ds ≡ false → option_map (λ (f : RawFlow). length f.services) (flow_of_values ds) ≡ None
 no_services ds none = rw (not_all_texts ds none) refl
 
 left_of : (texts : List (List ℕ)) (n : ℕ) (o : Option ℕ) → length texts ≡ n → SomeIff o (2 ≤ n) (n - 2)
-    → o ≡ option_map (λ (f : WrittenFlow). length f.services) (flow_of_texts texts)
+    → o ≡ option_map (λ (f : RawFlow). length f.services) (flow_of_texts texts)
 left_of [] n None same left = refl
 left_of (a ∷ []) n None same left = refl
 left_of (a ∷ b ∷ texts) n None same left = absurd (left (omega (arith, same)))
@@ -100,7 +100,7 @@ texts_as_long (string s ∷ ds) all = ap suc (texts_as_long ds all)
 texts_as_long (_ ∷ ds) all = cc
 
 pub services_left : (ds : List Data) (n : ℕ) (o : Option ℕ) → list_all is_text ds ≡ true → length ds ≡ n → SomeIff o (2 ≤ n) (n - 2)
-    → o ≡ option_map (λ (f : WrittenFlow). length f.services) (flow_of_values ds)
+    → o ≡ option_map (λ (f : RawFlow). length f.services) (flow_of_values ds)
 services_left ds n o all same left = rw (all_texts ds all) (left_of (filter_map as_str ds) n o (texts_as_long ds all ∙ same) left)
 
 -- ---- versions
@@ -117,36 +117,36 @@ differs n other false is = refl
 differs n other true is = absurd (other ((Decides-int_eq n (pos 2)).0 is))
 
 -- Flows that are valid for a version other than 2 have no services.
-pub whole_where : (n : ℤ) (fs : List WrittenFlow) → list_all (fits_version (Some n)) fs ≡ true → n ≢ pos 2
-    → All (λ (f : WrittenFlow). f.services ≡ []) fs
-whole_where n [] fit other = All-nil (λ (f : WrittenFlow). f.services ≡ [])
+pub whole_where : (n : ℤ) (fs : List RawFlow) → list_all (fits_version (Some n)) fs ≡ true → n ≢ pos 2
+    → All (λ (f : RawFlow). f.services ≡ []) fs
+whole_where n [] fit other = All-nil (λ (f : RawFlow). f.services ≡ [])
 whole_where n (f ∷ fs) fit other =
     let (here, behind) = and_parts (fits_version (Some n) f) (list_all (fits_version (Some n)) fs) fit in
-    All-cons (λ (f : WrittenFlow). f.services ≡ []) f fs
+    All-cons (λ (f : RawFlow). f.services ≡ []) f fs
     (none_or f.services (int_eq n (pos 2)) (differs n other (int_eq n (pos 2)) refl) here) (whole_where n fs behind other)
 
 narrowed : (a b : Bool) → b ≡ true → (a || b) ≡ true
 narrowed true b may = refl
 narrowed false b may = may
 
-fit_two : (n : ℤ) (fs : List WrittenFlow) → int_eq n (pos 2) ≡ true → list_all (fits_version (Some n)) fs ≡ true
+fit_two : (n : ℤ) (fs : List RawFlow) → int_eq n (pos 2) ≡ true → list_all (fits_version (Some n)) fs ≡ true
 fit_two n [] two = refl
 fit_two n (f ∷ fs) two = both_true (narrowed (length f.services == 0) (int_eq n (pos 2)) two) (fit_two n fs two)
 
-fit_whole : (n : ℤ) (fs : List WrittenFlow) → All (λ (f : WrittenFlow). f.services ≡ []) fs → list_all (fits_version (Some n)) fs ≡ true
+fit_whole : (n : ℤ) (fs : List RawFlow) → All (λ (f : RawFlow). f.services ≡ []) fs → list_all (fits_version (Some n)) fs ≡ true
 fit_whole n [] whole = refl
 fit_whole n (f ∷ fs) whole =
-    let here : f.services ≡ [] = All-head (λ (f : WrittenFlow). f.services ≡ []) f fs whole in
-    rw here (fit_whole n fs (All-tail (λ (f : WrittenFlow). f.services ≡ []) f fs whole))
+    let here : f.services ≡ [] = All-head (λ (f : RawFlow). f.services ≡ []) f fs whole in
+    rw here (fit_whole n fs (All-tail (λ (f : RawFlow). f.services ≡ []) f fs whole))
 
-fit_by : (n : ℤ) (fs : List WrittenFlow) (b : Bool) → int_eq n (pos 2) ≡ b → (n ≢ pos 2 → All (λ (f : WrittenFlow). f.services ≡ []) fs)
+fit_by : (n : ℤ) (fs : List RawFlow) (b : Bool) → int_eq n (pos 2) ≡ b → (n ≢ pos 2 → All (λ (f : RawFlow). f.services ≡ []) fs)
     → list_all (fits_version (Some n)) fs ≡ true
 fit_by n fs true two whole = fit_two n fs two
 fit_by n fs false two whole =
     fit_whole n fs (whole (λ same. false≢true (sym two ∙ (Decides-int_eq n (pos 2)).1 same)))
 
 -- Flows are valid for a version if it is 2 or none of them has services.
-pub fit_where : (n : ℤ) (fs : List WrittenFlow) → (n ≢ pos 2 → All (λ (f : WrittenFlow). f.services ≡ []) fs)
+pub fit_where : (n : ℤ) (fs : List RawFlow) → (n ≢ pos 2 → All (λ (f : RawFlow). f.services ≡ []) fs)
     → list_all (fits_version (Some n)) fs ≡ true
 fit_where n fs whole = fit_by n fs (int_eq n (pos 2)) refl whole
 

@@ -10,7 +10,7 @@ use Rattle.std.specs.Option.{option_map_or}
 use Rattle.std.specs.Ordering.{match_ordering}
 use Rattle.std.specs.Str.{bytes_eq}
 use Rattle.toml.specs.Data.{Data, string, integer, boolean, array, Members, no_members, member, as_bool, as_integer, as_str, get_member}
-use Rattle.desc_form.specs.inner.WrittenForm.{IsAnswers, IsArray, IsBoolean, IsInteger, IsText}
+use Rattle.desc_form.specs.inner.RawForm.{IsAnswers, IsArray, IsBoolean, IsInteger, IsText}
 use Rattle.table_core.specs.Keys.{is_one_of, is_text}
 use Rattle.table_core.specs.Tables.{all_keys, elements, elements_of, has_only, keys_in}
 

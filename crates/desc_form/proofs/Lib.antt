@@ -7,10 +7,10 @@ pub mod HostsLaws
 pub mod KeyLaws
 pub mod NamesLaws
 pub mod NoneLaws
-pub mod PairLaws
+pub mod ConflictLaws
 pub mod RowLaws
 pub mod ShallowFormLaws
 pub mod SizesLaws
 pub mod SpotsLaws
-pub mod WrittenLaws
-pub mod WrittenOnceLaws
+pub mod RawDescriptionLaws
+pub mod RawUniqueLaws

@@ -5,10 +5,10 @@ use Rattle.std.proofs.lemmas.List.Elements.{All-from_recursion, recursion_from_A
 use Rattle.std.proofs.lemmas.List.Kept.{AllPairs-cons}
 use Rattle.std.specs.List.{All, AllByRecursion, AllPairs, find, list_all}
 use Rattle.std.specs.Option.{option_or}
-use Rattle.text_core.specs.Firsts.{first_pair, first_pair_behind, where_holds}
+use Rattle.text_core.specs.FirstMatch.{first_conflict, first_conflict_after, some_if}
 use Rattle.text_core.specs.inner.Pairs.{no_pair}
 use Rattle.text_core.proofs.FirstsLaws.{holds_not}
-use Rattle.text_core.proofs.PairLaws.{list_all-push}
+use Rattle.text_core.proofs.ConflictLaws.{list_all-push}
 
 not_true : (b : Bool) → not b ≡ true → b ≡ false
 not_true true h = cc
@@ -78,7 +78,7 @@ each_of_both p q (x ∷ xs) h =
     (and_from (p x) (list_all p xs) first firsts, and_from (q x) (list_all q xs) second seconds)
 
 unbarred_behind : {A : Type 0} (bars : A → A → Bool) (before xs : List A) → no_pair bars xs ≡ true
-    → list_all (λ y. list_all (λ x. not (bars x y)) xs) before ≡ true → first_pair_behind bars before xs ≡ None
+    → list_all (λ y. list_all (λ x. not (bars x y)) xs) before ≡ true → first_conflict_after bars before xs ≡ None
 unbarred_behind bars before [] apart unbarring = refl
 unbarred_behind {A} bars before (x ∷ xs) apart unbarring =
     let rest : A → Bool = λ y. list_all (λ z. not (bars z y)) xs in
@@ -86,11 +86,11 @@ unbarred_behind {A} bars before (x ∷ xs) apart unbarring =
     let (here, later) = each_of_both (λ y. not (bars x y)) rest before unbarring in
     rw (unfound (bars x) before here) (unbarred_behind bars (before ++ x ∷ []) xs behind (list_all-push rest before x later own))
 
-pub unbarred : {A : Type 0} (bars : A → A → Bool) (xs : List A) → no_pair bars xs ≡ true → first_pair bars xs ≡ None
+pub unbarred : {A : Type 0} (bars : A → A → Bool) (xs : List A) → no_pair bars xs ≡ true → first_conflict bars xs ≡ None
 unbarred bars xs apart = unbarred_behind bars [] xs apart refl
 
 -- A condition that is reported if a test holds, and two conditions in order.
-pub none_where : {A : Type 0} (holds : Bool) (x : A) → (where_holds holds x ≡ None) ↔ (holds ≡ false)
+pub none_where : {A : Type 0} (holds : Bool) (x : A) → (some_if holds x ≡ None) ↔ (holds ≡ false)
 none_where holds x = (holds_not holds x, λ not_here. rw not_here refl)
 
 pub none_of_both : {A : Type 0} (o p : Option A) → o ≡ None → p ≡ None → option_or o p ≡ None

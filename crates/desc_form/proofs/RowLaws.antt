@@ -7,7 +7,7 @@ use Rattle.std.proofs.lemmas.Slice.Eq.{bytes_eq-Decides}
 use Rattle.std.specs.List.{All, AllByRecursion, AllPairs, find, list_all}
 use Rattle.std.specs.Str.{bytes_eq}
 use Rattle.desc_form.proofs.NoneLaws.{all_tested, no_pair_tested, none_of_both, none_tested, tested_by, testing, unbarred, unfound}
-use Rattle.text_core.specs.Firsts.{Numbered, Pair, first_found, first_of, first_pair, numbered, numbered_from}
+use Rattle.text_core.specs.FirstMatch.{Numbered, Conflict, first_found, first_of, first_conflict, numbered, numbered_from}
 use Rattle.text_core.proofs.FirstsLaws.{all_numbered, neither, no_pair_numbered, none_barred, none_found, none_mapped}
 use Rattle.text_core.specs.inner.Pairs.{no_pair}
 
@@ -105,15 +105,15 @@ pub passed_row : {A B : Type 0} (p : A → Bool) (tell : A → B) (xs : List A)
 passed_row p tell xs = then_words (each_row (λ x. not (p x)) tell xs) (same_test (all_twice p xs))
 
 -- The first element that conflicts with an earlier one.
-pub pairs_row : {A B : Type 0} (bars : A → A → Bool) (tell : Pair A → B) (xs : List A)
-    → (option_map tell (first_pair bars xs) ≡ None) ↔ (no_pair bars xs ≡ true)
+pub pairs_row : {A B : Type 0} (bars : A → A → Bool) (tell : Conflict A → B) (xs : List A)
+    → (option_map tell (first_conflict bars xs) ≡ None) ↔ (no_pair bars xs ≡ true)
 pairs_row bars tell xs = (
-  λ none. none_barred bars xs (none_mapped tell (first_pair bars xs) none),
+  λ none. none_barred bars xs (none_mapped tell (first_conflict bars xs) none),
   λ apart. ap (option_map tell) (unbarred bars xs apart),
 )
 
-pub numbered_pairs_row : {A B : Type 0} (bars : A → A → Bool) (tell : Pair (Numbered A) → B) (xs : List A)
-    → (option_map tell (first_pair (λ (x y : Numbered A). bars x.what y.what) (numbered xs)) ≡ None) ↔ (no_pair bars xs ≡ true)
+pub numbered_pairs_row : {A B : Type 0} (bars : A → A → Bool) (tell : Conflict (Numbered A) → B) (xs : List A)
+    → (option_map tell (first_conflict (λ (x y : Numbered A). bars x.what y.what) (numbered xs)) ≡ None) ↔ (no_pair bars xs ≡ true)
 numbered_pairs_row {A} bars tell xs =
     then_words (pairs_row (λ (x y : Numbered A). bars x.what y.what) tell (numbered xs)) (same_test (no_pair_numbered bars 1 xs))
 

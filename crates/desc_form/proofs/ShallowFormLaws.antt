@@ -5,9 +5,9 @@ use Rattle.std.proofs.Common.{◌≡◌, ℕ, suc, pos, ◌≤◌, Bool, true, f
 use Rattle.std.specs.List.{AllByRecursion, AllZip}
 use Rattle.std.specs.Prelude.{codes, IsSomeAnd, MatchOption}
 use Rattle.toml.specs.Data.{Data, table, Members, get_member, is_sorted, members_are_sorted}
-use Rattle.desc_form.specs.Written.{Written, WrittenAssign, WrittenHost, WrittenInvariant}
-use Rattle.desc_form.specs.inner.WrittenForm.{IsAnswers, IsArray, IsAssign, IsBoolean, IsFlow, IsHost, IsInteger, IsInvariant, IsPair, IsTable, IsTemplate, IsText, IsWritten, Stands, StandsOr, document_names, template_names}
-use Rattle.desc_form.specs.WrittenTemplate.{WrittenTemplate}
+use Rattle.desc_form.specs.RawDescription.{RawDescription, RawAssign, RawHost, RawInvariant}
+use Rattle.desc_form.specs.inner.RawForm.{IsAnswers, IsArray, IsAssign, IsBoolean, IsFlow, IsHost, IsInteger, IsInvariant, IsPair, IsTable, IsTemplate, IsText, IsRawOf, Stands, StandsOr, document_names, template_names}
+use Rattle.desc_form.specs.RawTemplate.{RawTemplate}
 use Rattle.table_core.specs.Shallow.{IsShallow}
 use Rattle.table_core.proofs.ShallowLaws.{IsShallowAt, array_shallow, table_shallow}
 use Rattle.table_core.specs.Tables.{elements}
@@ -62,7 +62,7 @@ tables_are Is n each d x sorted (ms, is, fits) =
     subst (IsShallow n) (sym is) (each ms x (subst (λ (e : Data). is_sorted e ≡ true) is sorted) fits)
 
 -- Table by table.
-host_is : (ms : Members) (h : WrittenHost) → members_are_sorted ms ≡ true → IsHost ms h → IsShallow 2 (table ms)
+host_is : (ms : Members) (h : RawHost) → members_are_sorted ms ≡ true → IsHost ms h → IsShallow 2 (table ms)
 host_is ms h sorted is =
     table_shallow 1 ms (codes "name" ∷ codes "at" ∷ codes "rest" ∷ []) sorted is.only (
       at_key IsText 0 1 (omega arith) texts_are ms (codes "name") h.name is.name,
@@ -76,7 +76,7 @@ flow_is : AreShallow IsFlow 1
 flow_is d f sorted is = arrays_are IsText 0 texts_are d (f.from ∷ f.to ∷ f.services) sorted is
 
 -- The table of an assign has two levels at most.
-abbrev pub IsShallowAssign : WrittenAssign → Type 0
+abbrev pub IsShallowAssign : RawAssign → Type 0
 IsShallowAssign a = members_are_sorted a.table ≡ true → IsShallow 2 (table a.table)
 
 with_both : {A : Type 0} (Is : Data → A → Type 0) (P : A → Type 0) (ds : List Data) (xs : List A) → AllZip Is ds xs → AllByRecursion P xs
@@ -92,17 +92,17 @@ arrays_with : {A : Type 0} (Is : Data → A → Type 0) (P : A → Type 0) (n : 
 arrays_with Is P n each d xs sorted (ds, is, zipped) all =
     arrays_are (λ d x. Is d x × P x) n each d xs sorted (ds, is, with_both Is P (elements ds) xs zipped all)
 
-assign_is : AreShallow (λ d (a : WrittenAssign). IsTable IsAssign d a × IsShallowAssign a) 2
+assign_is : AreShallow (λ d (a : RawAssign). IsTable IsAssign d a × IsShallowAssign a) 2
 assign_is d a sorted ((ms, is, fits), shallow) =
     let same : a.table ≡ ms = fits.table in
     let up : members_are_sorted ms ≡ true = subst (λ (e : Data). is_sorted e ≡ true) is sorted in
     subst (IsShallow 2) (sym is)
     (subst (λ (t : Members). IsShallow 2 (table t)) same (shallow (subst (λ (t : Members). members_are_sorted t ≡ true) (sym same) up)))
 
-abbrev pub AreShallowAssigns : WrittenInvariant → Type 0
+abbrev pub AreShallowAssigns : RawInvariant → Type 0
 AreShallowAssigns i = AllByRecursion IsShallowAssign i.assigns
 
-assigns_by : (o : Option Data) (xs : List WrittenAssign) → MatchOption o (xs ≡ []) (λ d. IsArray (IsTable IsAssign) d xs)
+assigns_by : (o : Option Data) (xs : List RawAssign) → MatchOption o (xs ≡ []) (λ d. IsArray (IsTable IsAssign) d xs)
     → AllByRecursion IsShallowAssign xs → (d : Data) → o ≡ Some d → is_sorted d ≡ true → IsShallow 3 d
 assigns_by None xs stands all d is sorted = cc
 assigns_by (Some e) xs stands all d is sorted =
@@ -110,7 +110,7 @@ assigns_by (Some e) xs stands all d is sorted =
     arrays_with (IsTable IsAssign) IsShallowAssign 2 assign_is d xs sorted
     (subst (λ (f : Data). IsArray (IsTable IsAssign) f xs) same stands) all
 
-invariant_is : (ms : Members) (i : WrittenInvariant) → members_are_sorted ms ≡ true → IsInvariant ms i → AreShallowAssigns i
+invariant_is : (ms : Members) (i : RawInvariant) → members_are_sorted ms ≡ true → IsInvariant ms i → AreShallowAssigns i
     → IsShallow 4 (table ms)
 invariant_is ms i sorted is all =
     table_shallow 3 ms (codes "template" ∷ codes "assign" ∷ []) sorted is.only (
@@ -118,12 +118,12 @@ invariant_is ms i sorted is all =
       (assigns_by (get_member (codes "assign") ms) i.assigns is.assigns all, tt),
     )
 
-invariants_are : AreShallow (λ d (i : WrittenInvariant). IsTable IsInvariant d i × AreShallowAssigns i) 4
+invariants_are : AreShallow (λ d (i : RawInvariant). IsTable IsInvariant d i × AreShallowAssigns i) 4
 invariants_are d i sorted ((ms, is, fits), all) =
     let up : members_are_sorted ms ≡ true = subst (λ (e : Data). is_sorted e ≡ true) is sorted in
     subst (IsShallow 4) (sym is) (invariant_is ms i up fits all)
 
-invariants_by : (o : Option Data) (xs : List WrittenInvariant) → MatchOption o (xs ≡ []) (λ d. IsArray (IsTable IsInvariant) d xs)
+invariants_by : (o : Option Data) (xs : List RawInvariant) → MatchOption o (xs ≡ []) (λ d. IsArray (IsTable IsInvariant) d xs)
     → AllByRecursion AreShallowAssigns xs → (d : Data) → o ≡ Some d → is_sorted d ≡ true → IsShallow 5 d
 invariants_by None xs stands all d is sorted = cc
 invariants_by (Some e) xs stands all d is sorted =
@@ -134,7 +134,7 @@ invariants_by (Some e) xs stands all d is sorted =
 pair_is : AreShallow IsPair 1
 pair_is d p sorted is = arrays_are IsText 0 texts_are d (p.sender ∷ p.receiver ∷ []) sorted is
 
-template_is : (ms : Members) (t : WrittenTemplate) → members_are_sorted ms ≡ true → IsTemplate ms t → IsShallow 3 (table ms)
+template_is : (ms : Members) (t : RawTemplate) → members_are_sorted ms ≡ true → IsTemplate ms t → IsShallow 3 (table ms)
 template_is ms t sorted is =
     table_shallow 2 ms (codes "name" ∷ codes "strategy" ∷ codes "kinds" ∷ codes "default" ∷ codes "deny" ∷ []) sorted is.only (
       at_key IsText 0 2 (omega arith) texts_are ms (codes "name") t.name is.name,
@@ -151,14 +151,14 @@ template_is ms t sorted is =
     )
 
 -- The key that exists only in version 2.
-template_at : (b : Bool) (ms : Members) (ts : List WrittenTemplate) → StandsOr [] (IsArray (IsTable IsTemplate)) (codes "template") ms ts
+template_at : (b : Bool) (ms : Members) (ts : List RawTemplate) → StandsOr [] (IsArray (IsTable IsTemplate)) (codes "template") ms ts
     → AllByRecursion (IsShallowAt 5 ms) (template_names b)
 template_at true ms ts stands =
     (at_or (IsArray (IsTable IsTemplate)) 4 5 (omega arith) (arrays_are (IsTable IsTemplate) 3 (tables_are IsTemplate 3 template_is)) ms (codes "template") [] ts stands, tt)
 template_at false ms ts stands = tt
 
 -- The document.
-pub written_shallow : (ms : Members) (w : Written) → members_are_sorted ms ≡ true → IsWritten ms w → AllByRecursion AreShallowAssigns w.invariants
+pub written_shallow : (ms : Members) (w : RawDescription) → members_are_sorted ms ≡ true → IsRawOf ms w → AllByRecursion AreShallowAssigns w.invariants
     → IsShallow 6 (table ms)
 written_shallow ms w sorted is all =
     table_shallow 5 ms (document_names w.version) sorted is.only (

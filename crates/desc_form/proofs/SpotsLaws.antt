@@ -3,17 +3,17 @@ use Rattle.std.proofs.Common.{◌≡◌, Bool, true, false, cond, ◌||◌, List
 use Rattle.std.proofs.lemmas.Bool.{or_parts}
 use Rattle.std.specs.Prelude.{find}
 use Rattle.std.specs.List.{AllByRecursion}
-use Rattle.desc_form.specs.Places.{Spot}
+use Rattle.desc_form.specs.Places.{Location}
 
 -- A test of a place fails at all of them.
-abbrev pub Fails : (Spot → Bool) → List Spot → Type 0
+abbrev pub Fails : (Location → Bool) → List Location → Type 0
 Fails p ss = AllByRecursion (λ s. p s ≡ false) ss
 
-pub fails_apart : (p : Spot → Bool) (ss ts : List Spot) → Fails p (ss ++ ts) → Fails p ss × Fails p ts
+pub fails_apart : (p : Location → Bool) (ss ts : List Location) → Fails p (ss ++ ts) → Fails p ss × Fails p ts
 fails_apart p [] ts all = (tt, all)
 fails_apart p (s ∷ ss) ts (here, behind) = let (first, second) = fails_apart p ss ts behind in ((here, first), second)
 
-pub fails_joined : (p : Spot → Bool) (ss ts : List Spot) → Fails p ss → Fails p ts → Fails p (ss ++ ts)
+pub fails_joined : (p : Location → Bool) (ss ts : List Location) → Fails p ss → Fails p ts → Fails p (ss ++ ts)
 fails_joined p [] ts first second = second
 fails_joined p (s ∷ ss) ts (here, behind) second = (here, fails_joined p ss ts behind second)
 
@@ -21,7 +21,7 @@ missed : {A : Type 0} (b : Bool) (x : A) (o : Option A) → cond b (Some x) o �
 missed true x o none = cc
 missed false x o none = (refl, none)
 
-pub fails_where_none : (p q r : Spot → Bool) (ss : List Spot) → find p ss ≡ None → find q ss ≡ None → find r ss ≡ None
+pub fails_where_none : (p q r : Location → Bool) (ss : List Location) → find p ss ≡ None → find q ss ≡ None → find r ss ≡ None
     → Fails (λ s. p s || (q s || r s)) ss
 fails_where_none p q r [] no_p no_q no_r = tt
 fails_where_none p q r (s ∷ ss) no_p no_q no_r =
@@ -30,7 +30,7 @@ fails_where_none p q r (s ∷ ss) no_p no_q no_r =
     let (here_r, behind_r) = missed (r s) s (find r ss) no_r in
     (rw (here_p, here_q, here_r) refl, fails_where_none p q r ss behind_p behind_q behind_r)
 
-pub none_where_fails : (p q r : Spot → Bool) (ss : List Spot) → Fails (λ s. p s || (q s || r s)) ss
+pub none_where_fails : (p q r : Location → Bool) (ss : List Location) → Fails (λ s. p s || (q s || r s)) ss
     → (find p ss ≡ None) × (find q ss ≡ None) × (find r ss ≡ None)
 none_where_fails p q r [] all = (refl, refl, refl)
 none_where_fails p q r (s ∷ ss) (here, behind) =

@@ -9,8 +9,8 @@ use Rattle.table_core.specs.Tables.{integer_at}
 use Rattle.table_core.specs.Keys.{Key, Text, OneOf, Integer, Boolean, Array, Texts, needed, optional}
 
 -- The version number of a document, if it is an integer.
-abbrev pub version_said : Members → Option ℤ
-version_said document = integer_at (codes "topos") document
+abbrev pub declared_version : Members → Option ℤ
+declared_version document = integer_at (codes "topos") document
 
 -- The document is of version 2.
 abbrev pub says_second : Option ℤ → Bool

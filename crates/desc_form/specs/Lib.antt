@@ -4,8 +4,8 @@ pub mod Keys
 pub mod Mentions
 pub mod Places
 pub mod Refusals
-pub mod Written
-pub mod WrittenFlow
-pub mod WrittenHosts
-pub mod WrittenTemplate
+pub mod RawDescription
+pub mod RawFlow
+pub mod RawHosts
+pub mod RawTemplate
 pub mod inner

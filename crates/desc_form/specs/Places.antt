@@ -8,16 +8,16 @@ use Rattle.desc_form.specs.declared.refusal.Place.{Place}
 use Rattle.desc_form.specs.declared.refusal.Place.TheVariants.{Document, Host, Invariant, Assign, FlowAt, Template}
 use Rattle.desc_form.specs.declared.refusal.Refusal.{Refusal}
 use Rattle.desc_form.specs.declared.refusal.Why.{Why}
-use Rattle.text_core.specs.Firsts.{Numbered, numbered}
-use Rattle.desc_form.specs.WrittenFlow.{WrittenFlow, flow_written}
-use Rattle.desc_form.specs.WrittenTemplate.{pair_written}
-use Rattle.desc_form.specs.Keys.{keys_of, says_second, version_said}
+use Rattle.text_core.specs.FirstMatch.{Numbered, numbered}
+use Rattle.desc_form.specs.RawFlow.{RawFlow, raw_flow}
+use Rattle.desc_form.specs.RawTemplate.{raw_pair}
+use Rattle.desc_form.specs.Keys.{keys_of, says_second, declared_version}
 use Rattle.desc_form.specs.Refusals.{refused}
 use Rattle.table_core.specs.Keys.{all_suit, has_only_keys, lacks_key}
 use Rattle.table_core.specs.Tables.{list_at}
 
 -- A place and its value.
-pub record Spot : Type 0 where
+pub record Location : Type 0 where
   pub place : Place
   pub value : Data
 
@@ -30,16 +30,16 @@ unfoldable pub assigns_of : Data → List Data
 assigns_of d = unwrap_or (option_and_then (list_at (codes "assign")) (as_table d)) []
 
 -- The element of a list with a number, at the place with this number.
-abbrev pub spot_in : (ℕ → Place) → Numbered Data → Spot
+abbrev pub spot_in : (ℕ → Place) → Numbered Data → Location
 spot_in place d = record { place = place d.number; value = d.what }
 
 -- An invariant, followed by its assigns.
-abbrev pub invariant_spots : Numbered Data → List Spot
+abbrev pub invariant_spots : Numbered Data → List Location
 invariant_spots d = spot_in Invariant d ∷ map (spot_in (Assign d.number)) (numbered (assigns_of d.what))
 
 -- The document, then the hosts, then each invariant and its assigns, then the flows, then the templates.
-unfoldable pub spots : Members → List Spot
-spots document =
+unfoldable pub locations : Members → List Location
+locations document =
     record { place = Document; value = table document }
     ∷ (map (spot_in Host) (numbered (listed (codes "host") document))
     ++ (flat_map invariant_spots (numbered (listed (codes "invariant") document))
@@ -58,20 +58,20 @@ abbrev pub has_missing_key : Option ℤ → Place → Data → Bool
 has_missing_key said place d = option_map_or (lacks_key (keys_of said place)) (as_table d) false
 
 -- A flow is valid for the version: it has no services, or the document is of version 2.
-abbrev pub fits_version : Option ℤ → WrittenFlow → Bool
+abbrev pub fits_version : Option ℤ → RawFlow → Bool
 fits_version said f = (length f.services == 0) || says_second said
 
 -- All elements of `deny` are pairs.
 abbrev pub denies_pairs : Members → Bool
-denies_pairs ms = list_all (λ d. is_some (pair_written d)) (listed (codes "deny") ms)
+denies_pairs ms = list_all (λ d. is_some (raw_pair d)) (listed (codes "deny") ms)
 
 -- 5: a flow is not an array of two strings, or of two or more in version 2. At any other place: the value is no table, or some value in it
 -- has a wrong type, or, for a template, the array `deny` has an element that is not an array of two strings.
 unfoldable pub has_wrong_type : Option ℤ → Place → Data → Bool
-has_wrong_type said (FlowAt k) d = not (option_map_or (fits_version said) (flow_written d) false)
+has_wrong_type said (FlowAt k) d = not (option_map_or (fits_version said) (raw_flow d) false)
 has_wrong_type said (Template k) d = option_map_or (λ ms. not (all_suit (keys_of said (Template k)) ms) || not (denies_pairs ms)) (as_table d) true
 has_wrong_type said place d = option_map_or (λ ms. not (all_suit (keys_of said place) ms)) (as_table d) true
 
 -- The refusal of the first place whose value satisfies a condition.
 unfoldable pub first_place : Why → (Option ℤ → Place → Data → Bool) → Members → Option Refusal
-first_place why holds document = option_map (λ s. refused why s.place) (find (λ s. holds (version_said document) s.place s.value) (spots document))
+first_place why holds document = option_map (λ s. refused why s.place) (find (λ s. holds (declared_version document) s.place s.value) (locations document))

@@ -1,6 +1,6 @@
 -- Refusals of a description: cause, place, and details (the description's format, docs/FORMATS.md).
 use Rattle.std.specs.Prelude.{ℕ, Bool, List, [], find, Option, option_map, codes}
-use Rattle.text_core.specs.Firsts.{first_pair, numbered}
+use Rattle.text_core.specs.FirstMatch.{first_conflict, numbered}
 use Rattle.desc_form.specs.declared.refusal.Place.{Place}
 use Rattle.desc_form.specs.declared.refusal.Refusal.{Refusal}
 use Rattle.desc_form.specs.declared.refusal.Why.{Why}
@@ -60,4 +60,4 @@ first_at why place test xs = option_map (λ x. refused why (place x.number)) (fi
 -- The first element that conflicts with an earlier one is refused, at the place of its number.
 abbrev pub barred_at : {A : Type 0} → Why → (ℕ → Place) → (A → A → Bool) → List A → Option Refusal
 barred_at why place bars xs =
-    option_map (λ p. refused_by why (place p.later.number) p.earlier.number) (first_pair (λ x y. bars x.what y.what) (numbered xs))
+    option_map (λ p. refused_by why (place p.later.number) p.earlier.number) (first_conflict (λ x y. bars x.what y.what) (numbered xs))

@@ -1,7 +1,7 @@
 pub mod EntryView
 pub mod HostFacts
-pub mod MentionView
+pub mod NameUseView
 pub mod Refused
 pub mod Walking
-pub mod WrittenForm
-pub mod WrittenView
+pub mod RawForm
+pub mod RawView

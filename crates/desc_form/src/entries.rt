@@ -1,14 +1,14 @@
 //! The entries of the prefix lists, by host and item, and the refusals of single entries.
 ghost use Rattle.std.specs.Prelude.{◌≡◌, ◌++◌, flat_map, map, IfOk, OnOk};
 ghost use Rattle.desc_form.specs.declared.refusal.Place.TheVariants.{Host};
-ghost use Rattle.text_core.specs.Firsts.{numbered};
+ghost use Rattle.text_core.specs.FirstMatch.{numbered};
 ghost use Rattle.desc_form.specs.HostConditions.{bad_prefix, entries_of, host_bits};
 ghost use Rattle.desc_form.specs.Refusals.{refused_item};
-ghost use Rattle.desc_form.specs.inner.WrittenView.{host_view};
+ghost use Rattle.desc_form.specs.inner.RawView.{host_view};
 ghost use Rattle.desc_form.specs.inner.EntryView.{entries_at, entry_at, entry_view, has_host_bits, is_prefix, too_many_prefixes};
 
+use crate::raw::RawHost;
 use crate::refusal::{Place, Refusal, Why};
-use crate::written::WrittenHost;
 use host_net::{PREFIX_LIMIT, Prefix, read_prefix};
 use std::alloc::{AllocError, Global};
 
@@ -31,10 +31,7 @@ impl Entry {
 }
 
 /// Returns the entries of all hosts, by host and item.
-pub(crate) fn all_entries(
-    alloc: Global,
-    hosts: &[WrittenHost<'_>],
-) -> Result<Vec<Entry>, AllocError>
+pub(crate) fn all_entries(alloc: Global, hosts: &[RawHost<'_>]) -> Result<Vec<Entry>, AllocError>
     ensures { IfOk result (λ entries. map entry_view entries.items ≡ flat_map entries_of (numbered (map host_view hosts.now))) }
 {
     let mut entries = Vec::new(alloc);

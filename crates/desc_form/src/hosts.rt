@@ -1,22 +1,22 @@
 //! Construction of the hosts of a raw description.
 ghost use Rattle.std.specs.Prelude.{◌≡◌, ◌++◌, ◌∷◌, [], None, filter_map, map, IfOk, IsTrue, OnOk};
 ghost use Rattle.std.specs.List.{list_all};
-ghost use Rattle.text_core.specs.Firsts.{first_of};
-ghost use Rattle.desc_form.specs.inner.WrittenView.{host_view, written_view};
+ghost use Rattle.text_core.specs.FirstMatch.{first_of};
+ghost use Rattle.desc_form.specs.inner.RawView.{host_view, raw_view};
 ghost use Rattle.desc_form.specs.HostConditions.{host_conditions};
-ghost use Rattle.desc_form.specs.WrittenHosts.{network_host, network_hosts};
+ghost use Rattle.desc_form.specs.RawHosts.{network_host, network_hosts};
 ghost use Rattle.host_net.specs.inner.Hosts.{is_network};
 ghost use Rattle.host_net.specs.Prefix.{prefix_of};
 ghost use Rattle.host_net.specs.inner.Refusal.{refusal_of};
 
-use crate::written::{Written, WrittenHost};
+use crate::raw::{RawDescription, RawHost};
 use host_net::{Hosts, Name, Prefix, read_prefix};
 use std::alloc::{AllocError, Global};
 
 /// Returns the hosts of a description that none of the conditions on hosts refuses.
-pub fn read_hosts(alloc: Global, written: &Written<'_>) -> Result<Hosts, AllocError>
-    requires { first_of (host_conditions (written_view written.now)) ≡ None }
-    ensures { IfOk result (λ hosts. hosts ≡ network_hosts (written_view written.now)) }
+pub fn read_hosts(alloc: Global, written: &RawDescription<'_>) -> Result<Hosts, AllocError>
+    requires { first_of (host_conditions (raw_view written.now)) ≡ None }
+    ensures { IfOk result (λ hosts. hosts ≡ network_hosts (raw_view written.now)) }
 {
     let mut hosts = Hosts::new(alloc);
     for host in &written.hosts {
@@ -26,7 +26,7 @@ pub fn read_hosts(alloc: Global, written: &Written<'_>) -> Result<Hosts, AllocEr
 }
 
 /// Adds a host that is not refused.
-fn add_host(alloc: Global, hosts: &mut Hosts, host: &WrittenHost<'_>) -> Result<(), AllocError>
+fn add_host(alloc: Global, hosts: &mut Hosts, host: &RawHost<'_>) -> Result<(), AllocError>
     requires networks { let added = network_host (host_view host.now) in IsTrue (list_all is_network added.prefixes) }
     requires accepted { let added = network_host (host_view host.now) in refusal_of hosts.old added.name added.prefixes added.rest ≡ None }
     ensures { OnOk result (hosts.new ≡ hosts.old ++ network_host (host_view host.now) ∷ []) }

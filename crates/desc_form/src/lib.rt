@@ -3,27 +3,27 @@
 //! their order begins with the form.
 #![tactic(auto)]
 
-mod barred;
+mod duplicates;
 mod entries;
 mod flows;
 mod host_conditions;
 mod hosts;
 mod keys;
-mod mentions;
+mod name_uses;
 mod names;
 mod places;
+mod raw;
 mod refusal;
 mod sizes;
 mod well_formed;
-mod written;
 
 pub use host_conditions::host_refusal;
 pub use hosts::read_hosts;
-pub use mentions::{Mention, used_names};
+pub use name_uses::{NameUse, used_names};
 pub use places::{assigns_of, listed};
+pub use raw::{
+    RawAssign, RawDescription, RawFlow, RawHost, RawInvariant, RawPair, RawTemplate, read_raw,
+    text_in,
+};
 pub use refusal::{Place, Refusal, Why};
 pub use well_formed::form_refusal;
-pub use written::{
-    Written, WrittenAssign, WrittenFlow, WrittenHost, WrittenInvariant, WrittenPair,
-    WrittenTemplate, read_written, text_in,
-};

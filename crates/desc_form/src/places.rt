@@ -5,12 +5,12 @@ ghost use Rattle.std.specs.Prelude.{◌≡◌, ◌||◌, true, not, map};
 ghost use Rattle.std.specs.Option.{option_map_or};
 ghost use Rattle.toml.specs.Data.{as_table, table};
 ghost use Rattle.toml.specs.View.{view, table_view};
-ghost use Rattle.desc_form.specs.Keys.{keys_of, version_said};
+ghost use Rattle.desc_form.specs.Keys.{keys_of, declared_version};
 ghost use Rattle.table_core.specs.Keys.{all_suit};
 ghost use Rattle.desc_form.specs.declared.refusal.Place.TheVariants.{Document};
 ghost use Rattle.desc_form.specs.Places.{assigns_of, denies_pairs, has_missing_key, has_unknown_key, has_wrong_type, invariant_spots, listed, spot_in};
 ghost use Rattle.desc_form.specs.inner.Walking.{after, after_all, after_invariants, first_places, nothing_found, place_in};
-ghost use Rattle.text_core.specs.Firsts.{numbered};
+ghost use Rattle.text_core.specs.FirstMatch.{numbered};
 
 use crate::flows::{are_pairs, is_flow};
 use crate::keys::keys_of;
@@ -137,17 +137,17 @@ impl Found {
         ensures { result ≡ first_places (table_view document.now) }
     {
         let mut found = Found::at_document(document);
-        found.go_through(Row::Hosts, listed(document, "host"));
+        found.visit(Row::Hosts, listed(document, "host"));
         found.go_through_invariants(listed(document, "invariant"));
-        found.go_through(Row::Flows, listed(document, "flow"));
-        found.go_through(Row::Templates, listed(document, "template"));
+        found.visit(Row::Flows, listed(document, "flow"));
+        found.visit(Row::Templates, listed(document, "template"));
         found
     }
 
     /// Returns the findings at the document itself, which is a table and not a value.
     #[tactic(auto, unfolding(crate::specs::Places::has_wrong_type))]
     fn at_document(document: &Table) -> Found
-        ensures { result ≡ after (nothing_found (version_said (table_view document.now)))
+        ensures { result ≡ after (nothing_found (declared_version (table_view document.now)))
             (record { place = Document; value = table (table_view document.now) }) }
     {
         let (version, place) = (integer_at(document, "topos"), Place::Document);
@@ -171,7 +171,7 @@ impl Found {
         self.wrong = self.wrong.or(wrong.then_some(place));
     }
 
-    fn go_through(&mut self, row: Row, values: &[Value])
+    fn visit(&mut self, row: Row, values: &[Value])
         ensures { self.new ≡ after_all self.old (map (spot_in (place_in row)) (numbered (map view values.now))) }
     {
         for (index, value) in values.iter().enumerate() {
@@ -183,7 +183,7 @@ impl Found {
         ensures { self.new ≡ after_all self.old (invariant_spots (record { number = number; what = view value.now })) }
     {
         self.look_at(Place::Invariant(number), value);
-        self.go_through(Row::Assigns(number), assigns_of(value));
+        self.visit(Row::Assigns(number), assigns_of(value));
     }
 
     fn go_through_invariants(&mut self, values: &[Value])

@@ -1,9 +1,9 @@
 //! Well-formedness of a description: the refusals for keys and for types of values.
 ghost use Rattle.std.specs.Prelude.{◌≡◌, ◌↔◌, None, option_map};
-ghost use Rattle.text_core.specs.Firsts.{first_of};
+ghost use Rattle.text_core.specs.FirstMatch.{first_of};
 ghost use Rattle.desc_form.specs.Refusals.{refused};
 ghost use Rattle.desc_form.specs.FormConditions.{form_conditions};
-ghost use Rattle.desc_form.specs.inner.WrittenForm.{IsFormed};
+ghost use Rattle.desc_form.specs.inner.RawForm.{IsFormed};
 ghost use Rattle.toml.specs.View.{table_view};
 
 use crate::places::Found;

@@ -5,7 +5,7 @@ use Rattle.std.proofs.lemmas.Grind.{flat_map-append}
 use Rattle.std.specs.Io.KnownBytes.{append_known}
 use Rattle.edge_io.specs.inner.Calls.{joined}
 use Rattle.edge_io.proofs.PutLaws.{append_known-append}
-use Rattle.edge_io.specs.Told.{TookPrefix}
+use Rattle.edge_io.specs.Observable.{AppendsPrefixOf}
 
 -- The bytes up to i, and then n of the rest.
 pub took_more : (old now new : Option (List ℕ)) (i n : ℕ) (bytes rest : List ℕ) → rest ≡ drop i bytes → now ≡ append_known old (take i bytes)
@@ -26,8 +26,8 @@ joined_at pieces i d inside =
     ∙ ap (λ rest. joined (take i pieces) ++ joined rest) next
 
 -- All of the bytes are a prefix.
-pub TookPrefix-all : (old new : Option (List ℕ)) (bytes : List ℕ) → new ≡ append_known old bytes → TookPrefix old new bytes
-TookPrefix-all old new bytes took = record {
+pub AppendsPrefixOf-all : (old new : Option (List ℕ)) (bytes : List ℕ) → new ≡ append_known old bytes → AppendsPrefixOf old new bytes
+AppendsPrefixOf-all old new bytes took = record {
   count = length bytes;
   within = omega arith;
   taken = took ∙ ap (append_known old) (sym (take_all (length bytes) bytes (omega arith)));

@@ -3,7 +3,7 @@ use Rattle.std.proofs.Common.{◌≡◌, ℕ, ◌+◌, Option, None, Some, List,
 use Rattle.std.proofs.Math.Seq.{take-append-add}
 use Rattle.std.proofs.lemmas.List.{take-append-le}
 use Rattle.std.specs.Io.KnownBytes.{append_known}
-use Rattle.edge_io.specs.Told.{TookPrefix}
+use Rattle.edge_io.specs.Observable.{AppendsPrefixOf}
 
 -- Two extensions are one.
 pub append_known-append : (known : Option (List ℕ)) (xs ys : List ℕ) → append_known (append_known known xs) ys ≡ append_known known (xs ++ ys)
@@ -11,9 +11,9 @@ append_known-append None xs ys = refl
 append_known-append (Some bytes) xs ys = ap Some (append_assoc bytes xs ys)
 
 -- A prefix of some bytes, after all bytes that precede them.
-pub TookPrefix-after : (old now new : Option (List ℕ)) (front bytes rest : List ℕ) → now ≡ append_known old front
-    → TookPrefix now new bytes → TookPrefix old new (front ++ (bytes ++ rest))
-TookPrefix-after old now new front bytes rest before p =
+pub AppendsPrefixOf-after : (old now new : Option (List ℕ)) (front bytes rest : List ℕ) → now ≡ append_known old front
+    → AppendsPrefixOf now new bytes → AppendsPrefixOf old new (front ++ (bytes ++ rest))
+AppendsPrefixOf-after old now new front bytes rest before p =
     let inside : front ++ take p.count bytes ≡ take (length front + p.count) (front ++ (bytes ++ rest)) =
     ap (λ more. front ++ more) (sym (take-append-le p.count bytes rest p.within)) ∙ sym (take-append-add front (bytes ++ rest) p.count) in
     record {

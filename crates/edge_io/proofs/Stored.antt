@@ -10,7 +10,7 @@ use Rattle.std.specs.List.{position, position_or_len, slice_get}
 use Rattle.std.specs.Option.{option_map}
 use Rattle.std.specs.Ordering.{nat_cmp}
 use Rattle.std.specs.Prelude.{slice_set}
-use Rattle.edge_io.specs.Told.{Files}
+use Rattle.edge_io.specs.Observable.{Files}
 use Rattle.edge_io.specs.inner.StoredFiles.{is_named, files_in}
 use Rattle.edge_io.specs.declared.stored_files.StoredFile.{StoredFile}
 
@@ -32,9 +32,9 @@ get-files_in (file ∷ files) q =
     ∙ ap (cond (is_named q file) (Some file.bytes.items)) (get-files_in files q)
 
 -- The map of the new files is the old one with that entry, if this holds for each name.
-pub same_files : (new old : List StoredFile) (name bytes : List ℕ)
+pub files_unchanged : (new old : List StoredFile) (name bytes : List ℕ)
     → ((q : List ℕ) → bytes_named q new ≡ cond (bytes_eq q name) (Some bytes) (bytes_named q old)) → files_in new ≡ insert (files_in old) name bytes
-same_files new old name bytes says =
+files_unchanged new old name bytes says =
     same_map nat_list_cmp_total (slice_cmp-IsAntisymmetric nat_cmp-IsAntisymmetric) _ _
     (λ q. get-files_in new q ∙ says q ∙ sym (get-insert_text (files_in old) name bytes q ∙ ap (cond (bytes_eq q name) (Some bytes)) (get-files_in old q)))
 
@@ -146,7 +146,7 @@ pub files_in-replaced : (stored shown : List StoredFile) (name bytes : List ℕ)
 files_in-replaced stored shown name bytes file place named held same is =
     let found = position_found (is_named name) stored place (is ∙ ap (position (is_named name)) same) in
     ap (λ at. files_in (slice_set stored at file)) found.1
-    ∙ same_files (slice_set stored (position_or_len (is_named name) stored) file) stored name file.bytes.items (λ q. bytes_named-replaced stored name file q named found.0)
+    ∙ files_unchanged (slice_set stored (position_or_len (is_named name) stored) file) stored name file.bytes.items (λ q. bytes_named-replaced stored name file q named found.0)
     ∙ ap (insert (files_in stored) name) held
 
 pub files_in-added : (stored shown new : List StoredFile) (name bytes : List ℕ) (file : StoredFile) → string_bytes file.name ≡ name → file.bytes.items ≡ bytes
@@ -154,7 +154,7 @@ pub files_in-added : (stored shown new : List StoredFile) (name bytes : List ℕ
 files_in-added stored shown new name bytes file named held same is grown =
     let missing = position_not_found (is_named name) stored (is ∙ ap (position (is_named name)) same) in
     ap files_in grown
-    ∙ same_files (stored ++ file ∷ []) stored name file.bytes.items (λ q. bytes_named-added stored name file q named missing)
+    ∙ files_unchanged (stored ++ file ∷ []) stored name file.bytes.items (λ q. bytes_named-added stored name file q named missing)
     ∙ ap (insert (files_in stored) name) held
 
 -- ---- an index, in terms of the map

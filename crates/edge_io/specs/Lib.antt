@@ -1,4 +1,4 @@
 pub mod Counts
 pub mod Failures
-pub mod Told
+pub mod Observable
 pub mod inner

@@ -24,8 +24,8 @@ pub struct DirShelf<'a, R: Files> {
 impl<'a, R: Files> DirShelf<'a, R> {
     /// Returns a shelf without open file. Relative names start at the working directory.
     pub fn new(rt: &'a R) -> DirShelf<'a, R>
-        ensures none_begun { ⟦<DirShelf<'a, R> as Shelf>⟧.begun result ≡ false }
-        ensures no_begins { ⟦<DirShelf<'a, R> as Shelf>⟧.begins result ≡ 0 }
+        ensures none_open { ⟦<DirShelf<'a, R> as Shelf>⟧.begun result ≡ false }
+        ensures never_opened { ⟦<DirShelf<'a, R> as Shelf>⟧.begins result ≡ 0 }
         ensures no_faults { ⟦<DirShelf<'a, R> as Shelf>⟧.faults result ≡ 0 }
         ensures counts { ShelfCountsOnlyFailures ⟦<DirShelf<'a, R> as Shelf>⟧ }
     {
@@ -59,7 +59,7 @@ impl<'a, R: Files> Shelf for DirShelf<'a, R> {
         ReadConsumes (option_and_then R.File.remaining old.file) (option_and_then R.File.remaining new.file) result into
         × CountsFault result old.faults new.faults };
 
-    ghost tells_both = { λ _. refl };
+    ghost both_observable = { λ _. refl };
 
     fn begin(&mut self, name: &str) -> Result<(), Failed> {
         self.begins = self.begins.saturating_add(1);

@@ -40,7 +40,7 @@ impl FaultPlan {
         ensures answer { is_err result ≡ fails_next self.old }
         ensures after { self.new ≡ after_call self.old }
         ensures no_fault { OnOk result (self.new.faults ≡ self.old.faults) }
-        ensures faults_stay { self.old.faults ≤ self.new.faults }
+        ensures faults_monotone { self.old.faults ≤ self.new.faults }
     {
         self.calls = self.calls.saturating_add(1);
         if is_listed(self.calls, &self.fails) {
@@ -53,7 +53,7 @@ impl FaultPlan {
     /// Counts a fault that was not planned by its number.
     pub(crate) fn count_fault(&mut self)
         ensures after { self.new ≡ with_fault self.old }
-        ensures faults_stay { self.old.faults ≤ self.new.faults }
+        ensures faults_monotone { self.old.faults ≤ self.new.faults }
     {
         self.faults = self.faults.saturating_add(1);
     }

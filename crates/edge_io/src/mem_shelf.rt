@@ -95,7 +95,7 @@ impl Shelf for MemShelf {
 
     ghost read_gives = { λ old into result new. Reads old into result new };
 
-    ghost tells_both = { λ s. refl };
+    ghost both_observable = { λ s. refl };
 
     fn begin(&mut self, name: &str) -> Result<(), Failed> {
         self.begins = self.begins.saturating_add(1);

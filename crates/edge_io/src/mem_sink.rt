@@ -42,7 +42,7 @@ impl MemSink {
     ) -> Result<MemSink, AllocError>
         requires { 0 < grain }
         ensures fresh { IfOk result (λ sink. sink ≡ fresh_sink room grain fails.items) }
-        ensures counts_once { CountsOnce ⟦<MemSink as Sink>⟧.faults ⟦<MemSink as Sink>⟧.write_gives }
+        ensures one_fault_per_failure { CountsOnce ⟦<MemSink as Sink>⟧.faults ⟦<MemSink as Sink>⟧.write_gives }
         ensures counts { CountsOnlyFailures ⟦<MemSink as Sink>⟧.faults ⟦<MemSink as Sink>⟧.write_gives }
     {
         Ok(MemSink {

@@ -19,7 +19,7 @@ impl<W: Write + Drop> StreamSink<W> {
     /// Returns a sink over `inner`, without faults so far.
     pub fn new(inner: W) -> StreamSink<W>
         ensures no_faults { ⟦<StreamSink<W> as Sink>⟧.faults result ≡ 0 }
-        ensures counts_once { CountsOnce ⟦<StreamSink<W> as Sink>⟧.faults ⟦<StreamSink<W> as Sink>⟧.write_gives }
+        ensures one_fault_per_failure { CountsOnce ⟦<StreamSink<W> as Sink>⟧.faults ⟦<StreamSink<W> as Sink>⟧.write_gives }
         ensures counts { CountsOnlyFailures ⟦<StreamSink<W> as Sink>⟧.faults ⟦<StreamSink<W> as Sink>⟧.write_gives }
     {
         StreamSink { inner, faults: 0 }

@@ -4,7 +4,7 @@ ghost use Rattle.std.specs.Io.KnownBytes.{IsAtEnd};
 ghost use Rattle.std.specs.FinMap.{get};
 ghost use Rattle.edge_io.specs.Failures.{ShelfCountsOnlyFailures};
 ghost use Rattle.edge_io.specs.Counts.{more, Rose};
-ghost use Rattle.edge_io.specs.Told.{Lacks};
+ghost use Rattle.edge_io.specs.Observable.{Lacks};
 ghost use Rattle.edge_io.specs.inner.Take.{answer_for, outcome_of};
 
 use crate::{Shelf, TakeFault};
@@ -19,9 +19,9 @@ pub fn take_all<H: Shelf>(
     limit: usize,
 ) -> Result<Vec<u8>, TakeFault>
     requires { limit ≤ 2 ^ 26 }
-    ensures same_files { H.files shelf.new ≡ H.files shelf.old }
-    ensures one_begin { H.begins shelf.new ≡ more (H.begins shelf.old) 1 }
-    ensures faults_stay { H.faults shelf.old ≤ H.faults shelf.new }
+    ensures files_unchanged { H.files shelf.new ≡ H.files shelf.old }
+    ensures opened_once { H.begins shelf.new ≡ more (H.begins shelf.old) 1 }
+    ensures faults_monotone { H.faults shelf.old ≤ H.faults shelf.new }
     ensures most { H.taken shelf.new ≤ limit + 1 }
 
     // The number of bytes that were read, up to the end of the file.
@@ -59,10 +59,10 @@ pub fn take_all<H: Shelf>(
 fn take_rest<H: Shelf>(alloc: Global, shelf: &mut H, limit: usize) -> Result<Vec<u8>, TakeFault>
     requires small { limit ≤ 2 ^ 26 }
     requires begun { IsTrue (H.begun shelf.old) }
-    requires none_taken { H.taken shelf.old ≡ 0 }
-    ensures same_files { H.files shelf.new ≡ H.files shelf.old }
-    ensures same_begins { H.begins shelf.new ≡ H.begins shelf.old }
-    ensures faults_stay { H.faults shelf.old ≤ H.faults shelf.new }
+    requires none_read { H.taken shelf.old ≡ 0 }
+    ensures files_unchanged { H.files shelf.new ≡ H.files shelf.old }
+    ensures opens_unchanged { H.begins shelf.new ≡ H.begins shelf.old }
+    ensures faults_monotone { H.faults shelf.old ≤ H.faults shelf.new }
     ensures most { H.taken shelf.new ≤ limit + 1 }
     ensures count { IfOk result (λ bytes. vec_len bytes ≡ H.taken shelf.new) }
     ensures within { IfOk result (λ bytes. vec_len bytes ≤ limit) }
@@ -73,7 +73,7 @@ fn take_rest<H: Shelf>(alloc: Global, shelf: &mut H, limit: usize) -> Result<Vec
     ensures longer { IsErrOf result TakeFault.TooLong → IfSome (H.left shelf.old) (λ left. limit < length left) }
     ensures no_fault { ShelfCountsOnlyFailures H.Shelf →
         IsErrOf result TakeFault.Read ⊎ (H.faults shelf.new ≡ H.faults shelf.old) }
-    ensures still_begun { IsTrue (H.begun shelf.new) }
+    ensures still_open { IsTrue (H.begun shelf.new) }
 {
     let mut bytes = Vec::new(alloc);
     let mut piece = [0; PIECE];

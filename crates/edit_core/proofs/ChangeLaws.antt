@@ -15,10 +15,10 @@ use Rattle.host_net.specs.Limits.{invariant_limit}
 use Rattle.table_core.specs.Tables.{text_at}
 use Rattle.toml.specs.Data.{Data, string, integer, float, boolean, datetime, array, table, Members, as_table, get_member}
 use Rattle.toml.specs.Parse.{parse_document}
-use Rattle.edit_core.specs.Behind.{behind_word}
+use Rattle.edit_core.specs.Behind.{after_first_word}
 use Rattle.edit_core.specs.inner.ChangeSteps.{add_of, assign_of, assigned, change_of, change_of_words, from_one, invariant_said, remove_of, removed, set_of, text_of, texts_of, unassigned, unset_of, value_in, with_host}
 use Rattle.edit_core.specs.Edit.{Change, Add, Remove, Set, Unset}
-use Rattle.edit_core.specs.EditsText.{AreTexts, IsAssignText, IsInvariantNumber, TellsChange}
+use Rattle.edit_core.specs.EditsText.{AreTexts, IsAssignText, IsInvariantNumber, EncodesChange}
 
 -- ---- tokens
 
@@ -95,16 +95,16 @@ assign_read text assign told =
 
 -- ---- a parsed change is encoded
 
-add_told : (line : List ℕ) (rest : List (List ℕ)) (c : Change) → words line ≡ codes "add" ∷ rest → add_of rest ≡ Ok c → TellsChange line c
+add_told : (line : List ℕ) (rest : List (List ℕ)) (c : Change) → words line ≡ codes "add" ∷ rest → add_of rest ≡ Ok c → EncodesChange line c
 add_told line [] c is read = cc
 add_told line (a ∷ []) c is read = cc
 add_told line (a ∷ b ∷ ws) c is read =
     let (xs, texts, same) = map_parts Add (texts_of (a ∷ b ∷ ws)) c (ok_or_parts (option_map Add (texts_of (a ∷ b ∷ ws))) BadValue c read) in
     let (utf8, whole) = texts_parts (a ∷ b ∷ ws) xs texts in
-    let told : TellsChange line (Add (a ∷ b ∷ ws)) = (is, omega arith, utf8) in
-    subst (TellsChange line) (ap Add whole ∙ same) told
+    let told : EncodesChange line (Add (a ∷ b ∷ ws)) = (is, omega arith, utf8) in
+    subst (EncodesChange line) (ap Add whole ∙ same) told
 
-remove_told : (line : List ℕ) (rest : List (List ℕ)) (c : Change) → words line ≡ codes "remove" ∷ rest → remove_of rest ≡ Ok c → TellsChange line c
+remove_told : (line : List ℕ) (rest : List (List ℕ)) (c : Change) → words line ≡ codes "remove" ∷ rest → remove_of rest ≡ Ok c → EncodesChange line c
 remove_told line [] c is read = cc
 remove_told line (a ∷ []) c is read = cc
 remove_told line (a ∷ b ∷ x ∷ ws) c is read = cc
@@ -114,28 +114,28 @@ remove_told line (a ∷ b ∷ []) c is read =
     let (a_text, a_same) = text_parts a f from in
     let (b_text, b_same) = text_parts b t to in
     let utf8 : AreTexts (a ∷ b ∷ []) = rw (a_text, b_text) refl in
-    let told : TellsChange line (Remove a b) = (is, utf8) in
-    subst (TellsChange line) ((λ i. Remove (a_same i) (b_same i)) ∙ same) told
+    let told : EncodesChange line (Remove a b) = (is, utf8) in
+    subst (EncodesChange line) ((λ i. Remove (a_same i) (b_same i)) ∙ same) told
 
-set_told : (line : List ℕ) (rest : List (List ℕ)) (c : Change) → words line ≡ codes "set" ∷ rest → set_of (behind_word (behind_word line)) rest ≡ Ok c
-    → TellsChange line c
+set_told : (line : List ℕ) (rest : List (List ℕ)) (c : Change) → words line ≡ codes "set" ∷ rest → set_of (after_first_word (after_first_word line)) rest ≡ Ok c
+    → EncodesChange line c
 set_told line [] c is read = cc
 set_told line (a ∷ []) c is read = cc
 set_told line (a ∷ w ∷ ws) c is read =
-    let text = behind_word (behind_word line) in
+    let text = after_first_word (after_first_word line) in
     let (k, said, rest) = bind_some (invariant_said a) (λ k. option_map (Set k) (assign_of text)) c (ok_or_parts (assigned a text) BadValue c read) in
     let (assign, one, same) = map_parts (Set k) (assign_of text) c rest in
     let (number_text, small) = number_parts a k said in
-    let told : TellsChange line (Set k assign) = record {
+    let told : EncodesChange line (Set k assign) = record {
       word = w;
       rest = ws;
       written = is ∙ ap (λ (n : List ℕ). codes "set" ∷ n ∷ w ∷ ws) number_text;
       number = small;
       text = assign_told text assign one;
     } in
-    subst (TellsChange line) same told
+    subst (EncodesChange line) same told
 
-unset_told : (line : List ℕ) (rest : List (List ℕ)) (c : Change) → words line ≡ codes "unset" ∷ rest → unset_of rest ≡ Ok c → TellsChange line c
+unset_told : (line : List ℕ) (rest : List (List ℕ)) (c : Change) → words line ≡ codes "unset" ∷ rest → unset_of rest ≡ Ok c → EncodesChange line c
 unset_told line [] c is read = cc
 unset_told line (a ∷ []) c is read = cc
 unset_told line (a ∷ b ∷ x ∷ ws) c is read = cc
@@ -145,20 +145,20 @@ unset_told line (a ∷ b ∷ []) c is read =
     let (number_text, small) = number_parts a k said in
     let (b_text, b_same) = text_parts b h host in
     let utf8 : AreTexts (b ∷ []) = rw b_text refl in
-    let told : TellsChange line (Unset k b) = (is ∙ ap (λ (n : List ℕ). codes "unset" ∷ n ∷ b ∷ []) number_text, small, utf8) in
-    subst (TellsChange line) (ap (Unset k) b_same ∙ same) told
+    let told : EncodesChange line (Unset k b) = (is ∙ ap (λ (n : List ℕ). codes "unset" ∷ n ∷ b ∷ []) number_text, small, utf8) in
+    subst (EncodesChange line) (ap (Unset k) b_same ∙ same) told
 
 verb_is : (line verb name : List ℕ) (rest : List (List ℕ)) → words line ≡ verb ∷ rest → bytes_eq verb name ≡ true → words line ≡ name ∷ rest
 verb_is line verb name rest is same = is ∙ ap (λ v. v ∷ rest) (bytes_same verb name same)
 
-by_words : (line : List ℕ) (ws : List (List ℕ)) (c : Change) → words line ≡ ws → change_of_words ws (behind_word (behind_word line)) ≡ Ok c
-    → TellsChange line c
+by_words : (line : List ℕ) (ws : List (List ℕ)) (c : Change) → words line ≡ ws → change_of_words ws (after_first_word (after_first_word line)) ≡ Ok c
+    → EncodesChange line c
 by_words line [] c is read = cc
 by_words line (verb ∷ rest) c is read = elim (if_parts (bytes_eq verb (codes "add")) (add_of rest) _ (Ok c) read) [
   | inl add ↦ add_told line rest c (verb_is line verb (codes "add") rest is add.0) add.1
   | inr a ↦ elim (if_parts (bytes_eq verb (codes "remove")) (remove_of rest) _ (Ok c) a.1) [
     | inl remove ↦ remove_told line rest c (verb_is line verb (codes "remove") rest is remove.0) remove.1
-    | inr r ↦ elim (if_parts (bytes_eq verb (codes "set")) (set_of (behind_word (behind_word line)) rest) _ (Ok c) r.1) [
+    | inr r ↦ elim (if_parts (bytes_eq verb (codes "set")) (set_of (after_first_word (after_first_word line)) rest) _ (Ok c) r.1) [
       | inl set ↦ set_told line rest c (verb_is line verb (codes "set") rest is set.0) set.1
       | inr s ↦ elim (if_parts (bytes_eq verb (codes "unset")) (unset_of rest) _ (Ok c) s.1) [
         | inl unset ↦ unset_told line rest c (verb_is line verb (codes "unset") rest is unset.0) unset.1
@@ -168,7 +168,7 @@ by_words line (verb ∷ rest) c is read = elim (if_parts (bytes_eq verb (codes "
   ]
 ]
 
-pub change_told : (line : List ℕ) (c : Change) → change_of line ≡ Ok c → TellsChange line c
+pub change_told : (line : List ℕ) (c : Change) → change_of line ≡ Ok c → EncodesChange line c
 unfolding change_of
 change_told line c read = by_words line (words line) c refl read
 
@@ -199,11 +199,11 @@ unset_read : (k : ℕ) (host : List ℕ) → IsInvariantNumber k → AreTexts (h
 unset_read k host small texts =
     ap (λ (o : Option Change). ok_or o BadValue) (ap (λ (o : Option ℕ). o >>= λ k. option_map (Unset k) (text_of host)) (number_read k small) ∙ ap (option_map (Unset k)) (text_read host (one_text host texts)))
 
-pub told_change : (line : List ℕ) (c : Change) → TellsChange line c → change_of line ≡ Ok c
+pub told_change : (line : List ℕ) (c : Change) → EncodesChange line c → change_of line ≡ Ok c
 unfolding change_of
-told_change line (Add ws) told = ap (λ xs. change_of_words xs (behind_word (behind_word line))) told.0 ∙ add_read ws told.1 told.2
-told_change line (Remove from to) told = ap (λ xs. change_of_words xs (behind_word (behind_word line))) told.0 ∙ remove_read from to told.1
+told_change line (Add ws) told = ap (λ xs. change_of_words xs (after_first_word (after_first_word line))) told.0 ∙ add_read ws told.1 told.2
+told_change line (Remove from to) told = ap (λ xs. change_of_words xs (after_first_word (after_first_word line))) told.0 ∙ remove_read from to told.1
 told_change line (Set k assign) told =
-    ap (λ xs. change_of_words xs (behind_word (behind_word line))) told.written ∙ set_read k told.word (behind_word (behind_word line)) told.rest assign told.number told.text
+    ap (λ xs. change_of_words xs (after_first_word (after_first_word line))) told.written ∙ set_read k told.word (after_first_word (after_first_word line)) told.rest assign told.number told.text
 told_change line (Unset k host) told =
-    ap (λ xs. change_of_words xs (behind_word (behind_word line))) told.0 ∙ unset_read k host told.1 told.2
+    ap (λ xs. change_of_words xs (after_first_word (after_first_word line))) told.0 ∙ unset_read k host told.1 told.2

@@ -4,18 +4,18 @@ use Rattle.std.proofs.Common.{◌≡◌, ℕ, true, List, [], ◌∷◌, Option,
 use Rattle.std.specs.Prelude.{codes, decimal, Result, Ok, Err, bytes_eq}
 use Rattle.std.specs.Option.{option_map, ok_or}
 use Rattle.text_core.specs.Lines.{words}
-use Rattle.text_core.specs.ListText.{IsBad, bad_line, bad_value, by_lines}
-use Rattle.text_core.specs.inner.ListAnswers.{TellsOne, TellsFormed}
-use Rattle.text_core.proofs.ListTextLaws.{list_settled}
-use Rattle.text_core.proofs.TextByLinesLaws.{IsSettled, same_ok}
+use Rattle.text_core.specs.ListFormat.{IsBad, bad_line, bad_value, by_lines}
+use Rattle.text_core.specs.inner.ListAnswers.{EncodesAtMostOne, EncodesOnlyWellFormed}
+use Rattle.text_core.proofs.ListFormatLaws.{list_settled}
+use Rattle.text_core.proofs.LineFormatLaws.{IsSettled, same_ok}
 use Rattle.text_core.proofs.StepsLaws.{if_parts, bytes_same}
 use Rattle.text_core.specs.declared.faults.ListWhy.{ListWhy}
 use Rattle.text_core.specs.declared.faults.ListWhy.TheVariants.{BadLine, BadValue}
-use Rattle.edit_core.specs.Behind.{behind_word}
+use Rattle.edit_core.specs.Behind.{after_first_word}
 use Rattle.edit_core.proofs.ChangeLaws.{told_change}
 use Rattle.edit_core.specs.inner.ChangeSteps.{add_of, assigned, change_of, change_of_words, remove_of, removed, set_of, texts_of, unassigned, unset_of}
 use Rattle.edit_core.specs.Edit.{Change, Add, Remove, Set, Unset, Edit}
-use Rattle.edit_core.specs.EditsText.{IsForm, TellsChange, add, edits_text, remove, set, unset}
+use Rattle.edit_core.specs.EditsText.{IsForm, EncodesChange, add, edits_text, remove, set, unset}
 
 -- 1. The reasons why tokens encode no change.
 
@@ -84,18 +84,18 @@ words_why (verb ∷ rest) text why h = elim (if_parts (bytes_eq verb (codes "add
 
 explained : (line : List ℕ) (why : ListWhy) → change_of line ≡ Err why → Explains (words line) why
 unfolding change_of
-explained line why h = words_why (words line) (behind_word (behind_word line)) why h
+explained line why h = words_why (words line) (after_first_word (after_first_word line)) why h
 
 no_form : (line : List ℕ) → change_of line ≡ Err BadLine → IsForm (words line) → ⊥
 unfolding change_of
-no_form line h form = form_read (words line) (behind_word (behind_word line)) form h
+no_form line h form = form_read (words line) (after_first_word (after_first_word line)) form h
 
 -- 2. A line encodes at most one edit. If it encodes one, it has its shape.
 
-tells_one : (line : List ℕ) (x y : Change) → TellsChange line x → TellsChange line y → x ≡ y
+tells_one : (line : List ℕ) (x y : Change) → EncodesChange line x → EncodesChange line y → x ≡ y
 tells_one line x y p q = same_ok (change_of line) x y (told_change line x p) (told_change line y q)
 
-told_form : (line : List ℕ) (c : Change) → TellsChange line c → IsForm (words line)
+told_form : (line : List ℕ) (c : Change) → EncodesChange line c → IsForm (words line)
 told_form line (Add []) told = absurd (omega (arith, told.1))
 told_form line (Add (a ∷ [])) told = absurd (omega (arith, told.1))
 told_form line (Add (a ∷ b ∷ ws)) told = add a b ws told.0
@@ -103,13 +103,13 @@ told_form line (Remove from to) told = remove from to told.0
 told_form line (Set k assign) told = set (decimal k) told.word told.rest told.written
 told_form line (Unset k host) told = unset (decimal k) host told.0
 
-pub edit_lines_tell_one : TellsOne edits_text
+pub edit_lines_tell_one : EncodesAtMostOne edits_text
 edit_lines_tell_one n line x y p q =
     let number : x.line ≡ y.line = p.0 ∙ sym q.0 in
     let change : x.change ≡ y.change = tells_one line x.change y.change p.1 q.1 in
     λ i. record { line = number i; change = change i }
 
-pub edit_lines_have_form : TellsFormed edits_text
+pub edit_lines_have_form : EncodesOnlyWellFormed edits_text
 edit_lines_have_form n line x told = told_form line x.change told.1
 
 -- A file has either a parse result or a first error.
@@ -118,7 +118,7 @@ edits_settled = list_settled edits_text edit_lines_tell_one edit_lines_have_form
 
 -- 3. A rejected line is bad, regardless of the lines before it.
 
-not_told : (line : List ℕ) (why : ListWhy) → change_of line ≡ Err why → (c : Change) → TellsChange line c → ⊥
+not_told : (line : List ℕ) (why : ListWhy) → change_of line ≡ Err why → (c : Change) → EncodesChange line c → ⊥
 not_told line why refused c told = let read : change_of line ≡ Ok c = told_change line c told in cc
 
 pub refused_is_bad : (n : ℕ) (before : List Edit) (line : List ℕ) (why : ListWhy) → change_of line ≡ Err why → IsBad edits_text n before line why

@@ -6,7 +6,7 @@ use Rattle.std.specs.Fmt.{digits}
 use Rattle.text_core.specs.inner.Decimal.{number}
 use Rattle.text_core.specs.declared.faults.ListWhy.{ListWhy}
 use Rattle.text_core.specs.declared.faults.ListWhy.TheVariants.{BadLine, BadValue}
-use Rattle.edit_core.specs.Behind.{behind_word}
+use Rattle.edit_core.specs.Behind.{after_first_word}
 use Rattle.edit_core.specs.inner.ChangeSteps.{change_of}
 
 abbrev IsRefusedFor : ListWhy → List ℕ → Type 0
@@ -23,5 +23,5 @@ rows_of_numbers : AllByRecursion (IsRefusedFor BadValue)
 unfolding change_of number digits
 rows_of_numbers = (refl, (refl, (refl, (refl, tt))))
 
-row_behind : behind_word (behind_word (codes " set  1 { } # c ")) ≡ codes " { } # c "
+row_behind : after_first_word (after_first_word (codes " set  1 { } # c ")) ≡ codes " { } # c "
 row_behind = refl

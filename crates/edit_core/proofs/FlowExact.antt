@@ -16,15 +16,15 @@ use Rattle.desc_core.specs.Description.{described_by_table}
 use Rattle.desc_core.proofs.DescriptionLaws.{accepted}
 use Rattle.desc_core.proofs.MigratedLaws.{get_other, get_with}
 use Rattle.desc_core.specs.UseConditions.{is_declared}
-use Rattle.desc_core.specs.WrittenNetwork.{network_of}
+use Rattle.desc_core.specs.RawNetwork.{network_of}
 use Rattle.desc_form.proofs.FlowLaws.{flow_says, said_version}
-use Rattle.desc_form.specs.Keys.{says_second, version_said}
+use Rattle.desc_form.specs.Keys.{says_second, declared_version}
 use Rattle.desc_form.specs.Places.{listed}
-use Rattle.desc_form.specs.Written.{Written, host_written, invariant_written, template_written, written}
-use Rattle.desc_form.specs.WrittenFlow.{WrittenFlow, flow_of_values, flow_written}
-use Rattle.desc_form.specs.inner.WrittenForm.{IsFlow, IsWritten}
+use Rattle.desc_form.specs.RawDescription.{RawDescription, raw_host, raw_invariant, raw_template, written}
+use Rattle.desc_form.specs.RawFlow.{RawFlow, flow_of_values, raw_flow}
+use Rattle.desc_form.specs.inner.RawForm.{IsFlow, IsRawOf}
 use Rattle.desc_form.proofs.NoneLaws.{all_tested}
-use Rattle.desc_form.specs.WrittenHosts.{network_hosts}
+use Rattle.desc_form.specs.RawHosts.{network_hosts}
 use Rattle.edit_core.proofs.FlowLaws.{has_asked, hosts_of}
 use Rattle.edit_core.proofs.FlowLemmas.{AreEnds, AreTwo, flow_said, is_named, named_where}
 use Rattle.edit_core.proofs.FlowTables.{AreRightFlows, IsListing, listed_again, listing, own_flows, with_flows}
@@ -44,7 +44,7 @@ use Rattle.text_core.specs.Steps.{◌>>=◌}
 
 -- ---- the raw description of the table with other flows
 
-written_again : (ms : Members) (ds : List Data) → written (with_list (codes "flow") ds ms) ≡ with_flows (written ms) (filter_map flow_written ds)
+written_again : (ms : Members) (ds : List Data) → written (with_list (codes "flow") ds ms) ≡ with_flows (written ms) (filter_map raw_flow ds)
 unfolding written listed list_at has_key text_at integer_at
 written_again ms ds =
     let here = get_with (codes "flow") (array (items_of ds)) ms in
@@ -52,48 +52,48 @@ written_again ms ds =
     λ i. record {
       version = unwrap_or (option_and_then as_integer (other (codes "topos") refl i)) (pos 0);
       answers = not (bytes_eq (unwrap_or (option_and_then as_str (other (codes "answers") refl i)) []) (codes "none"));
-      hosts = map host_written (filter_map as_table (unwrap_or (option_and_then elements_of (other (codes "host") refl i)) []));
-      invariants = map invariant_written (filter_map as_table (unwrap_or (option_and_then elements_of (other (codes "invariant") refl i)) []));
+      hosts = map raw_host (filter_map as_table (unwrap_or (option_and_then elements_of (other (codes "host") refl i)) []));
+      invariants = map raw_invariant (filter_map as_table (unwrap_or (option_and_then elements_of (other (codes "invariant") refl i)) []));
       given = is_some (here i);
-      flows = (ap (λ (o : Option Data). filter_map flow_written (unwrap_or (option_and_then elements_of o) [])) here
-          ∙ ap (λ (o : Option (List Data)). filter_map flow_written (unwrap_or o [])) (listed_again ds)) i;
-      templates = map template_written (filter_map as_table (unwrap_or (option_and_then elements_of (other (codes "template") refl i)) []));
+      flows = (ap (λ (o : Option Data). filter_map raw_flow (unwrap_or (option_and_then elements_of o) [])) here
+          ∙ ap (λ (o : Option (List Data)). filter_map raw_flow (unwrap_or o [])) (listed_again ds)) i;
+      templates = map raw_template (filter_map as_table (unwrap_or (option_and_then elements_of (other (codes "template") refl i)) []));
     }
 
 listed_with : (ms : Members) (ds : List Data) → list_at (codes "flow") (with_list (codes "flow") ds ms) ≡ Some ds
 unfolding list_at
 listed_with ms ds = ap (option_and_then elements_of) (get_with (codes "flow") (array (items_of ds)) ms) ∙ listed_again ds
 
-flows_listed : (ms : Members) (ds : List Data) → list_at (codes "flow") ms ≡ Some ds → (written ms).flows ≡ filter_map flow_written ds
+flows_listed : (ms : Members) (ds : List Data) → list_at (codes "flow") ms ≡ Some ds → (written ms).flows ≡ filter_map raw_flow ds
 unfolding written listed
-flows_listed ms ds is = ap (λ (o : Option (List Data)). filter_map flow_written (unwrap_or o [])) is
+flows_listed ms ds is = ap (λ (o : Option (List Data)). filter_map raw_flow (unwrap_or o [])) is
 
 -- ---- the last flow
 
-last_of : (P : WrittenFlow → Type 0) (ws : List WrittenFlow) (w : WrittenFlow) → All P (ws ++ w ∷ []) → P w
+last_of : (P : RawFlow → Type 0) (ws : List RawFlow) (w : RawFlow) → All P (ws ++ w ∷ []) → P w
 last_of P ws w all = subst P (get_or_push ws w w (length ws) refl) (all (length ws) w (omega (arith, length_push ws w)))
 
-last_zipped : (ds : List Data) (d : Data) (ws : List WrittenFlow) → AllZip IsFlow (ds ++ d ∷ []) ws → (w : WrittenFlow) × IsFlow d w
+last_zipped : (ds : List Data) (d : Data) (ws : List RawFlow) → AllZip IsFlow (ds ++ d ∷ []) ws → (w : RawFlow) × IsFlow d w
 last_zipped [] d [] zipped = absurd zipped
 last_zipped [] d (w ∷ ws) (is, zipped) = (w, is)
 last_zipped (e ∷ ds) d [] zipped = absurd zipped
 last_zipped (e ∷ ds) d (w ∷ ws) (is, zipped) = last_zipped ds d ws zipped
 
 -- A list of strings that denotes a flow is its list of tokens.
-words_are : (words : List (List ℕ)) (w : WrittenFlow) → flow_written (text_list words) ≡ Some w → words ≡ w.from ∷ w.to ∷ w.services
-unfolding flow_written
+words_are : (words : List (List ℕ)) (w : RawFlow) → raw_flow (text_list words) ≡ Some w → words ≡ w.from ∷ w.to ∷ w.services
+unfolding raw_flow
 words_are [] w is =
-    let none : flow_written (text_list []) ≡ None = ap (λ (o : Option (List Data)). o >>= flow_of_values) (listed_again []) in cc
+    let none : raw_flow (text_list []) ≡ None = ap (λ (o : Option (List Data)). o >>= flow_of_values) (listed_again []) in cc
 words_are (a ∷ []) w is =
-    let none : flow_written (text_list (a ∷ [])) ≡ None = ap (λ (o : Option (List Data)). o >>= flow_of_values) (listed_again (string a ∷ [])) in cc
+    let none : raw_flow (text_list (a ∷ [])) ≡ None = ap (λ (o : Option (List Data)). o >>= flow_of_values) (listed_again (string a ∷ [])) in cc
 words_are (a ∷ b ∷ texts) w is =
     let said = flow_said a b texts in
-    let v : WrittenFlow = record { from = a; to = b; services = texts } in
+    let v : RawFlow = record { from = a; to = b; services = texts } in
     let same : v ≡ w = cc in
-    ap (λ (u : WrittenFlow). u.from ∷ u.to ∷ u.services) same
+    ap (λ (u : RawFlow). u.from ∷ u.to ∷ u.services) same
 
 -- No flow before it has its names.
-none_before : (w : WrittenFlow) (ws : List WrittenFlow) → AllPairs AreTwo (ws ++ w ∷ []) → list_any (is_named w.from w.to) ws ≡ true → ⊥
+none_before : (w : RawFlow) (ws : List RawFlow) → AllPairs AreTwo (ws ++ w ∷ []) → list_any (is_named w.from w.to) ws ≡ true → ⊥
 none_before w [] two any = cc
 none_before w (v ∷ ws) two any =
     let others : All (AreTwo v) (ws ++ w ∷ []) = λ i e within. two zero (suc i) e (omega arith) (omega arith) in
@@ -112,19 +112,19 @@ some_of (Some x) is = (x, refl)
 says_by : (o : Option ℤ) (n : ℤ) → o ≡ Some n → n ≡ pos 2 → IsTrue (says_second o)
 says_by o n is two = ap says_second is ∙ (Decides-int_eq n (pos 2)).1 two
 
-second_where : (table : Members) (w : Written) → IsWritten table w → w.version ≡ pos 2 → IsTrue (says_second (version_said table))
+second_where : (table : Members) (w : RawDescription) → IsRawOf table w → w.version ≡ pos 2 → IsTrue (says_second (declared_version table))
 unfolding integer_at
-second_where table w is two = says_by (version_said table) w.version (said_version (get_member (codes "topos") table) w.version is.version) two
+second_where table w is two = says_by (declared_version table) w.version (said_version (get_member (codes "topos") table) w.version is.version) two
 
-version_by : (table : Members) (w : Written) (texts : List (List ℕ)) → IsWritten table w → (w.version ≢ pos 2 → texts ≡ [])
-    → (texts ≡ []) ⊎ IsTrue (says_second (version_said table))
-version_by table w texts is whole = elim (cases_Bool (says_second (version_said table))) [
+version_by : (table : Members) (w : RawDescription) (texts : List (List ℕ)) → IsRawOf table w → (w.version ≢ pos 2 → texts ≡ [])
+    → (texts ≡ []) ⊎ IsTrue (says_second (declared_version table))
+version_by table w texts is whole = elim (cases_Bool (says_second (declared_version table))) [
   | inl second ↦ inr second
   | inr other ↦ inl (whole (λ two. both_ways _ other (second_where table w is two)))
 ]
 
 -- The flow of the last names.
-module _ (table : Members) (flows : List Data) (w : Written) (v : WrittenFlow) (before : IsListing table flows w) (right : AreRightFlows w (w.flows ++ v ∷ [])) where
+module _ (table : Members) (flows : List Data) (w : RawDescription) (v : RawFlow) (before : IsListing table flows w) (right : AreRightFlows w (w.flows ++ v ∷ [])) where
   ends_where : (a b : ℕ) → host_named (network_hosts w) v.from ≡ Some a → host_named (network_hosts w) v.to ≡ Some b → AreEnds (network_hosts w) v.from v.to (record { from = a; to = b })
   ends_where a b is_from is_to = record {
     is_from = is_from;
@@ -167,7 +167,7 @@ module _ (table : Members) (flows : List Data) (w : Written) (v : WrittenFlow) (
       let (ss, read) = some_of (each service_of v.services) (each_is service_of v.services ∙ (all_tested (λ text. is_some (service_of text)) v.services).1 all) in
       (record { from = a; to = b }, ss, right_by words a b ss said is_from is_to read)
 
-same_right : (w : Written) (fs gs : List WrittenFlow) → fs ≡ gs → AreRightFlows (with_flows w fs) fs → AreRightFlows w gs
+same_right : (w : RawDescription) (fs gs : List RawFlow) → fs ≡ gs → AreRightFlows (with_flows w fs) fs → AreRightFlows w gs
 same_right w fs gs same right = subst (AreRightFlows w) same (record {
   whole = right.whole;
   named = right.named;
@@ -185,15 +185,15 @@ pub right_where : (table : Members) (flows : List Data) (d e : Network) (words :
 right_where table flows d e words there said now =
     let w = written table in
     let ds = flows ++ text_list words ∷ [] in
-    let fs = filter_map flow_written ds in
+    let fs = filter_map raw_flow ds in
     let next : IsListing (with_list (codes "flow") ds table) ds (with_flows w fs) =
     subst (IsListing (with_list (codes "flow") ds table) ds) (written_again table ds) (listing (with_list (codes "flow") ds table) ds e (listed_with table ds) now) in
     let (v, is) = last_zipped flows (text_list words) fs next.zipped in
-    let last : flow_written (text_list words) ≡ Some v = flow_says (text_list words) v is in
+    let last : raw_flow (text_list words) ≡ Some v = flow_says (text_list words) v is in
     let same : fs ≡ w.flows ++ v ∷ [] =
-    filter_map-append flow_written flows (text_list words ∷ [])
-    ∙ ap (λ (o : Option WrittenFlow). filter_map flow_written flows ++ cons_option o []) last
-    ∙ ap (λ (gs : List WrittenFlow). gs ++ v ∷ []) (sym (flows_listed table flows there)) in
+    filter_map-append raw_flow flows (text_list words ∷ [])
+    ∙ ap (λ (o : Option RawFlow). filter_map raw_flow flows ++ cons_option o []) last
+    ∙ ap (λ (gs : List RawFlow). gs ++ v ∷ []) (sym (flows_listed table flows there)) in
     let right = same_right w fs (w.flows ++ v ∷ []) same (own_flows (with_list (codes "flow") ds table) ds (with_flows w fs) next) in
     subst (λ (n : Network). (f : Flow) × (ss : List Service) × IsRightFlow table n words f ss) (accepted table d said).network
     (right_from table flows w v (listing table flows d there said) right words (words_are words v last))

@@ -18,13 +18,13 @@ use Rattle.desc_core.proofs.FlowsLaws.{are_between}
 use Rattle.desc_core.proofs.NetworkLaws.{IsNetwork-table}
 use Rattle.desc_core.specs.inner.Parts.{with_services}
 use Rattle.desc_core.specs.UseConditions.{is_declared}
-use Rattle.desc_core.specs.WrittenNetwork.{asked_of, invariants_of, network_of, services_in}
+use Rattle.desc_core.specs.RawNetwork.{asked_of, invariants_of, network_of, services_in}
 use Rattle.desc_form.proofs.FlowLaws.{flow_read, said_version}
-use Rattle.desc_form.specs.Keys.{says_second, version_said}
-use Rattle.desc_form.specs.Written.{Written, WrittenHost, written}
-use Rattle.desc_form.specs.WrittenFlow.{WrittenFlow}
-use Rattle.desc_form.specs.inner.WrittenForm.{IsWritten}
-use Rattle.desc_form.specs.WrittenHosts.{network_hosts}
+use Rattle.desc_form.specs.Keys.{says_second, declared_version}
+use Rattle.desc_form.specs.RawDescription.{RawDescription, RawHost, written}
+use Rattle.desc_form.specs.RawFlow.{RawFlow}
+use Rattle.desc_form.specs.inner.RawForm.{IsRawOf}
+use Rattle.desc_form.specs.RawHosts.{network_hosts}
 use Rattle.desc_form.proofs.NoneLaws.{all_tested}
 use Rattle.edit_core.proofs.FlowLemmas.{AreEnds, all_apart, any_said, asked_more, flow_said, flows_among, has_less, is_named, named_where, narrowed_among, one_flow, other_elements, other_flows, others_zipped, services_less, services_more, services_read, services_whole, zipped_more}
 use Rattle.edit_core.proofs.FlowTables.{AreRightFlows, IsListing, described_with, listing, own_flows, with_flows}
@@ -40,7 +40,7 @@ use Rattle.flow_set.specs.inner.FlowSetView.{without_flow}
 use Rattle.flow_set.proofs.ListedLaws.{IsFlowSet-set_of, has-set_of}
 use Rattle.flow_set.specs.declared.flow.Flow.{Flow}
 use Rattle.host_net.specs.Host.{Host, host_named}
-use Rattle.host_net.specs.Services.{NarrowedFlow, service_limit, services_of}
+use Rattle.host_net.specs.Services.{RestrictedFlow, service_limit, services_of}
 use Rattle.host_net.specs.ServiceText.{service_of}
 use Rattle.host_net.specs.declared.service.Service.{Service}
 use Rattle.net_core.specs.Network.{Network}
@@ -51,10 +51,10 @@ use Rattle.text_core.specs.Name.{is_name}
 -- ---- the network of a table with other flows
 
 -- The network with these asked flows and these restricted flows.
-abbrev asking_with : Network → List Flow → List NarrowedFlow → Network
+abbrev asking_with : Network → List Flow → List RestrictedFlow → Network
 asking_with d flows services = record d { asked = record { size = d.asked.size; flows = flows }; services = services }
 
-network_with : (w : Written) (fs : List WrittenFlow) → w.given ≡ true
+network_with : (w : RawDescription) (fs : List RawFlow) → w.given ≡ true
     → network_of (with_flows w fs) ≡ asking_with (network_of w) (set_of (flows_among (network_hosts w) fs)) (narrowed_among (network_hosts w) fs)
 unfolding network_of network_hosts asked_of invariants_of services_in
 network_with w fs given = λ i. record {
@@ -66,65 +66,65 @@ network_with w fs given = λ i. record {
   invariants = invariants_of w;
 }
 
-pub hosts_of : (w : Written) → (network_of w).hosts ≡ network_hosts w
+pub hosts_of : (w : RawDescription) → (network_of w).hosts ≡ network_hosts w
 unfolding network_of
 hosts_of w = refl
 
-asked_listed_of : (w : Written) → w.given ≡ true → (network_of w).asked.flows ≡ set_of (flows_among (network_hosts w) w.flows)
+asked_listed_of : (w : RawDescription) → w.given ≡ true → (network_of w).asked.flows ≡ set_of (flows_among (network_hosts w) w.flows)
 unfolding network_of asked_of
 asked_listed_of w given = rw given refl
 
-services_listed_of : (w : Written) → (network_of w).services ≡ narrowed_among (network_hosts w) w.flows
+services_listed_of : (w : RawDescription) → (network_of w).services ≡ narrowed_among (network_hosts w) w.flows
 unfolding network_of services_in
 services_listed_of w = refl
 
-pub has_asked : (w : Written) (f : Flow) → w.given ≡ true → has (network_of w).asked.flows f ≡ has (flows_among (network_hosts w) w.flows) f
+pub has_asked : (w : RawDescription) (f : Flow) → w.given ≡ true → has (network_of w).asked.flows f ≡ has (flows_among (network_hosts w) w.flows) f
 has_asked w f given = ap (λ (fs : List Flow). has fs f) (asked_listed_of w given) ∙ has-set_of (flows_among (network_hosts w) w.flows) f
 
 -- ---- one more flow
 
 -- The name of a host is valid.
-name_by : (name : List ℕ) (h : WrittenHost) (rest : Bool) → IsTrue (is_name h.name) → (bytes_eq name h.name ≡ true) ⊎ (rest ≡ true)
+name_by : (name : List ℕ) (h : RawHost) (rest : Bool) → IsTrue (is_name h.name) → (bytes_eq name h.name ≡ true) ⊎ (rest ≡ true)
     → (rest ≡ true → IsTrue (is_name name)) → IsTrue (is_name name)
 name_by name h rest legal (inl here) later = subst (λ (n : List ℕ). IsTrue (is_name n)) (sym ((bytes_eq-Decides name h.name).0 here)) legal
 name_by name h rest legal (inr behind) later = later behind
 
-declared_name : (name : List ℕ) (hs : List WrittenHost) → All (λ (h : WrittenHost). IsTrue (is_name h.name)) hs
-    → list_any (λ (h : WrittenHost). bytes_eq name h.name) hs ≡ true → IsTrue (is_name name)
+declared_name : (name : List ℕ) (hs : List RawHost) → All (λ (h : RawHost). IsTrue (is_name h.name)) hs
+    → list_any (λ (h : RawHost). bytes_eq name h.name) hs ≡ true → IsTrue (is_name name)
 declared_name name [] legal any = cc
 declared_name name (h ∷ hs) legal any =
-    name_by name h (list_any (λ (h : WrittenHost). bytes_eq name h.name) hs) (All-head (λ (h : WrittenHost). IsTrue (is_name h.name)) h hs legal)
-    (or_cases (bytes_eq name h.name) (list_any (λ (h : WrittenHost). bytes_eq name h.name) hs) any)
-    (declared_name name hs (All-tail (λ (h : WrittenHost). IsTrue (is_name h.name)) h hs legal))
+    name_by name h (list_any (λ (h : RawHost). bytes_eq name h.name) hs) (All-head (λ (h : RawHost). IsTrue (is_name h.name)) h hs legal)
+    (or_cases (bytes_eq name h.name) (list_any (λ (h : RawHost). bytes_eq name h.name) hs) any)
+    (declared_name name hs (All-tail (λ (h : RawHost). IsTrue (is_name h.name)) h hs legal))
 
 is_there : {A : Type 0} (o : Option A) (x : A) → o ≡ Some x → is_some o ≡ true
 is_there o x is = ap is_some is
 
-declared : (w : Written) (name : List ℕ) (k : ℕ) → host_named (network_hosts w) name ≡ Some k → IsTrue (is_declared w name)
+declared : (w : RawDescription) (name : List ℕ) (k : ℕ) → host_named (network_hosts w) name ≡ Some k → IsTrue (is_declared w name)
 declared w name k is = sym (is_host w name) ∙ is_there (host_named (network_hosts w) name) k is
 
 -- A table with version number 2 is of version 2.
 second_by : (n : ℤ) (o : Option ℤ) → o ≡ Some n → IsTrue (says_second o) → n ≡ pos 2
 second_by n o is second = (Decides-int_eq n (pos 2)).0 (sym (ap says_second is) ∙ second)
 
-second_said : (table : Members) (w : Written) → IsWritten table w → IsTrue (says_second (version_said table)) → w.version ≡ pos 2
+second_said : (table : Members) (w : RawDescription) → IsRawOf table w → IsTrue (says_second (declared_version table)) → w.version ≡ pos 2
 unfolding integer_at
-second_said table w is second = second_by w.version (version_said table) (said_version (get_member (codes "topos") table) w.version is.version) second
+second_said table w is second = second_by w.version (declared_version table) (said_version (get_member (codes "topos") table) w.version is.version) second
 
-whole_by : (table : Members) (w : Written) (texts : List (List ℕ)) → IsWritten table w → (texts ≡ []) ⊎ IsTrue (says_second (version_said table))
+whole_by : (table : Members) (w : RawDescription) (texts : List (List ℕ)) → IsRawOf table w → (texts ≡ []) ⊎ IsTrue (says_second (declared_version table))
     → w.version ≢ pos 2 → texts ≡ []
 whole_by table w texts is (inl none) other = none
 whole_by table w texts is (inr second) other = absurd (other (second_said table w is second))
 
 -- A valid new flow, in a raw description.
-record IsNewFlow (table : Members) (w : Written) (from to : List ℕ) (texts : List (List ℕ)) (f : Flow) (ss : List Service) : Type 0 where
+record IsNewFlow (table : Members) (w : RawDescription) (from to : List ℕ) (texts : List (List ℕ)) (f : Flow) (ss : List Service) : Type 0 where
   ends : AreEnds (network_hosts w) from to f
   fresh : IsFalse (has (flows_among (network_hosts w) w.flows) f)
   services : each service_of texts ≡ Some ss
   few : length texts ≤ service_limit
-  version : (texts ≡ []) ⊎ IsTrue (says_second (version_said table))
+  version : (texts ≡ []) ⊎ IsTrue (says_second (declared_version table))
 
-abbrev new_flow : (from to : List ℕ) → List (List ℕ) → WrittenFlow
+abbrev new_flow : (from to : List ℕ) → List (List ℕ) → RawFlow
 new_flow from to texts = record { from = from; to = to; services = texts }
 
 names_differ : (hosts : List Host) (from to : List ℕ) (f : Flow) → AreEnds hosts from to f → from ≢ to
@@ -135,7 +135,7 @@ names_differ hosts from to f ends same =
 all_said : (texts : List (List ℕ)) (ss : List Service) → each service_of texts ≡ Some ss → All (λ text. IsTrue (is_some (service_of text))) texts
 all_said texts ss is = (all_tested (λ text. is_some (service_of text)) texts).0 (sym (each_is service_of texts) ∙ is_there (each service_of texts) ss is)
 
-right_more : (table : Members) (flows : List Data) (w : Written) (from to : List ℕ) (texts : List (List ℕ)) (f : Flow) (ss : List Service) → IsListing table flows w
+right_more : (table : Members) (flows : List Data) (w : RawDescription) (from to : List ℕ) (texts : List (List ℕ)) (f : Flow) (ss : List Service) → IsListing table flows w
     → IsNewFlow table w from to texts f ss → AreRightFlows w (w.flows ++ new_flow from to texts ∷ [])
 right_more table flows w from to texts f ss listing new =
     let v = new_flow from to texts in
@@ -144,17 +144,17 @@ right_more table flows w from to texts f ss listing new =
     let is_to = declared w to f.to new.ends.is_to in
     let apart = all_apart (network_hosts w) from to f w.flows new.ends new.fresh in
     record {
-      whole = λ other. All-push (λ (g : WrittenFlow). g.services ≡ []) w.flows v (own.whole other) (whole_by table w texts listing.is_written new.version other);
-      named = All-push (λ (g : WrittenFlow). IsTrue (is_name g.from) × IsTrue (is_name g.to)) w.flows v own.named
+      whole = λ other. All-push (λ (g : RawFlow). g.services ≡ []) w.flows v (own.whole other) (whole_by table w texts listing.is_written new.version other);
+      named = All-push (λ (g : RawFlow). IsTrue (is_name g.from) × IsTrue (is_name g.to)) w.flows v own.named
           (declared_name from w.hosts listing.hosts.host_names is_from, declared_name to w.hosts listing.hosts.host_names is_to);
-      joined = All-push (λ (g : WrittenFlow). IsTrue (is_declared w g.from) × IsTrue (is_declared w g.to)) w.flows v own.joined (is_from, is_to);
-      apart = All-push (λ (g : WrittenFlow). g.from ≢ g.to) w.flows v own.apart (names_differ (network_hosts w) from to f new.ends);
-      different = all_pairs_push (λ (g h : WrittenFlow). g.from ≡ h.from → g.to ≡ h.to → ⊥) w.flows v own.different (λ k d within. apart k d within);
-      services = All-push (λ (g : WrittenFlow). All (λ text. IsTrue (is_some (service_of text))) g.services) w.flows v own.services (all_said texts ss new.services);
-      few = All-push (λ (g : WrittenFlow). length g.services ≤ service_limit) w.flows v own.few new.few;
+      joined = All-push (λ (g : RawFlow). IsTrue (is_declared w g.from) × IsTrue (is_declared w g.to)) w.flows v own.joined (is_from, is_to);
+      apart = All-push (λ (g : RawFlow). g.from ≢ g.to) w.flows v own.apart (names_differ (network_hosts w) from to f new.ends);
+      different = all_pairs_push (λ (g h : RawFlow). g.from ≡ h.from → g.to ≡ h.to → ⊥) w.flows v own.different (λ k d within. apart k d within);
+      services = All-push (λ (g : RawFlow). All (λ text. IsTrue (is_some (service_of text))) g.services) w.flows v own.services (all_said texts ss new.services);
+      few = All-push (λ (g : RawFlow). length g.services ≤ service_limit) w.flows v own.few new.few;
     }
 
-network_more : (w : Written) (from to : List ℕ) (texts : List (List ℕ)) (f : Flow) (ss : List Service) → w.given ≡ true → AreEnds (network_hosts w) from to f
+network_more : (w : RawDescription) (from to : List ℕ) (texts : List (List ℕ)) (f : Flow) (ss : List Service) → w.given ≡ true → AreEnds (network_hosts w) from to f
     → IsFalse (has (flows_among (network_hosts w) w.flows) f) → each service_of texts ≡ Some ss
     → network_of (with_flows w (w.flows ++ new_flow from to texts ∷ [])) ≡ asking_more (network_of w) f ss
 network_more w from to texts f ss given ends fresh said =
@@ -171,7 +171,7 @@ network_more w from to texts f ss given ends fresh said =
     own_names : (from to : List ℕ) → is_named from to (new_flow from to texts) ≡ true
     own_names from to = let first = (bytes_eq-Decides from from).1 refl in let second = (bytes_eq-Decides to to).1 refl in rw (first, second) refl
 
-added_to : (table : Members) (flows : List Data) (w : Written) (from to : List ℕ) (texts : List (List ℕ)) (f : Flow) (ss : List Service) → IsListing table flows w
+added_to : (table : Members) (flows : List Data) (w : RawDescription) (from to : List ℕ) (texts : List (List ℕ)) (f : Flow) (ss : List Service) → IsListing table flows w
     → IsNewFlow table w from to texts f ss
     → described_by_table (with_list (codes "flow") (flows ++ text_list (from ∷ to ∷ texts) ∷ []) table) ≡ Ok (asking_more (network_of w) f ss)
 added_to table flows w from to texts f ss listing new =
@@ -249,23 +249,23 @@ asked_listed table flows d from to f there said asked =
 
 -- ---- one fewer flow
 
-right_less : (w : Written) (from to : List ℕ) → AreRightFlows w w.flows → AreRightFlows w (other_flows from to w.flows)
+right_less : (w : RawDescription) (from to : List ℕ) → AreRightFlows w w.flows → AreRightFlows w (other_flows from to w.flows)
 right_less w from to own =
-    let other = λ (g : WrittenFlow). not (is_named from to g) in
+    let other = λ (g : RawFlow). not (is_named from to g) in
     record {
-      whole = λ version. All-filter other (λ (g : WrittenFlow). g.services ≡ []) w.flows (own.whole version);
-      named = All-filter other (λ (g : WrittenFlow). IsTrue (is_name g.from) × IsTrue (is_name g.to)) w.flows own.named;
-      joined = All-filter other (λ (g : WrittenFlow). IsTrue (is_declared w g.from) × IsTrue (is_declared w g.to)) w.flows own.joined;
-      apart = All-filter other (λ (g : WrittenFlow). g.from ≢ g.to) w.flows own.apart;
-      different = AllPairs-filter (λ (g h : WrittenFlow). g.from ≡ h.from → g.to ≡ h.to → ⊥) other w.flows own.different;
-      services = All-filter other (λ (g : WrittenFlow). All (λ text. IsTrue (is_some (service_of text))) g.services) w.flows own.services;
-      few = All-filter other (λ (g : WrittenFlow). length g.services ≤ service_limit) w.flows own.few;
+      whole = λ version. All-filter other (λ (g : RawFlow). g.services ≡ []) w.flows (own.whole version);
+      named = All-filter other (λ (g : RawFlow). IsTrue (is_name g.from) × IsTrue (is_name g.to)) w.flows own.named;
+      joined = All-filter other (λ (g : RawFlow). IsTrue (is_declared w g.from) × IsTrue (is_declared w g.to)) w.flows own.joined;
+      apart = All-filter other (λ (g : RawFlow). g.from ≢ g.to) w.flows own.apart;
+      different = AllPairs-filter (λ (g h : RawFlow). g.from ≡ h.from → g.to ≡ h.to → ⊥) other w.flows own.different;
+      services = All-filter other (λ (g : RawFlow). All (λ text. IsTrue (is_some (service_of text))) g.services) w.flows own.services;
+      few = All-filter other (λ (g : RawFlow). length g.services ≤ service_limit) w.flows own.few;
     }
 
-ordered_set : (hosts : List Host) (ws : List WrittenFlow) → length hosts ≤ 256 → IsOrdered (set_of (flows_among hosts ws))
+ordered_set : (hosts : List Host) (ws : List RawFlow) → length hosts ≤ 256 → IsOrdered (set_of (flows_among hosts ws))
 ordered_set hosts ws small = (IsFlowSet-set_of (length hosts) (flows_among hosts ws) small (are_between hosts ws)).ordered
 
-asked_less : (hosts : List Host) (ws : List WrittenFlow) (from to : List ℕ) (f : Flow) → length hosts ≤ 256 → AreEnds hosts from to f
+asked_less : (hosts : List Host) (ws : List RawFlow) (from to : List ℕ) (f : Flow) → length hosts ≤ 256 → AreEnds hosts from to f
     → set_of (flows_among hosts (other_flows from to ws)) ≡ without_flow (set_of (flows_among hosts ws)) f
 asked_less hosts ws from to f small ends =
     flows_ext (set_of (flows_among hosts (other_flows from to ws))) (without_flow (set_of (flows_among hosts ws)) f)
@@ -275,14 +275,14 @@ asked_less hosts ws from to f small ends =
     ∙ ap (λ b. b && not (same_flow f g)) (sym (has-set_of (flows_among hosts ws) g))
     ∙ sym (has-without_flow (set_of (flows_among hosts ws)) f g))
 
-network_less : (w : Written) (from to : List ℕ) (f : Flow) → w.given ≡ true → length (network_hosts w) ≤ 256 → AreEnds (network_hosts w) from to f
+network_less : (w : RawDescription) (from to : List ℕ) (f : Flow) → w.given ≡ true → length (network_hosts w) ≤ 256 → AreEnds (network_hosts w) from to f
     → network_of (with_flows w (other_flows from to w.flows)) ≡ asking_less (network_of w) f
 network_less w from to f given small ends =
     let hosts = network_hosts w in
     let flows : set_of (flows_among hosts (other_flows from to w.flows)) ≡ without_flow (network_of w).asked.flows f =
     asked_less hosts w.flows from to f small ends ∙ ap (λ (fs : List Flow). without_flow fs f) (sym (asked_listed_of w given)) in
     let narrowed : narrowed_among hosts (other_flows from to w.flows) ≡ without_services (network_of w).services f =
-    services_less hosts from to f w.flows ends ∙ ap (λ (ns : List NarrowedFlow). without_services ns f) (sym (services_listed_of w)) in
+    services_less hosts from to f w.flows ends ∙ ap (λ (ns : List RestrictedFlow). without_services ns f) (sym (services_listed_of w)) in
     network_with w (other_flows from to w.flows) given ∙ (λ i. asking_with (network_of w) (flows i) (narrowed i))
 
 few_hosts : (table : Members) (d : Network) → described_by_table table ≡ Ok d → length (network_hosts (written table)) ≤ 256
@@ -323,5 +323,5 @@ pub unnarrowed : (table : Members) (d : Network) (f : Flow) → described_by_tab
 unnarrowed table d f said none =
     let w = written table in
     let services : narrowed_among (network_hosts w) w.flows ≡ d.services = sym (services_listed_of w) ∙ ap (λ (n : Network). n.services) (accepted table d said).network in
-    subst (λ (ns : List NarrowedFlow). without_services ns f ≡ ns) services
-    (services_whole (network_hosts w) w.flows f (subst (λ (ns : List NarrowedFlow). services_of ns f.from f.to ≡ []) (sym services) none))
+    subst (λ (ns : List RestrictedFlow). without_services ns f ≡ ns) services
+    (services_whole (network_hosts w) w.flows f (subst (λ (ns : List RestrictedFlow). services_of ns f.from f.to ≡ []) (sym services) none))

@@ -13,10 +13,10 @@ use Rattle.toml.specs.Data.{Data, string, as_str}
 use Rattle.desc_core.proofs.ServicesLemmas.{AreLeft, is_new, one_added}
 use Rattle.desc_core.specs.Flows.{flow_of_names}
 use Rattle.desc_core.specs.inner.Parts.{with_services}
-use Rattle.desc_core.specs.WrittenNetwork.{narrowed_of, narrowed_to, services_said}
+use Rattle.desc_core.specs.RawNetwork.{narrowed_of, narrowed_to, declared_services}
 use Rattle.desc_form.proofs.FlowLaws.{flow_says}
-use Rattle.desc_form.specs.WrittenFlow.{WrittenFlow, flow_of_texts, flow_of_values, flow_written}
-use Rattle.desc_form.specs.inner.WrittenForm.{IsFlow}
+use Rattle.desc_form.specs.RawFlow.{RawFlow, flow_of_texts, flow_of_values, raw_flow}
+use Rattle.desc_form.specs.inner.RawForm.{IsFlow}
 use Rattle.edit_core.proofs.FlowTables.{listed_again}
 use Rattle.edit_core.specs.Edited.{begins_with, is_between, text_list}
 use Rattle.edit_core.specs.inner.FlowEdits.{without_services}
@@ -26,7 +26,7 @@ use Rattle.flow_set.specs.FlowSet.{has, set_of, with_flow}
 use Rattle.flow_set.specs.declared.flow.Flow.{Flow}
 use Rattle.host_net.specs.Host.{Host, host_named}
 use Rattle.host_net.proofs.NamedLaws.{one_name}
-use Rattle.host_net.specs.Services.{NarrowedFlow, services_of}
+use Rattle.host_net.specs.Services.{RestrictedFlow, services_of}
 use Rattle.host_net.specs.ServiceText.{service_of}
 use Rattle.host_net.specs.declared.service.Service.{Service}
 use Rattle.table_core.specs.Listing.{each}
@@ -36,60 +36,60 @@ use Rattle.text_core.specs.Steps.{◌>>=◌}
 -- ---- the elements of a table
 
 -- The flow has the names of these hosts.
-abbrev pub is_named : (from to : List ℕ) → WrittenFlow → Bool
+abbrev pub is_named : (from to : List ℕ) → RawFlow → Bool
 is_named from to w = bytes_eq from w.from && bytes_eq to w.to
 
 -- Whether an element begins with two names, in terms of the flow that it denotes.
-names_by : (from to : List ℕ) (x y : Option (List ℕ)) (rest : Option (List (List ℕ))) (w : WrittenFlow)
+names_by : (from to : List ℕ) (x y : Option (List ℕ)) (rest : Option (List (List ℕ))) (w : RawFlow)
     → (option_and_then (λ a. option_map (λ xs. a ∷ xs) (option_and_then (λ b. option_map (λ xs. b ∷ xs) rest) y)) x >>= flow_of_texts) ≡ Some w
     → (option_map_or (bytes_eq from) x false && option_map_or (bytes_eq to) y false) ≡ is_named from to w
 names_by from to None y rest w is = cc
 names_by from to (Some a) None rest w is = cc
 names_by from to (Some a) (Some b) None w is = cc
 names_by from to (Some a) (Some b) (Some ts) w is =
-    let said : WrittenFlow = record { from = a; to = b; services = ts } in
+    let said : RawFlow = record { from = a; to = b; services = ts } in
     let same : said ≡ w = cc in
     ap (is_named from to) same
 
-one_alone : (x : Option (List ℕ)) (w : WrittenFlow) → (option_and_then (λ a. option_map (λ xs. a ∷ xs) (Some [])) x >>= flow_of_texts) ≡ Some w → ⊥
+one_alone : (x : Option (List ℕ)) (w : RawFlow) → (option_and_then (λ a. option_map (λ xs. a ∷ xs) (Some [])) x >>= flow_of_texts) ≡ Some w → ⊥
 one_alone None w is = cc
 one_alone (Some a) w is = cc
 
-begins_said : (from to : List ℕ) (ds : List Data) (w : WrittenFlow) → flow_of_values ds ≡ Some w → begins_with from to ds ≡ is_named from to w
+begins_said : (from to : List ℕ) (ds : List Data) (w : RawFlow) → flow_of_values ds ≡ Some w → begins_with from to ds ≡ is_named from to w
 begins_said from to [] w is = cc
 begins_said from to (x ∷ []) w is = absurd (one_alone (as_str x) w is)
 begins_said from to (x ∷ y ∷ ds) w is = names_by from to (as_str x) (as_str y) (each as_str ds) w is
 
-between_by : (from to : List ℕ) (o : Option (List Data)) (w : WrittenFlow) → (o >>= flow_of_values) ≡ Some w
+between_by : (from to : List ℕ) (o : Option (List Data)) (w : RawFlow) → (o >>= flow_of_values) ≡ Some w
     → option_map_or (begins_with from to) o false ≡ is_named from to w
 between_by from to None w is = cc
 between_by from to (Some ds) w is = begins_said from to ds w is
 
-between_said : (from to : List ℕ) (d : Data) (w : WrittenFlow) → IsFlow d w → is_between from to d ≡ is_named from to w
-unfolding flow_written
+between_said : (from to : List ℕ) (d : Data) (w : RawFlow) → IsFlow d w → is_between from to d ≡ is_named from to w
+unfolding raw_flow
 between_said from to d w is = between_by from to (elements_of d) w (flow_says d w is)
 
-pub any_said : (from to : List ℕ) (ds : List Data) (ws : List WrittenFlow) → AllZip IsFlow ds ws → list_any (is_between from to) ds ≡ list_any (is_named from to) ws
+pub any_said : (from to : List ℕ) (ds : List Data) (ws : List RawFlow) → AllZip IsFlow ds ws → list_any (is_between from to) ds ≡ list_any (is_named from to) ws
 any_said from to [] [] zipped = refl
 any_said from to [] (w ∷ ws) zipped = absurd zipped
 any_said from to (d ∷ ds) [] zipped = absurd zipped
 any_said from to (d ∷ ds) (w ∷ ws) (is, zipped) = λ i. between_said from to d w is i || any_said from to ds ws zipped i
 
 -- The elements and the flows that remain.
-abbrev pub other_flows : (from to : List ℕ) → List WrittenFlow → List WrittenFlow
+abbrev pub other_flows : (from to : List ℕ) → List RawFlow → List RawFlow
 other_flows from to ws = filter (λ w. not (is_named from to w)) ws
 
 abbrev pub other_elements : (from to : List ℕ) → List Data → List Data
 other_elements from to ds = filter (λ d. not (is_between from to d)) ds
 
-left_by : (b c : Bool) (d : Data) (w : WrittenFlow) (ds : List Data) (ws : List WrittenFlow) → b ≡ c → IsFlow d w → AllZip IsFlow ds ws
+left_by : (b c : Bool) (d : Data) (w : RawFlow) (ds : List Data) (ws : List RawFlow) → b ≡ c → IsFlow d w → AllZip IsFlow ds ws
     → AllZip IsFlow (cond (not b) (d ∷ ds) ds) (cond (not c) (w ∷ ws) ws)
 left_by true true d w ds ws same is zipped = zipped
 left_by false false d w ds ws same is zipped = (is, zipped)
 left_by true false d w ds ws same is zipped = cc
 left_by false true d w ds ws same is zipped = cc
 
-pub others_zipped : (from to : List ℕ) (ds : List Data) (ws : List WrittenFlow) → AllZip IsFlow ds ws
+pub others_zipped : (from to : List ℕ) (ds : List Data) (ws : List RawFlow) → AllZip IsFlow ds ws
     → AllZip IsFlow (other_elements from to ds) (other_flows from to ws)
 others_zipped from to [] [] zipped = tt
 others_zipped from to [] (w ∷ ws) zipped = absurd zipped
@@ -98,7 +98,7 @@ others_zipped from to (d ∷ ds) (w ∷ ws) (is, zipped) =
     left_by (is_between from to d) (is_named from to w) d w (other_elements from to ds) (other_flows from to ws) (between_said from to d w is) is
     (others_zipped from to ds ws zipped)
 
-pub zipped_more : (ds : List Data) (ws : List WrittenFlow) (d : Data) (w : WrittenFlow) → AllZip IsFlow ds ws → IsFlow d w
+pub zipped_more : (ds : List Data) (ws : List RawFlow) (d : Data) (w : RawFlow) → AllZip IsFlow ds ws → IsFlow d w
     → AllZip IsFlow (ds ++ d ∷ []) (ws ++ w ∷ [])
 zipped_more [] [] d w zipped is = (is, tt)
 zipped_more [] (v ∷ ws) d w zipped is = absurd zipped
@@ -111,8 +111,8 @@ texts_said [] = refl
 texts_said (w ∷ ws) = ap (option_map (λ (xs : List (List ℕ)). w ∷ xs)) (texts_said ws)
 
 pub flow_said : (from to : List ℕ) (texts : List (List ℕ))
-    → flow_written (text_list (from ∷ to ∷ texts)) ≡ Some (record { from = from; to = to; services = texts })
-unfolding flow_written
+    → raw_flow (text_list (from ∷ to ∷ texts)) ≡ Some (record { from = from; to = to; services = texts })
+unfolding raw_flow
 flow_said from to texts =
     ap (λ (o : Option (List Data)). o >>= flow_of_values) (listed_again (map string (from ∷ to ∷ texts)))
     ∙ ap (λ (o : Option (List (List ℕ))). o >>= flow_of_texts) (texts_said (from ∷ to ∷ texts))
@@ -141,7 +141,7 @@ ends_by (Some a) None h is = cc
 ends_by (Some a) (Some b) h is = unless_by (a == b) a b h is
 
 -- The hosts of a flow have its names.
-ends_are : (hosts : List Host) (w : WrittenFlow) (h : Flow) → flow_of_names hosts w ≡ Some h → (host_named hosts w.from ≡ Some h.from) × (host_named hosts w.to ≡ Some h.to)
+ends_are : (hosts : List Host) (w : RawFlow) (h : Flow) → flow_of_names hosts w ≡ Some h → (host_named hosts w.from ≡ Some h.from) × (host_named hosts w.to ≡ Some h.to)
 ends_are hosts w h is = ends_by (host_named hosts w.from) (host_named hosts w.to) h is
 
 -- Two names, and the flow between their hosts.
@@ -150,7 +150,7 @@ pub record AreEnds (hosts : List Host) (from to : List ℕ) (f : Flow) : Type 0 
   pub is_to : host_named hosts to ≡ Some f.to
   pub apart : f.from ≢ f.to
 
-pub one_flow : (hosts : List Host) (from to : List ℕ) (f : Flow) (w : WrittenFlow) → AreEnds hosts from to f → is_named from to w ≡ true
+pub one_flow : (hosts : List Host) (from to : List ℕ) (f : Flow) (w : RawFlow) → AreEnds hosts from to f → is_named from to w ≡ true
     → flow_of_names hosts w ≡ Some f
 one_flow hosts from to f w ends is =
     let both = and_parts (bytes_eq from w.from) (bytes_eq to w.to) is in
@@ -158,7 +158,7 @@ one_flow hosts from to f w ends is =
     let second : host_named hosts w.to ≡ Some f.to = ap (host_named hosts) (sym ((bytes_eq-Decides to w.to).0 both.1)) ∙ ends.is_to in
     between_ends (host_named hosts w.from) (host_named hosts w.to) f.from f.to first second ends.apart
 
-other_flow : (hosts : List Host) (from to : List ℕ) (f h : Flow) (w : WrittenFlow) → AreEnds hosts from to f → is_named from to w ≡ false
+other_flow : (hosts : List Host) (from to : List ℕ) (f h : Flow) (w : RawFlow) → AreEnds hosts from to f → is_named from to w ≡ false
     → flow_of_names hosts w ≡ Some h → same_flow f h ≡ false
 other_flow hosts from to f h w ends is_not leads = elim (cases_Bool (same_flow f h)) [
   | inr other ↦ other
@@ -172,14 +172,14 @@ other_flow hosts from to f h w ends is_not leads = elim (cases_Bool (same_flow f
 
 -- ---- the listed flows
 
-abbrev pub flows_among : List Host → List WrittenFlow → List Flow
+abbrev pub flows_among : List Host → List RawFlow → List Flow
 flows_among hosts ws = filter_map (flow_of_names hosts) ws
 
-abbrev pub narrowed_among : List Host → List WrittenFlow → List NarrowedFlow
+abbrev pub narrowed_among : List Host → List RawFlow → List RestrictedFlow
 narrowed_among hosts ws = filter_map (narrowed_of hosts) ws
 
 -- One of them has these names if their flow is listed.
-named_by : (hosts : List Host) (from to : List ℕ) (f : Flow) (w : WrittenFlow) (o : Option Flow) (b rest : Bool) (fs : List Flow) → AreEnds hosts from to f
+named_by : (hosts : List Host) (from to : List ℕ) (f : Flow) (w : RawFlow) (o : Option Flow) (b rest : Bool) (fs : List Flow) → AreEnds hosts from to f
     → flow_of_names hosts w ≡ o → is_named from to w ≡ b → IsTrue (has (cons_option o fs) f) → (IsTrue (has fs f) → rest ≡ true) → (b || rest) ≡ true
 named_by hosts from to f w o true rest fs ends leads is there later = refl
 named_by hosts from to f w None false rest fs ends leads is there later = later there
@@ -188,7 +188,7 @@ named_by hosts from to f w (Some h) false rest fs ends leads is there later = el
   | inr behind ↦ later behind
 ]
 
-pub named_where : (hosts : List Host) (from to : List ℕ) (f : Flow) (ws : List WrittenFlow) → AreEnds hosts from to f → IsTrue (has (flows_among hosts ws) f)
+pub named_where : (hosts : List Host) (from to : List ℕ) (f : Flow) (ws : List RawFlow) → AreEnds hosts from to f → IsTrue (has (flows_among hosts ws) f)
     → list_any (is_named from to) ws ≡ true
 named_where hosts from to f [] ends there = has_nothing f there
 named_where hosts from to f (w ∷ ws) ends there =
@@ -197,7 +197,7 @@ named_where hosts from to f (w ∷ ws) ends there =
 
 -- ---- one more flow
 
-pub asked_more : (hosts : List Host) (ws : List WrittenFlow) (w : WrittenFlow) (f : Flow) → flow_of_names hosts w ≡ Some f
+pub asked_more : (hosts : List Host) (ws : List RawFlow) (w : RawFlow) (f : Flow) → flow_of_names hosts w ≡ Some f
     → set_of (flows_among hosts (ws ++ w ∷ [])) ≡ with_flow (set_of (flows_among hosts ws)) f
 unfolding set_of
 asked_more hosts ws w f leads =
@@ -210,8 +210,8 @@ behind_fails None fs f none = none
 behind_fails (Some h) fs f none = (or_parts (same_flow h f) (has fs f) none).1
 
 -- No listed flow has names whose flow is not listed.
-none_named : (hosts : List Host) (from to : List ℕ) (f : Flow) (ws : List WrittenFlow) → AreEnds hosts from to f → IsFalse (has (flows_among hosts ws) f)
-    → AllByRecursion (λ (w : WrittenFlow). w.from ≡ from → w.to ≡ to → ⊥) ws
+none_named : (hosts : List Host) (from to : List ℕ) (f : Flow) (ws : List RawFlow) → AreEnds hosts from to f → IsFalse (has (flows_among hosts ws) f)
+    → AllByRecursion (λ (w : RawFlow). w.from ≡ from → w.to ≡ to → ⊥) ws
 none_named hosts from to f [] ends none = tt
 none_named hosts from to f (w ∷ ws) ends none = (
   λ first second.
@@ -222,12 +222,12 @@ none_named hosts from to f (w ∷ ws) ends none = (
   none_named hosts from to f ws ends (behind_fails (flow_of_names hosts w) (flows_among hosts ws) f none),
 )
 
-pub all_apart : (hosts : List Host) (from to : List ℕ) (f : Flow) (ws : List WrittenFlow) → AreEnds hosts from to f → IsFalse (has (flows_among hosts ws) f)
-    → All (λ (w : WrittenFlow). w.from ≡ from → w.to ≡ to → ⊥) ws
-all_apart hosts from to f ws ends none = All-from_recursion (λ (w : WrittenFlow). w.from ≡ from → w.to ≡ to → ⊥) ws (none_named hosts from to f ws ends none)
+pub all_apart : (hosts : List Host) (from to : List ℕ) (f : Flow) (ws : List RawFlow) → AreEnds hosts from to f → IsFalse (has (flows_among hosts ws) f)
+    → All (λ (w : RawFlow). w.from ≡ from → w.to ≡ to → ⊥) ws
+all_apart hosts from to f ws ends none = All-from_recursion (λ (w : RawFlow). w.from ≡ from → w.to ≡ to → ⊥) ws (none_named hosts from to f ws ends none)
 
 -- Its services are appended to the others.
-new_by : (o : Option Flow) (ss : List Service) (ns : List NarrowedFlow) (fs : List Flow) (f : Flow) → IsFalse (has (cons_option o fs) f) → is_new ns f ≡ true
+new_by : (o : Option Flow) (ss : List Service) (ns : List RestrictedFlow) (fs : List Flow) (f : Flow) → IsFalse (has (cons_option o fs) f) → is_new ns f ≡ true
     → is_new (cons_option (option_and_then (λ flow. narrowed_to flow ss) o) ns) f ≡ true
 new_by None ss ns fs f none new = new
 new_by (Some h) [] ns fs f none new = new
@@ -235,24 +235,24 @@ new_by (Some h) (s ∷ ss) ns fs f none new =
     let other : same_flow f h ≡ false = same_flow_sym f h ∙ (or_parts (same_flow h f) (has fs f) none).0 in
     and_from (not (same_flow f h)) (is_new ns f) (ap not other) new
 
-new_where : (hosts : List Host) (ws : List WrittenFlow) (f : Flow) → IsFalse (has (flows_among hosts ws) f) → is_new (narrowed_among hosts ws) f ≡ true
+new_where : (hosts : List Host) (ws : List RawFlow) (f : Flow) → IsFalse (has (flows_among hosts ws) f) → is_new (narrowed_among hosts ws) f ≡ true
 new_where hosts [] f none = refl
 new_where hosts (w ∷ ws) f none =
-    new_by (flow_of_names hosts w) (services_said w) (narrowed_among hosts ws) (flows_among hosts ws) f none
+    new_by (flow_of_names hosts w) (declared_services w) (narrowed_among hosts ws) (flows_among hosts ws) f none
     (new_where hosts ws f (behind_fails (flow_of_names hosts w) (flows_among hosts ws) f none))
 
-services_behind : (ns : List NarrowedFlow) (f : Flow) (w : WrittenFlow) → is_new ns f ≡ true
-    → with_services ns f (services_said w) ≡ ns ++ cons_option (narrowed_to f (services_said w)) []
+services_behind : (ns : List RestrictedFlow) (f : Flow) (w : RawFlow) → is_new ns f ≡ true
+    → with_services ns f (declared_services w) ≡ ns ++ cons_option (narrowed_to f (declared_services w)) []
 services_behind ns f w new =
-    let left : AreLeft ns (f ∷ []) (w ∷ []) (ns ++ cons_option (narrowed_to f (services_said w)) []) =
+    let left : AreLeft ns (f ∷ []) (w ∷ []) (ns ++ cons_option (narrowed_to f (declared_services w)) []) =
     record { new = and_from (is_new ns f) true new refl; different = refl; so_far = refl } in
-    sym (append-nil (with_services ns f (services_said w))) ∙ (one_added ns f [] w [] (ns ++ cons_option (narrowed_to f (services_said w)) []) left).so_far
+    sym (append-nil (with_services ns f (declared_services w))) ∙ (one_added ns f [] w [] (ns ++ cons_option (narrowed_to f (declared_services w)) []) left).so_far
 
-pub services_more : (hosts : List Host) (ws : List WrittenFlow) (w : WrittenFlow) (f : Flow) → flow_of_names hosts w ≡ Some f → IsFalse (has (flows_among hosts ws) f)
-    → narrowed_among hosts (ws ++ w ∷ []) ≡ with_services (narrowed_among hosts ws) f (services_said w)
+pub services_more : (hosts : List Host) (ws : List RawFlow) (w : RawFlow) (f : Flow) → flow_of_names hosts w ≡ Some f → IsFalse (has (flows_among hosts ws) f)
+    → narrowed_among hosts (ws ++ w ∷ []) ≡ with_services (narrowed_among hosts ws) f (declared_services w)
 services_more hosts ws w f leads none =
     filter_map-append (narrowed_of hosts) ws (w ∷ [])
-    ∙ ap (λ (o : Option Flow). narrowed_among hosts ws ++ cons_option (option_and_then (λ flow. narrowed_to flow (services_said w)) o) []) leads
+    ∙ ap (λ (o : Option Flow). narrowed_among hosts ws ++ cons_option (option_and_then (λ flow. narrowed_to flow (declared_services w)) o) []) leads
     ∙ sym (services_behind (narrowed_among hosts ws) f w (new_where hosts ws f none))
 
 -- Strings that are parsed denote services.
@@ -271,7 +271,7 @@ services_read (text ∷ texts) ss is = said_by text (service_of text) texts (eac
 
 -- ---- one fewer flow
 
-kept_by : {A : Type 0} (F : WrittenFlow → Option A) (b : Bool) (w : WrittenFlow) (ws : List WrittenFlow)
+kept_by : {A : Type 0} (F : RawFlow → Option A) (b : Bool) (w : RawFlow) (ws : List RawFlow)
     → filter_map F (cond (not b) (w ∷ ws) ws) ≡ (if b then filter_map F ws else cons_option (F w) (filter_map F ws))
 kept_by F true w ws = refl
 kept_by F false w ws = refl
@@ -304,7 +304,7 @@ less_by false None left rest f g between elsewhere so_far = so_far
 less_by false (Some h) left rest f g between elsewhere so_far =
     kept_first (same_flow h g) (same_flow f g) (has left g) (has rest g) (λ same. apart_of f h g (elsewhere refl h refl) same) so_far
 
-pub has_less : (hosts : List Host) (from to : List ℕ) (f g : Flow) (ws : List WrittenFlow) → AreEnds hosts from to f
+pub has_less : (hosts : List Host) (from to : List ℕ) (f g : Flow) (ws : List RawFlow) → AreEnds hosts from to f
     → has (flows_among hosts (other_flows from to ws)) g ≡ (has (flows_among hosts ws) g && not (same_flow f g))
 has_less hosts from to f g [] ends = refl
 has_less hosts from to f g (w ∷ ws) ends =
@@ -314,7 +314,7 @@ has_less hosts from to f g (w ∷ ws) ends =
     (λ is_not h leads. other_flow hosts from to f h w ends is_not leads)
     (has_less hosts from to f g ws ends)
 
-fewer_by : (is : Bool) (o : Option Flow) (ss : List Service) (left rest : List NarrowedFlow) (f : Flow) → (is ≡ true → o ≡ Some f)
+fewer_by : (is : Bool) (o : Option Flow) (ss : List Service) (left rest : List RestrictedFlow) (f : Flow) → (is ≡ true → o ≡ Some f)
     → (is ≡ false → (h : Flow) → o ≡ Some h → IsFalse (same_flow f h)) → left ≡ without_services rest f
     → (if is then left else cons_option (option_and_then (λ flow. narrowed_to flow ss) o) left)
     ≡ without_services (cons_option (option_and_then (λ flow. narrowed_to flow ss) o) rest) f
@@ -324,32 +324,32 @@ fewer_by true (Some h) (s ∷ ss) left rest f between elsewhere so_far =
     let led = between refl in
     let same : f ≡ h = cc in
     let own : same_flow f h ≡ true = subst (λ (x : Flow). same_flow f x ≡ true) same (same_flow_self f) in
-    let n : NarrowedFlow = record { from = h.from; to = h.to; services = s ∷ ss } in
+    let n : RestrictedFlow = record { from = h.from; to = h.to; services = s ∷ ss } in
     so_far ∙ ap (λ b. cond (not b) (n ∷ without_services rest f) (without_services rest f)) (sym own)
 fewer_by false None ss left rest f between elsewhere so_far = so_far
 fewer_by false (Some h) [] left rest f between elsewhere so_far = so_far
 fewer_by false (Some h) (s ∷ ss) left rest f between elsewhere so_far =
-    let n : NarrowedFlow = record { from = h.from; to = h.to; services = s ∷ ss } in
-    ap (λ (ns : List NarrowedFlow). n ∷ ns) so_far
+    let n : RestrictedFlow = record { from = h.from; to = h.to; services = s ∷ ss } in
+    ap (λ (ns : List RestrictedFlow). n ∷ ns) so_far
     ∙ ap (λ b. cond (not b) (n ∷ without_services rest f) (without_services rest f)) (sym (elsewhere refl h refl))
 
-pub services_less : (hosts : List Host) (from to : List ℕ) (f : Flow) (ws : List WrittenFlow) → AreEnds hosts from to f
+pub services_less : (hosts : List Host) (from to : List ℕ) (f : Flow) (ws : List RawFlow) → AreEnds hosts from to f
     → narrowed_among hosts (other_flows from to ws) ≡ without_services (narrowed_among hosts ws) f
 services_less hosts from to f [] ends = refl
 services_less hosts from to f (w ∷ ws) ends =
     kept_by (narrowed_of hosts) (is_named from to w) w (other_flows from to ws)
-    ∙ fewer_by (is_named from to w) (flow_of_names hosts w) (services_said w) (narrowed_among hosts (other_flows from to ws)) (narrowed_among hosts ws) f
+    ∙ fewer_by (is_named from to w) (flow_of_names hosts w) (declared_services w) (narrowed_among hosts (other_flows from to ws)) (narrowed_among hosts ws) f
     (λ is. one_flow hosts from to f w ends is)
     (λ is_not h leads. other_flow hosts from to f h w ends is_not leads)
     (services_less hosts from to f ws ends)
 
 -- An unrestricted flow is not among the restricted ones.
-kept_whole : (b : Bool) (n : NarrowedFlow) (s : Service) (ss : List Service) (rest : List NarrowedFlow) (behind : List Service) (left : List NarrowedFlow)
+kept_whole : (b : Bool) (n : RestrictedFlow) (s : Service) (ss : List Service) (rest : List RestrictedFlow) (behind : List Service) (left : List RestrictedFlow)
     → (if b then s ∷ ss else behind) ≡ [] → (behind ≡ [] → left ≡ rest) → cond (not b) (n ∷ left) left ≡ n ∷ rest
 kept_whole true n s ss rest behind left none later = cc
-kept_whole false n s ss rest behind left none later = ap (λ (ns : List NarrowedFlow). n ∷ ns) (later none)
+kept_whole false n s ss rest behind left none later = ap (λ (ns : List RestrictedFlow). n ∷ ns) (later none)
 
-whole_by : (o : Option Flow) (ss : List Service) (rest : List NarrowedFlow) (f : Flow)
+whole_by : (o : Option Flow) (ss : List Service) (rest : List RestrictedFlow) (f : Flow)
     → services_of (cons_option (option_and_then (λ flow. narrowed_to flow ss) o) rest) f.from f.to ≡ []
     → (services_of rest f.from f.to ≡ [] → without_services rest f ≡ rest)
     → without_services (cons_option (option_and_then (λ flow. narrowed_to flow ss) o) rest) f ≡ cons_option (option_and_then (λ flow. narrowed_to flow ss) o) rest
@@ -358,13 +358,13 @@ whole_by (Some h) [] rest f none later = later none
 whole_by (Some h) (s ∷ ss) rest f none later =
     kept_whole (same_flow f h) (record { from = h.from; to = h.to; services = s ∷ ss }) s ss rest (services_of rest f.from f.to) (without_services rest f) none later
 
-pub services_whole : (hosts : List Host) (ws : List WrittenFlow) (f : Flow) → services_of (narrowed_among hosts ws) f.from f.to ≡ []
+pub services_whole : (hosts : List Host) (ws : List RawFlow) (f : Flow) → services_of (narrowed_among hosts ws) f.from f.to ≡ []
     → without_services (narrowed_among hosts ws) f ≡ narrowed_among hosts ws
 services_whole hosts [] f none = refl
 services_whole hosts (w ∷ ws) f none =
-    whole_by (flow_of_names hosts w) (services_said w) (narrowed_among hosts ws) f none (services_whole hosts ws f)
+    whole_by (flow_of_names hosts w) (declared_services w) (narrowed_among hosts ws) f none (services_whole hosts ws f)
 
 -- ---- flows of other names
 
-abbrev pub AreTwo : WrittenFlow → WrittenFlow → Type 0
+abbrev pub AreTwo : RawFlow → RawFlow → Type 0
 AreTwo f g = f.from ≡ g.from → f.to ≡ g.to → ⊥

@@ -14,16 +14,16 @@ use Rattle.desc_core.proofs.TableFactsLaws.{described-IsRight}
 use Rattle.desc_core.specs.UseConditions.{is_declared}
 use Rattle.desc_core.specs.inner.UseFacts.{HasUses}
 use Rattle.desc_core.proofs.UseFactsLaws.{has_uses}
-use Rattle.desc_core.specs.WrittenNetwork.{network_of}
+use Rattle.desc_core.specs.RawNetwork.{network_of}
 use Rattle.desc_form.proofs.KeyLaws.{array_zips}
-use Rattle.desc_form.specs.Written.{Written, written}
-use Rattle.desc_form.specs.WrittenFlow.{WrittenFlow}
-use Rattle.desc_form.specs.inner.WrittenForm.{IsAnswers, IsArray, IsFlow, IsHost, IsInteger, IsInvariant, IsTable, IsTemplate, IsWritten, document_names}
-use Rattle.desc_form.proofs.WrittenLaws.{written_stands}
-use Rattle.desc_form.proofs.WrittenOnceLaws.{written_is}
+use Rattle.desc_form.specs.RawDescription.{RawDescription, written}
+use Rattle.desc_form.specs.RawFlow.{RawFlow}
+use Rattle.desc_form.specs.inner.RawForm.{IsAnswers, IsArray, IsFlow, IsHost, IsInteger, IsInvariant, IsTable, IsTemplate, IsRawOf, document_names}
+use Rattle.desc_form.proofs.RawDescriptionLaws.{written_stands}
+use Rattle.desc_form.proofs.RawUniqueLaws.{written_is}
 use Rattle.desc_form.proofs.FactsLaws.{has_hosts}
 use Rattle.desc_form.specs.inner.HostFacts.{HasHosts}
-use Rattle.desc_form.specs.WrittenHosts.{network_hosts}
+use Rattle.desc_form.specs.RawHosts.{network_hosts}
 use Rattle.edit_core.specs.Edited.{with_list}
 use Rattle.host_net.specs.Services.{service_limit}
 use Rattle.host_net.specs.ServiceText.{service_of}
@@ -34,7 +34,7 @@ use Rattle.text_core.specs.Name.{is_name}
 -- ---- the raw description
 
 -- The same with other flows; the key `flow` is present.
-abbrev pub with_flows : Written → List WrittenFlow → Written
+abbrev pub with_flows : RawDescription → List RawFlow → RawDescription
 with_flows w flows = record {
   version = w.version;
   answers = w.answers;
@@ -57,9 +57,9 @@ at_other : (key : List ℕ) (d : Data) (ms : Members) (P : Option Data → Type 
     → P (get_member key ms) → P (get_member key (with_member (codes "flow") d ms))
 at_other key d ms P differs stands = subst P (sym (get_other (codes "flow") key d ms differs)) stands
 
-written_flows : (ms : Members) (w : Written) (ds : List Data) (fs : List WrittenFlow) → IsWritten ms w → AllZip IsFlow ds fs
-    → (w.version ≢ pos 2 → All (λ (f : WrittenFlow). f.services ≡ []) fs)
-    → IsWritten (with_list (codes "flow") ds ms) (with_flows w fs)
+written_flows : (ms : Members) (w : RawDescription) (ds : List Data) (fs : List RawFlow) → IsRawOf ms w → AllZip IsFlow ds fs
+    → (w.version ≢ pos 2 → All (λ (f : RawFlow). f.services ≡ []) fs)
+    → IsRawOf (with_list (codes "flow") ds ms) (with_flows w fs)
 unfolding has_only
 written_flows ms w ds fs is zipped whole =
     let d = array (items_of ds) in
@@ -80,18 +80,18 @@ written_flows ms w ds fs is zipped whole =
 -- ---- valid flows
 
 -- Flows that a description may list.
-pub record AreRightFlows (w : Written) (fs : List WrittenFlow) : Type 0 where
-  pub whole : w.version ≢ pos 2 → All (λ (f : WrittenFlow). f.services ≡ []) fs
-  pub named : All (λ (f : WrittenFlow). IsTrue (is_name f.from) × IsTrue (is_name f.to)) fs
-  pub joined : All (λ (f : WrittenFlow). IsTrue (is_declared w f.from) × IsTrue (is_declared w f.to)) fs
-  pub apart : All (λ (f : WrittenFlow). f.from ≢ f.to) fs
-  pub different : AllPairs (λ (f g : WrittenFlow). f.from ≡ g.from → f.to ≡ g.to → ⊥) fs
-  pub services : All (λ (f : WrittenFlow). All (λ text. IsTrue (is_some (service_of text))) f.services) fs
-  pub few : All (λ (f : WrittenFlow). length f.services ≤ service_limit) fs
+pub record AreRightFlows (w : RawDescription) (fs : List RawFlow) : Type 0 where
+  pub whole : w.version ≢ pos 2 → All (λ (f : RawFlow). f.services ≡ []) fs
+  pub named : All (λ (f : RawFlow). IsTrue (is_name f.from) × IsTrue (is_name f.to)) fs
+  pub joined : All (λ (f : RawFlow). IsTrue (is_declared w f.from) × IsTrue (is_declared w f.to)) fs
+  pub apart : All (λ (f : RawFlow). f.from ≢ f.to) fs
+  pub different : AllPairs (λ (f g : RawFlow). f.from ≡ g.from → f.to ≡ g.to → ⊥) fs
+  pub services : All (λ (f : RawFlow). All (λ text. IsTrue (is_some (service_of text))) f.services) fs
+  pub few : All (λ (f : RawFlow). length f.services ≤ service_limit) fs
 
 -- The raw description of a table that describes a network and lists these flows.
-pub record IsListing (table : Members) (flows : List Data) (w : Written) : Type 0 where
-  pub is_written : IsWritten table w
+pub record IsListing (table : Members) (flows : List Data) (w : RawDescription) : Type 0 where
+  pub is_written : IsRawOf table w
   pub hosts : HasHosts w
   pub uses : HasUses w
   pub zipped : AllZip IsFlow flows w.flows
@@ -102,13 +102,13 @@ given_where None ds is = cc
 given_where (Some d) ds is = refl
 
 -- The flows of the table.
-zipped_where : (ms : Members) (w : Written) (ds : List Data) → list_at (codes "flow") ms ≡ Some ds → IsWritten ms w → AllZip IsFlow ds w.flows
+zipped_where : (ms : Members) (w : RawDescription) (ds : List Data) → list_at (codes "flow") ms ≡ Some ds → IsRawOf ms w → AllZip IsFlow ds w.flows
 unfolding list_at
 zipped_where ms w ds there is =
     subst (λ (o : Option (List Data)). AllZip IsFlow (unwrap_or o []) w.flows) there
     (array_zips IsFlow (get_member (codes "flow") ms) w.flows is.flows)
 
-list_given : (ms : Members) (w : Written) (ds : List Data) → list_at (codes "flow") ms ≡ Some ds → IsWritten ms w → w.given ≡ true
+list_given : (ms : Members) (w : RawDescription) (ds : List Data) → list_at (codes "flow") ms ≡ Some ds → IsRawOf ms w → w.given ≡ true
 unfolding list_at
 list_given ms w ds there is = is.given ∙ given_where (get_member (codes "flow") ms) ds there
 
@@ -126,7 +126,7 @@ listing table flows d there said =
     }
 
 -- Its flows are valid.
-pub own_flows : (table : Members) (flows : List Data) (w : Written) → IsListing table flows w → AreRightFlows w w.flows
+pub own_flows : (table : Members) (flows : List Data) (w : RawDescription) → IsListing table flows w → AreRightFlows w w.flows
 own_flows table flows w listing = record {
   whole = listing.is_written.whole;
   named = listing.hosts.flow_names;
@@ -137,7 +137,7 @@ own_flows table flows w listing = record {
   few = listing.uses.few;
 }
 
-hosts_with : (w : Written) (fs : List WrittenFlow) → HasHosts w → AreRightFlows w fs → HasHosts (with_flows w fs)
+hosts_with : (w : RawDescription) (fs : List RawFlow) → HasHosts w → AreRightFlows w fs → HasHosts (with_flows w fs)
 hosts_with w fs hosts right = record {
   version = hosts.version;
   few_hosts = hosts.few_hosts;
@@ -155,7 +155,7 @@ hosts_with w fs hosts right = record {
   apart = hosts.apart;
 }
 
-uses_with : (w : Written) (fs : List WrittenFlow) → HasUses w → AreRightFlows w fs → HasUses (with_flows w fs)
+uses_with : (w : RawDescription) (fs : List RawFlow) → HasUses w → AreRightFlows w fs → HasUses (with_flows w fs)
 unfolding network_hosts
 uses_with w fs uses right = record {
   templates = uses.templates;
@@ -173,7 +173,7 @@ uses_with w fs uses right = record {
 }
 
 -- The table with other flows describes the network with these flows, if they are valid.
-pub described_with : (table : Members) (flows : List Data) (w : Written) (ds : List Data) (fs : List WrittenFlow) → IsListing table flows w
+pub described_with : (table : Members) (flows : List Data) (w : RawDescription) (ds : List Data) (fs : List RawFlow) → IsListing table flows w
     → AllZip IsFlow ds fs → AreRightFlows w fs → described_by_table (with_list (codes "flow") ds table) ≡ Ok (network_of (with_flows w fs))
 described_with table flows w ds fs listing zipped right =
     let next = with_list (codes "flow") ds table in
@@ -183,4 +183,4 @@ described_with table flows w ds fs listing zipped right =
       written = is;
       hosts = hosts_with w fs listing.hosts right;
       uses = uses_with w fs listing.uses right;
-    }) ∙ ap (λ (v : Written). Ok (network_of v)) (sym (written_is next (with_flows w fs) is))
+    }) ∙ ap (λ (v : RawDescription). Ok (network_of v)) (sym (written_is next (with_flows w fs) is))

@@ -5,7 +5,7 @@ use Rattle.edit_core.proofs.FlowLaws.{added, after_added, after_removed, removed
 use Rattle.edit_core.specs.Edited.{after_edit}
 use Rattle.edit_core.specs.inner.FlowEdits.{asking_less}
 use Rattle.edit_core.specs.inner.InPlace.{IsDone, IsOfFlow, IsTableAfter, network_after}
-use Rattle.edit_core.specs.Summaries.{TellsOf}
+use Rattle.edit_core.specs.Summaries.{Summarizes}
 use Rattle.edit_core.specs.declared.summary.Summary.{Summary}
 use Rattle.edit_core.specs.Edit.{Change, Add, Remove, Set, Unset}
 use Rattle.flow_set.specs.declared.flow.Flow.{Flow}
@@ -40,7 +40,7 @@ table_after (Set k assign) old new d f said right p = absurd right
 table_after (Unset k host) old new d f said right p = absurd right
 
 pub done_after : (change : Change) (old new : Members) (d e : Network) (policy : Policy) (summary : Summary) (f : Flow) → described_by_table old ≡ Ok d
-    → IsOfFlow old d change f → IsTableAfter change old new → e ≡ network_after change f d → IsPolicyOf e policy → TellsOf e policy summary
+    → IsOfFlow old d change f → IsTableAfter change old new → e ≡ network_after change f d → IsPolicyOf e policy → Summarizes e policy summary
     → IsDone change old new summary
 done_after change old new d e policy summary f said right p after is_policy tells = (
   table_after change old new d f said right p,

@@ -16,7 +16,7 @@ use Rattle.edit_core.specs.inner.EditFaults.{Gives, edit_fault}
 use Rattle.edit_core.specs.Edited.{◌>>=◌, after_edit, edited, if_described}
 use Rattle.edit_core.specs.inner.InPlace.{IsDone}
 use Rattle.edit_core.specs.inner.Kept.{IsDescription, IsKept, Refuses, entries_of, table_of, table_of-entries_of}
-use Rattle.edit_core.specs.Summaries.{IsStarted, TellsOf}
+use Rattle.edit_core.specs.Summaries.{IsStarted, Summarizes}
 use Rattle.edit_core.specs.inner.Summaries.{IsApplied}
 use Rattle.edit_core.specs.declared.fault.ChangeFault.{ChangeFault}
 use Rattle.edit_core.specs.declared.fault.ChangeFault.TheVariants.{Refused, Memory}
@@ -77,7 +77,7 @@ not_described change old new (desc.Refused r) made none = (ap goes_on made ∙ a
 not_described change old new desc.Memory made none = refl
 
 pub applied : (change : Change) (old new : Members) (d : Network) (policy : Policy) (summary : Summary) → edited change old ≡ Ok new
-    → IsKept new d policy → TellsOf d policy summary → IsApplied change old new (Ok summary)
+    → IsKept new d policy → Summarizes d policy summary → IsApplied change old new (Ok summary)
 unfolding after_edit
 applied change old new d policy summary made kept tells = (ap goes_on made ∙ ap (said_of new) kept.described, (d, policy, kept.described, kept.is_policy, tells))
 
@@ -109,7 +109,7 @@ not_described_now change s table new fault is made none =
 
 pub applied_now : (change : Change) (s next : Entries) (table made inside : Table) (d : Network) (policy : Policy) (summary : Summary)
     → entries_of table ≡ s → edited change (table_view table) ≡ Ok (table_view made) → next ≡ entries_of made → entries_of inside ≡ next
-    → IsKept (table_view inside) d policy → TellsOf d policy summary → IsApplied change (table_of s) (table_of (entries_of inside)) (Ok summary)
+    → IsKept (table_view inside) d policy → Summarizes d policy summary → IsApplied change (table_of s) (table_of (entries_of inside)) (Ok summary)
 applied_now change s next table made inside d policy summary is given kept_as opened kept tells =
     let new : table_view made ≡ table_of (entries_of inside) = sym (ap table_of (opened ∙ kept_as) ∙ table_of-entries_of made) in
     let there : IsKept (table_of (entries_of inside)) d policy = kept_now (entries_of inside) inside d policy refl kept in

@@ -3,7 +3,7 @@ use Rattle.std.proofs.Common.{◌≡◌, ℕ, Bool, true, false, List, [], ◌�
 use Rattle.std.specs.Prelude.{◌↔◌, IsFalse}
 use Rattle.std.specs.List.{AllZip}
 use Rattle.edit_core.specs.Runs.{AreSummaries}
-use Rattle.edit_core.specs.Summaries.{IsSummary, TellsOf}
+use Rattle.edit_core.specs.Summaries.{IsSummary, Summarizes}
 use Rattle.edit_core.specs.declared.summary.Summary.{Summary}
 use Rattle.edit_core.specs.Edit.{Edit}
 use Rattle.flow_set.specs.declared.flow.Flow.{Flow}
@@ -40,7 +40,7 @@ failing_is_one invs flows m n p q =
 
 -- ---- summaries
 
-told_once : (d : Network) (policy : Policy) (s t : Summary) → TellsOf d policy s → TellsOf d policy t → s ≡ t
+told_once : (d : Network) (policy : Policy) (s t : Summary) → Summarizes d policy s → Summarizes d policy t → s ≡ t
 told_once d policy s t p q =
     let asked = p.asked ∙ sym q.asked in
     let permitted = p.permitted ∙ sym q.permitted in
@@ -48,15 +48,15 @@ told_once d policy s t p q =
     let failing = failing_is_one d.invariants d.asked.flows s.failing t.failing p.failing q.failing in
     λ i. record { asked = asked i; permitted = permitted i; stateful = stateful i; failing = failing i }
 
-by_policy : (d : Network) (p q : Policy) (s t : Summary) → IsPolicyOf d p → IsPolicyOf d q → TellsOf d p s → TellsOf d q t → s ≡ t
+by_policy : (d : Network) (p q : Policy) (s t : Summary) → IsPolicyOf d p → IsPolicyOf d q → Summarizes d p s → Summarizes d q t → s ≡ t
 by_policy d p q s t one other tells also =
-    told_once d p s t tells (subst (λ (policy : Policy). TellsOf d policy t) (policy_is_one d q p other one) also)
+    told_once d p s t tells (subst (λ (policy : Policy). Summarizes d policy t) (policy_is_one d q p other one) also)
 
 pub summary_is_one : (table : Members) (s t : Summary) → IsSummary table s → IsSummary table t → s ≡ t
 summary_is_one table s t (d, p, here, is_policy, tells) (e, q, there, is_policy_too, tells_too) =
     let network : e ≡ d = cc (here, there) in
     by_policy d p q s t is_policy (subst (λ (n : Network). IsPolicyOf n q) network is_policy_too) tells
-    (subst (λ (n : Network). TellsOf n q t) network tells_too)
+    (subst (λ (n : Network). Summarizes n q t) network tells_too)
 
 pub summaries_are_one : (edits : List Edit) (table : Members) (ss ts : List Summary) → AreSummaries edits table ss → AreSummaries edits table ts → ss ≡ ts
 summaries_are_one [] table [] [] p q = refl

@@ -8,5 +8,5 @@ abbrev pub from_first : (ℕ → Bool) → List ℕ → List ℕ
 from_first test bs = drop (position_or_len test bs) bs
 
 -- The string after the first token of a line.
-abbrev pub behind_word : List ℕ → List ℕ
-behind_word line = from_first is_blank (from_first (λ b. not (is_blank b)) line)
+abbrev pub after_first_word : List ℕ → List ℕ
+after_first_word line = from_first is_blank (from_first (λ b. not (is_blank b)) line)

@@ -8,7 +8,7 @@ use Rattle.std.specs.Str.{bytes_eq}
 use Rattle.desc_core.specs.Description.{described_by_table}
 use Rattle.desc_core.specs.Migrated.{with_member}
 use Rattle.desc_form.specs.Places.{assigns_of, listed}
-use Rattle.desc_form.specs.Written.{text_in}
+use Rattle.desc_form.specs.RawDescription.{text_in}
 use Rattle.edit_core.specs.declared.fault.EditWhy.{EditWhy}
 use Rattle.edit_core.specs.declared.fault.EditWhy.TheVariants.{NoPolicy, Absent, Refused}
 use Rattle.edit_core.specs.Edit.{Change, Add, Remove, Set, Unset}

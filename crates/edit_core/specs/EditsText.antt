@@ -3,14 +3,14 @@ use Rattle.std.specs.Prelude.{◌≡◌, ℕ, ◌≤◌, List, [], ◌∷◌, �
 use Rattle.std.specs.List.{list_all}
 use Rattle.std.specs.Str.{is_utf8}
 use Rattle.text_core.specs.Lines.{words}
-use Rattle.text_core.specs.ListText.{ListText, by_lines}
-use Rattle.text_core.specs.TextByLines.{HasFault, IsReading as IsReadingOf}
+use Rattle.text_core.specs.ListFormat.{ListFormat, by_lines}
+use Rattle.text_core.specs.LineFormat.{HasFault, IsReading as IsReadingOf}
 use Rattle.text_core.specs.declared.faults.ListWhy.{ListWhy}
 use Rattle.host_net.specs.Limits.{invariant_limit}
 use Rattle.table_core.specs.Tables.{text_at}
 use Rattle.toml.specs.Data.{Members, get_member, table}
 use Rattle.toml.specs.Parse.{parse_document}
-use Rattle.edit_core.specs.Behind.{behind_word}
+use Rattle.edit_core.specs.Behind.{after_first_word}
 use Rattle.edit_core.specs.Edit.{Change, Add, Remove, Set, Unset, Edit}
 
 -- A. The grammar: the edits that a file contains.
@@ -32,19 +32,19 @@ pub record IsAssignText (text : List ℕ) (assign : Members) : Type 0 where
   pub host : IsTrue (is_some (text_at (codes "host") assign))
 
 -- `set`, a number, and the string of an assign, which is the entire rest of the line after the number.
-pub record TellsAssign (line : List ℕ) (invariant : ℕ) (assign : Members) : Type 0 where
+pub record EncodesAssign (line : List ℕ) (invariant : ℕ) (assign : Members) : Type 0 where
   pub word : List ℕ
   pub rest : List (List ℕ)
   pub written : words line ≡ codes "set" ∷ decimal invariant ∷ word ∷ rest
   pub number : IsInvariantNumber invariant
-  pub text : IsAssignText (behind_word (behind_word line)) assign
+  pub text : IsAssignText (after_first_word (after_first_word line)) assign
 
 -- A line encodes a change.
-abbrev pub TellsChange : List ℕ → Change → Type 0
-TellsChange line (Add ws) = (words line ≡ codes "add" ∷ ws) × (2 ≤ length ws) × AreTexts ws
-TellsChange line (Remove from to) = (words line ≡ codes "remove" ∷ from ∷ to ∷ []) × AreTexts (from ∷ to ∷ [])
-TellsChange line (Set invariant assign) = TellsAssign line invariant assign
-TellsChange line (Unset invariant host) =
+abbrev pub EncodesChange : List ℕ → Change → Type 0
+EncodesChange line (Add ws) = (words line ≡ codes "add" ∷ ws) × (2 ≤ length ws) × AreTexts ws
+EncodesChange line (Remove from to) = (words line ≡ codes "remove" ∷ from ∷ to ∷ []) × AreTexts (from ∷ to ∷ [])
+EncodesChange line (Set invariant assign) = EncodesAssign line invariant assign
+EncodesChange line (Unset invariant host) =
     (words line ≡ codes "unset" ∷ decimal invariant ∷ host ∷ []) × IsInvariantNumber invariant × AreTexts (host ∷ [])
 
 -- B. The shape of a line that encodes an edit.
@@ -59,12 +59,12 @@ pub data IsForm (ws : List (List ℕ)) : Type 0 where
 -- C. The file contains at most 10,000 edits, each with the number of its line.
 
 -- The list format of edit files: at most 10,000 edits, and at most 1,048,576 bytes.
-abbrev pub edits_text : ListText Edit
+abbrev pub edits_text : ListFormat Edit
 edits_text = record {
   byte_limit = 1048576;
   most = 10000;
   HasForm = λ line. IsForm (words line);
-  Tells = λ n line edit. (edit.line ≡ n) × TellsChange line edit.change;
+  Tells = λ n line edit. (edit.line ≡ n) × EncodesChange line edit.change;
 }
 
 -- The parse result of a file.

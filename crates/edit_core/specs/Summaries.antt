@@ -12,7 +12,7 @@ use Rattle.toml.specs.Data.{Members}
 
 -- The numbers of flows that the network asks for, that its policy permits, and whose answers pass; and the number of its invariants that
 -- fail on the asked flows.
-pub record TellsOf (d : Network) (policy : Policy) (summary : Summary) : Type 0 where
+pub record Summarizes (d : Network) (policy : Policy) (summary : Summary) : Type 0 where
   pub asked : summary.asked ≡ length d.asked.flows
   pub permitted : summary.permitted ≡ length policy.permitted.flows
   pub stateful : summary.stateful ≡ length policy.stateful.flows
@@ -20,7 +20,7 @@ pub record TellsOf (d : Network) (policy : Policy) (summary : Summary) : Type 0 
 
 -- The summary of the network that a table describes, and of its policy.
 abbrev pub IsSummary : Members → Summary → Type 0
-IsSummary table summary = (d : Network) × (policy : Policy) × (described_by_table table ≡ Ok d) × IsPolicyOf d policy × TellsOf d policy summary
+IsSummary table summary = (d : Network) × (policy : Policy) × (described_by_table table ≡ Ok d) × IsPolicyOf d policy × Summarizes d policy summary
 
 -- The bytes are the document of the table, and a description; or they are refused for this reason.
 abbrev pub IsStarted : List ℕ → Result Members DescFault → Type 0

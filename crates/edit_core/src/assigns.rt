@@ -4,7 +4,7 @@ ghost use Rattle.std.specs.Prelude.{◌≡◌, ◌-◌, codes, map, option_map, 
 ghost use Rattle.std.specs.List.{list_any, slice_set};
 ghost use Rattle.std.specs.Result.{result_map_both};
 ghost use Rattle.desc_form.specs.Places.{assigns_of, listed};
-ghost use Rattle.desc_form.specs.Written.{text_in};
+ghost use Rattle.desc_form.specs.RawDescription.{text_in};
 ghost use Rattle.edit_core.specs.Edited.{assigned, edited, invariant_with, is_of_host, others, with_list};
 ghost use Rattle.edit_core.specs.Edit.{Set, Unset};
 ghost use Rattle.edit_core.specs.inner.EditFaults.{Gives};

@@ -2,13 +2,13 @@
 
 ghost use Rattle.std.specs.Prelude.{◌≡◌, not, position};
 ghost use Rattle.text_core.specs.Lines.{is_blank};
-ghost use Rattle.edit_core.specs.Behind.{behind_word, from_first};
+ghost use Rattle.edit_core.specs.Behind.{after_first_word, from_first};
 
 use text_core::is_blank;
 
 /// Returns the text after the first token of a line.
-pub(crate) fn behind_word(line: &[u8]) -> &[u8]
-    ensures { result.now ≡ behind_word line.now }
+pub(crate) fn after_first_word(line: &[u8]) -> &[u8]
+    ensures { result.now ≡ after_first_word line.now }
 {
     from_blank(from_word(line))
 }

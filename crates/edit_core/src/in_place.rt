@@ -20,7 +20,7 @@ use crate::flows::retain_others;
 use crate::summary::{Summary, summary_of};
 use crate::values::text_list;
 use flow_set::Flow;
-use net_core::{Description, PolicedNetwork};
+use net_core::{Description, NetworkWithPolicy};
 use std::alloc::Global;
 use std::mem;
 use toml::{Table, Value};
@@ -30,7 +30,7 @@ use toml::{Table, Value};
 pub(crate) fn edit_in_place(
     alloc: Global,
     table: &mut Table,
-    network: &mut PolicedNetwork,
+    network: &mut NetworkWithPolicy,
     change: &Change,
 ) -> Option<Summary>
     requires described { described_by_table (table_view table.old) ≡ Ok network.old.network }
@@ -52,14 +52,14 @@ fn flow_of(description: &Description, change: &Change) -> Option<Flow>
     ensures flow { IfSome result (IsFlow description.now.asked.size) }
 {
     match change {
-        Change::Add(words) => right_flow(description, words.as_slice()),
+        Change::Add(words) => valid_flow(description, words.as_slice()),
         Change::Remove(from, to) => asked_flow(description, from.as_str(), to.as_str()),
         _ => None,
     }
 }
 
 /// Returns the flow that the words denote, if they denote a valid new flow without services.
-fn right_flow(description: &Description, words: &[String]) -> Option<Flow>
+fn valid_flow(description: &Description, words: &[String]) -> Option<Flow>
     ensures right { IfSome result (λ flow. (t : Members) → IsRightFlow t description.now (map string_bytes words.now) flow []) }
     ensures flow { IfSome result (IsFlow description.now.asked.size) }
 {
@@ -105,7 +105,7 @@ fn flow_between(description: &Description, from: &str, to: &str) -> Option<Flow>
 fn edit_table(
     alloc: Global,
     table: &mut Table,
-    network: &mut PolicedNetwork,
+    network: &mut NetworkWithPolicy,
     change: &Change,
     flow: Flow,
 ) -> bool
@@ -136,7 +136,7 @@ fn take(slot: &mut Value) -> Value
 fn edit_list(
     alloc: Global,
     list: Value,
-    network: &mut PolicedNetwork,
+    network: &mut NetworkWithPolicy,
     change: &Change,
     flow: Flow,
 ) -> (Value, bool)
@@ -159,7 +159,7 @@ fn edit_list(
 fn edit_elements(
     alloc: Global,
     elements: &mut Vec<Value>,
-    network: &mut PolicedNetwork,
+    network: &mut NetworkWithPolicy,
     change: &Change,
     flow: Flow,
 ) -> bool
@@ -182,7 +182,7 @@ fn edit_elements(
 fn add(
     alloc: Global,
     elements: &mut Vec<Value>,
-    network: &mut PolicedNetwork,
+    network: &mut NetworkWithPolicy,
     words: &[String],
     flow: Flow,
 ) -> bool
@@ -198,7 +198,7 @@ fn add(
     let Ok(listed) = text_list(alloc, words) else {
         return false;
     };
-    if network.ask_for(alloc, flow).is_err() {
+    if network.request(alloc, flow).is_err() {
         return false;
     }
     elements.push(listed).is_ok()
@@ -208,7 +208,7 @@ fn add(
 fn remove(
     alloc: Global,
     elements: &mut Vec<Value>,
-    network: &mut PolicedNetwork,
+    network: &mut NetworkWithPolicy,
     from: &str,
     to: &str,
     flow: Flow,
@@ -219,7 +219,7 @@ fn remove(
     ensures untouched { IsFalse result → elements.new ≡ elements.old }
     ensures unchanged { IsFalse result → network.new ≡ network.old }
 {
-    if network.ask_no_more_for(alloc, flow).is_err() {
+    if network.withdraw(alloc, flow).is_err() {
         return false;
     }
     retain_others(elements, from, to);

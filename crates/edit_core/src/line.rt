@@ -8,7 +8,7 @@ ghost use Rattle.toml.specs.Data.{as_table};
 ghost use Rattle.toml.specs.Parse.{parse_document};
 ghost use Rattle.toml.specs.View.{table_view, view};
 
-use crate::behind::behind_word;
+use crate::behind::after_first_word;
 use crate::edit::Change;
 use host_net::INVARIANT_LIMIT;
 use std::alloc::Global;
@@ -31,7 +31,7 @@ pub(crate) fn read_change(alloc: Global, line: &[u8]) -> Result<Change, LineFaul
         return read_remove(alloc, words);
     }
     if verb == b"set".as_slice() {
-        return read_set(alloc, words, behind_word(behind_word(line)));
+        return read_set(alloc, words, after_first_word(after_first_word(line)));
     }
     if verb == b"unset".as_slice() {
         return read_unset(alloc, words);

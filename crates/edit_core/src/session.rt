@@ -16,7 +16,7 @@ use crate::summary::{Summary, summary_of};
 use crate::table::edited;
 use desc_core::{DescFault, describe_table, read_table};
 use flow_set::FlowSet;
-use net_core::{Description, PolicedNetwork};
+use net_core::{Description, NetworkWithPolicy};
 use std::alloc::Global;
 use std::marker::Model;
 use toml::Table;
@@ -26,7 +26,7 @@ use toml::Table;
 pub struct Session {
     alloc: Global,
     table: Table,
-    network: PolicedNetwork,
+    network: NetworkWithPolicy,
 }
 
 impl Model for Session {
@@ -66,7 +66,7 @@ impl Session {
         ensures refused { IfErr result (Refuses (table_view table)) }
     {
         let description = describe_table(alloc, &table)?;
-        let network = PolicedNetwork::new(alloc, description)?;
+        let network = NetworkWithPolicy::new(alloc, description)?;
         Ok(Session {
             alloc,
             table,
@@ -94,12 +94,12 @@ impl Session {
         let change = edit.change();
         match edit_in_place(self.alloc, &mut self.table, &mut self.network, change) {
             Some(summary) => Ok(summary),
-            None => self.apply_anew(change),
+            None => self.apply_from_scratch(change),
         }
     }
 
     /// Changes the table by an edit, and evaluates it from scratch.
-    fn apply_anew(&mut self, change: &Change) -> Result<Summary, ChangeFault>
+    fn apply_from_scratch(&mut self, change: &Change) -> Result<Summary, ChangeFault>
         ensures applied { IsApplied (change_view change.now) (table_of self.old) (table_of self.new) result }
         ensures unchanged { OnErr result (self.new ≡ self.old) }
     {

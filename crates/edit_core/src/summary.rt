@@ -1,9 +1,9 @@
 //! The summary of a description after an edit.
 
-ghost use Rattle.edit_core.specs.Summaries.{TellsOf};
+ghost use Rattle.edit_core.specs.Summaries.{Summarizes};
 ghost use Rattle.net_core.specs.Policies.{IsPolicyOf};
 
-use net_core::PolicedNetwork;
+use net_core::NetworkWithPolicy;
 
 /// The numbers of asked, permitted and stateful flows, and of invariants that fail on the asked
 /// flows.
@@ -16,8 +16,8 @@ pub struct Summary {
 }
 
 /// Returns the summary of a network and its policy.
-pub(crate) fn summary_of(network: &PolicedNetwork) -> Summary
-    ensures tells { TellsOf network.now.network network.now.policy result }
+pub(crate) fn summary_of(network: &NetworkWithPolicy) -> Summary
+    ensures tells { Summarizes network.now.network network.now.policy result }
     ensures policy { IsPolicyOf network.now.network network.now.policy }
 {
     Summary {

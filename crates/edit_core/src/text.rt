@@ -2,7 +2,7 @@
 //! level = 2 }` or `unset 1 web`.
 
 ghost use Rattle.std.specs.Prelude.{◌≡◌, ℕ, List, map, IfOk, IfErr, MatchResult};
-ghost use Rattle.text_core.specs.ListText.{by_lines};
+ghost use Rattle.text_core.specs.ListFormat.{by_lines};
 ghost use Rattle.text_core.specs.inner.TextAnswers.{HasCause, IsFault};
 ghost use Rattle.text_core.specs.declared.faults.ListWhy.{ListWhy};
 ghost use Rattle.edit_core.specs.Edit.{Edit as Meant};

@@ -10,23 +10,23 @@ use Rattle.host_net.specs.declared.packet.Verdict.TheVariants.{Forward as Forwar
 use Rattle.host_net.specs.declared.prefix.Prefix.{Prefix}
 use Rattle.host_net.specs.declared.service.Service.{Service}
 use Rattle.host_net.specs.Packet.{IsPacket, swap_of}
-use Rattle.host_net.specs.Service.{is_served, is_whole, narrowings}
+use Rattle.host_net.specs.Service.{is_served, is_whole, service_matches}
 use Rattle.host_net.specs.Site.{Site}
 use Rattle.flow_set.specs.declared.flow.Flow.{Flow}
 use Rattle.ipt_rules.specs.declared.rule.Rule.{Rule}
 use Rattle.ipt_rules.specs.declared.rule.Target.TheVariants.{Accept}
 use Rattle.ipt_rules.specs.Chain.{Chain}
 use Rattle.ipt_rules.specs.Matching.{matches}
-use Rattle.ipt_rules.specs.Meaning.{step_of}
+use Rattle.ipt_rules.specs.Semantics.{step_of}
 use Rattle.ipt_rules.specs.inner.Saying.{Says}
 use Rattle.ipt_rules.proofs.SayingLaws.{says_none, says_append, says_one}
 use Rattle.pkt_core.specs.Firewall.{is_established}
-use Rattle.emit_core.specs.declared.side.Side.{Side}
-use Rattle.emit_core.specs.Layout.{to_service, from_service, links_whole, accepts_flow, accepts_answers, accepts}
-use Rattle.emit_core.proofs.NarrowingLaws.{lets, is_served-narrowings}
+use Rattle.emit_core.specs.declared.direction.Direction.{Direction}
+use Rattle.emit_core.specs.Layout.{to_service, from_service, connects_unrestricted, accepts_flow, accepts_answers, accepts}
+use Rattle.emit_core.proofs.NarrowingLaws.{lets, is_served-service_matches}
 use Rattle.emit_core.specs.OtherAddress.{other_address}
 use Rattle.emit_core.proofs.RuleFitsLaws.{lies_in, to_service_fits, from_service_fits}
-use Rattle.emit_core.specs.Sides.{links, other_side, services_on}
+use Rattle.emit_core.specs.Directions.{connects, other_direction, services_on}
 
 abbrev pub pass : Bool → Option Verdict
 pass b = if b then Some Forwarded else None
@@ -71,33 +71,33 @@ when : (w b x : Bool) (rules : List Rule) (fits : Rule → Bool) (chains : List 
 when w true x rules fits chains says = says
 when w false x rules fits chains says = subst (λ (o : Option Verdict). Says fits chains [] o) (none_within w) (says_none fits chains)
 
-flow_say : (side : Side) (chains : List Chain) (site : Site) (p : List Flow) (packet : Packet) (state : CtState) (i j : ℕ) (q : Option Prefix) → IsPacket packet
+flow_say : (side : Direction) (chains : List Chain) (site : Site) (p : List Flow) (packet : Packet) (state : CtState) (i j : ℕ) (q : Option Prefix) → IsPacket packet
     → Says (matches packet state) chains (accepts_flow side site p i j q)
-    (if lies_in q (other_address side packet) then pass (links side p i j && is_served (services_on side site.services i j) packet) else None)
+    (if lies_in q (other_address side packet) then pass (connects side p i j && is_served (services_on side site.services i j) packet) else None)
 flow_say side chains site p packet state i j q is =
     let w = lies_in q (other_address side packet) in
     let ss = services_on side site.services i j in
     let fits = matches packet state in
-    when w (links side p i j) (is_served ss packet) (map (to_service side q) (narrowings ss)) fits chains
-    (subst (λ (b : Bool). Says fits chains (map (to_service side q) (narrowings ss)) (if w then pass b else None)) (sym (is_served-narrowings packet ss))
-    (rules_say fits chains (to_service side q) w (lets packet) (λ n. (to_service_fits side q n packet state is, refl)) (narrowings ss)))
+    when w (connects side p i j) (is_served ss packet) (map (to_service side q) (service_matches ss)) fits chains
+    (subst (λ (b : Bool). Says fits chains (map (to_service side q) (service_matches ss)) (if w then pass b else None)) (sym (is_served-service_matches packet ss))
+    (rules_say fits chains (to_service side q) w (lets packet) (λ n. (to_service_fits side q n packet state is, refl)) (service_matches ss)))
 
-answers_say : (side : Side) (chains : List Chain) (site : Site) (p s : List Flow) (packet : Packet) (state : CtState) (i j : ℕ) (q : Option Prefix) → IsPacket packet
+answers_say : (side : Direction) (chains : List Chain) (site : Site) (p s : List Flow) (packet : Packet) (state : CtState) (i j : ℕ) (q : Option Prefix) → IsPacket packet
     → Says (matches packet state) chains (accepts_answers side site p s i j q)
     (if lies_in q (other_address side packet)
-    then pass ((links (other_side side) s i j && not (links_whole side site p i j))
-    && (is_served (services_on (other_side side) site.services i j) (swap_of packet) && is_established state)) else None)
+    then pass ((connects (other_direction side) s i j && not (connects_unrestricted side site p i j))
+    && (is_served (services_on (other_direction side) site.services i j) (swap_of packet) && is_established state)) else None)
 answers_say side chains site p s packet state i j q is =
     let w = lies_in q (other_address side packet) in
-    let ss = services_on (other_side side) site.services i j in
+    let ss = services_on (other_direction side) site.services i j in
     let e = is_established state in
     let fits = matches packet state in
     let test : Option Service → Bool = λ n. lets (swap_of packet) n && e in
-    when w (links (other_side side) s i j && not (links_whole side site p i j)) (is_served ss (swap_of packet) && e)
-    (map (from_service side q) (narrowings ss)) fits chains
-    (subst (λ (b : Bool). Says fits chains (map (from_service side q) (narrowings ss)) (if w then pass b else None))
-    (any_and (lets (swap_of packet)) e (narrowings ss) ∙ ap (λ b. b && e) (sym (is_served-narrowings (swap_of packet) ss)))
-    (rules_say fits chains (from_service side q) w test (λ n. (from_service_fits side q n packet state is, refl)) (narrowings ss)))
+    when w (connects (other_direction side) s i j && not (connects_unrestricted side site p i j)) (is_served ss (swap_of packet) && e)
+    (map (from_service side q) (service_matches ss)) fits chains
+    (subst (λ (b : Bool). Says fits chains (map (from_service side q) (service_matches ss)) (if w then pass b else None))
+    (any_and (lets (swap_of packet)) e (service_matches ss) ∙ ap (λ b. b && e) (sym (is_served-service_matches (swap_of packet) ss)))
+    (rules_say fits chains (from_service side q) w test (λ n. (from_service_fits side q n packet state is, refl)) (service_matches ss)))
 
 both_say : (w x y : Bool) → option_or (if w then pass x else None) (if w then pass y else None) ≡ (if w then pass (x || y) else None)
 both_say true true y = refl
@@ -117,20 +117,20 @@ left_out false false z (s ∷ ss) packet = refl
 
 -- The packets that pass: packets of the flow by its services, and on established connections those that answer a packet of the reversed
 -- flow by its services.
-abbrev pub may_link : Side → Site → List Flow → List Flow → Packet → Bool → ℕ → ℕ → Bool
+abbrev pub may_link : Direction → Site → List Flow → List Flow → Packet → Bool → ℕ → ℕ → Bool
 may_link side site p s packet established i j =
-    (links side p i j && is_served (services_on side site.services i j) packet)
-    || (links (other_side side) s i j && (is_served (services_on (other_side side) site.services i j) (swap_of packet) && established))
+    (connects side p i j && is_served (services_on side site.services i j) packet)
+    || (connects (other_direction side) s i j && (is_served (services_on (other_direction side) site.services i j) (swap_of packet) && established))
 
-pub accepts_say : (side : Side) (chains : List Chain) (site : Site) (p s : List Flow) (packet : Packet) (state : CtState) (i j : ℕ) (q : Option Prefix)
+pub accepts_say : (side : Direction) (chains : List Chain) (site : Site) (p s : List Flow) (packet : Packet) (state : CtState) (i j : ℕ) (q : Option Prefix)
     → IsPacket packet
     → Says (matches packet state) chains (accepts side site p s i j q)
     (if lies_in q (other_address side packet) then pass (may_link side site p s packet (is_established state) i j) else None)
 accepts_say side chains site p s packet state i j q is =
     let w = lies_in q (other_address side packet) in
-    let z = is_served (services_on (other_side side) site.services i j) (swap_of packet) && is_established state in
+    let z = is_served (services_on (other_direction side) site.services i j) (swap_of packet) && is_established state in
     subst (λ (o : Option Verdict). Says (matches packet state) chains (accepts side site p s i j q) o)
-    (both_say w (links side p i j && is_served (services_on side site.services i j) packet) ((links (other_side side) s i j && not (links_whole side site p i j)) && z)
-    ∙ ap (λ b. if w then pass b else None) (left_out (links side p i j) (links (other_side side) s i j) z (services_on side site.services i j) packet))
+    (both_say w (connects side p i j && is_served (services_on side site.services i j) packet) ((connects (other_direction side) s i j && not (connects_unrestricted side site p i j)) && z)
+    ∙ ap (λ b. if w then pass b else None) (left_out (connects side p i j) (connects (other_direction side) s i j) z (services_on side site.services i j) packet))
     (says_append (matches packet state) chains (accepts_flow side site p i j q) (accepts_answers side site p s i j q) _ _
     (flow_say side chains site p packet state i j q is) (answers_say side chains site p s packet state i j q is))

@@ -9,7 +9,7 @@ use Rattle.ipt_rules.specs.declared.rule.Rule.{Rule}
 use Rattle.ipt_rules.specs.Chain.{Chain}
 use Rattle.ipt_rules.specs.ChainTable.{rule_count}
 use Rattle.ipt_rules.proofs.ChainLaws.{rule_count-append}
-use Rattle.emit_core.specs.declared.side.Side.TheVariants.{Sending}
+use Rattle.emit_core.specs.declared.direction.Direction.TheVariants.{Outbound}
 use Rattle.emit_core.specs.EmitRefusals.{rule_limit}
 use Rattle.emit_core.specs.Layout.{entry_chains, host_rules, host_chain, host_chain_name, forward_rules}
 use Rattle.emit_core.proofs.FewRulesLaws.{few_host_rules}
@@ -21,7 +21,7 @@ use Rattle.emit_core.specs.inner.Filling.{AreCounted, chains_up_to}
 few_host_chains : (site : Site) (p s : List Flow) (k n : ℕ) → IsSite site
     → rule_count (map (host_chain site p s) (range_with_len k n)) ≤ n * 33825
 few_host_chains site p s k zero is = omega arith
-few_host_chains site p s k (suc n) is = omega (arith, few_host_rules Sending site p s k is, few_host_chains site p s (k + 1) n is)
+few_host_chains site p s k (suc n) is = omega (arith, few_host_rules Outbound site p s k is, few_host_chains site p s (k + 1) n is)
 
 -- The number of rules of the chains up to that of the n-th host fits 32 bits.
 few_rules : (site : Site) (p s : List Flow) (n : ℕ) → IsSite site → n ≤ 256 → rule_count (chains_up_to site p s n) ≤ 8660225
@@ -37,7 +37,7 @@ next_chain site p s n =
     ap (λ (x : List Chain). chains_up_to site p s 0 ++ x) (map-range_with_len_more (host_chain site p s) 0 n n (omega arith))
 
 next_count : (site : Site) (p s : List Flow) (n count more : ℕ) → count ≡ rule_count (chains_up_to site p s n)
-    → more ≡ length (host_rules Sending site p s n) → count + more ≡ rule_count (chains_up_to site p s (n + 1))
+    → more ≡ length (host_rules Outbound site p s n) → count + more ≡ rule_count (chains_up_to site p s (n + 1))
 next_count site p s n count more before all =
     omega (
       arith,
@@ -49,7 +49,7 @@ next_count site p s n count more before all =
 
 -- The count after the rules of one more host.
 pub next_fits : (site : Site) (p s : List Flow) (n count more : ℕ) → IsSite site → n < length site.hosts
-    → count ≡ rule_count (chains_up_to site p s n) → more ≡ length (host_rules Sending site p s n) → count + more < 2 ^ 32
+    → count ≡ rule_count (chains_up_to site p s n) → more ≡ length (host_rules Outbound site p s n) → count + more < 2 ^ 32
 next_fits site p s n count more is below before all =
     let few = is.hosts.few in
     omega (arith, next_count site p s n count more before all, few_rules site p s (n + 1) is (omega (arith, few, below)))
@@ -61,8 +61,8 @@ pub entries_counted : (site : Site) (p s : List Flow) (chains : List Chain) (cou
 entries_counted site p s chains count are all = record { counted = omega (arith, all); kept = λ few. are }
 
 pub chain_kept : (site : Site) (p s : List Flow) (n : ℕ) (chains new : List Chain) (count more : ℕ) (rules : List Rule)
-    → AreCounted (chains_up_to site p s n) chains count → more ≡ length (host_rules Sending site p s n) → count + more ≤ rule_limit
-    → rules ≡ host_rules Sending site p s n → new ≡ chains ++ record { name = host_chain_name n; policy = None; rules = rules } ∷ []
+    → AreCounted (chains_up_to site p s n) chains count → more ≡ length (host_rules Outbound site p s n) → count + more ≤ rule_limit
+    → rules ≡ host_rules Outbound site p s n → new ≡ chains ++ record { name = host_chain_name n; policy = None; rules = rules } ∷ []
     → AreCounted (chains_up_to site p s (n + 1)) new (count + more)
 chain_kept site p s n chains new count more rules before all few are added = record {
   counted = next_count site p s n count more before.counted all;
@@ -74,7 +74,7 @@ chain_kept site p s n chains new count more rules before all few are added = rec
 }
 
 pub too_many_kept : (site : Site) (p s : List Flow) (n : ℕ) (chains : List Chain) (count more : ℕ)
-    → AreCounted (chains_up_to site p s n) chains count → more ≡ length (host_rules Sending site p s n) → rule_limit < count + more
+    → AreCounted (chains_up_to site p s n) chains count → more ≡ length (host_rules Outbound site p s n) → rule_limit < count + more
     → AreCounted (chains_up_to site p s (n + 1)) chains (count + more)
 too_many_kept site p s n chains count more before all many = record {
   counted = next_count site p s n count more before.counted all;

@@ -6,7 +6,7 @@ use Rattle.std.proofs.lemmas.Bool.{and_from, and_parts}
 use Rattle.host_net.specs.declared.prefix.Prefix.{Prefix}
 use Rattle.host_net.specs.Host.{Host}
 use Rattle.ofp_rules.specs.declared.entry.Entry.{Entry}
-use Rattle.ofp_rules.specs.Meaning.{IsOneOf}
+use Rattle.ofp_rules.specs.Semantics.{IsOneOf}
 use Rattle.ofp_rules.proofs.HighestLaws.{one_of_front, one_of_back, one_of_parts}
 use Rattle.emit_core.specs.FlowTable.{for_each_host}
 

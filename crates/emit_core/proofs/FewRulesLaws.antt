@@ -6,7 +6,7 @@ use Rattle.std.proofs.lemmas.List.{length-map}
 use Rattle.host_net.specs.declared.prefix.Prefix.{Prefix}
 use Rattle.host_net.specs.declared.service.Service.{Service}
 use Rattle.host_net.specs.Host.{rest_of}
-use Rattle.host_net.specs.Service.{narrowings}
+use Rattle.host_net.specs.Service.{service_matches}
 use Rattle.host_net.specs.Services.{service_limit}
 use Rattle.host_net.specs.inner.Services.{AreServices}
 use Rattle.host_net.specs.Site.{Site}
@@ -14,12 +14,12 @@ use Rattle.host_net.specs.inner.Site.{IsSite}
 use Rattle.flow_set.specs.declared.flow.Flow.{Flow}
 use Rattle.ipt_rules.specs.declared.rule.Rule.{Rule}
 use Rattle.ipt_rules.specs.declared.rule.Target.TheVariants.{Drop}
-use Rattle.emit_core.specs.declared.side.Side.{Side}
-use Rattle.emit_core.specs.Sides.{links, other_side, services_on, flow_on}
-use Rattle.emit_core.specs.Layout.{for_each_prefix, at_other, to_service, from_service, links_whole, accepts_flow, accepts_answers, accepts, drops, is_open, to_prefix, to_rest, host_rules}
+use Rattle.emit_core.specs.declared.direction.Direction.{Direction}
+use Rattle.emit_core.specs.Directions.{connects, other_direction, services_on, flow_on}
+use Rattle.emit_core.specs.Layout.{for_each_prefix, match_peer, to_service, from_service, connects_unrestricted, accepts_flow, accepts_answers, accepts, drops, is_open, to_prefix, to_rest, host_rules}
 use Rattle.emit_core.proofs.LayoutLaws.{few_for_all}
 
-few_narrowings : (ss : List Service) → length ss ≤ service_limit → length (narrowings ss) ≤ service_limit
+few_narrowings : (ss : List Service) → length ss ≤ service_limit → length (service_matches ss) ≤ service_limit
 few_narrowings [] few = omega arith
 few_narrowings (s ∷ ss) few = omega (arith, length-map (s ∷ ss) (λ t. Some t))
 
@@ -27,52 +27,52 @@ few_if : (b : Bool) (rules : List Rule) (most : ℕ) → length rules ≤ most �
 few_if true rules most few = few
 few_if false rules most few = omega arith
 
-few_services : (side : Side) (site : Site) (i j : ℕ) (rule : Option Service → Rule) → AreServices site.services
-    → length (map rule (narrowings (services_on side site.services i j))) ≤ service_limit
+few_services : (side : Direction) (site : Site) (i j : ℕ) (rule : Option Service → Rule) → AreServices site.services
+    → length (map rule (service_matches (services_on side site.services i j))) ≤ service_limit
 few_services side site i j rule are =
     let ss = services_on side site.services i j in
-    omega (arith, length-map (narrowings ss) rule, few_narrowings ss (are.few (flow_on side i j).from (flow_on side i j).to))
+    omega (arith, length-map (service_matches ss) rule, few_narrowings ss (are.few (flow_on side i j).from (flow_on side i j).to))
 
-few_accepts : (side : Side) (site : Site) (p s : List Flow) (i j : ℕ) (q : Option Prefix) → AreServices site.services
+few_accepts : (side : Direction) (site : Site) (p s : List Flow) (i j : ℕ) (q : Option Prefix) → AreServices site.services
     → length (accepts side site p s i j q) ≤ 2 * service_limit
 few_accepts side site p s i j q are =
     omega (
       arith,
-      few_if (links side p i j) (map (to_service side q) (narrowings (services_on side site.services i j))) service_limit
+      few_if (connects side p i j) (map (to_service side q) (service_matches (services_on side site.services i j))) service_limit
           (few_services side site i j (to_service side q) are),
-      few_if (links (other_side side) s i j && not (links_whole side site p i j)) (map (from_service side q) (narrowings (services_on (other_side side) site.services i j)))
-          service_limit (few_services (other_side side) site i j (from_service side q) are),
+      few_if (connects (other_direction side) s i j && not (connects_unrestricted side site p i j)) (map (from_service side q) (service_matches (services_on (other_direction side) site.services i j)))
+          service_limit (few_services (other_direction side) site i j (from_service side q) are),
       length-append (accepts_flow side site p i j q) (accepts_answers side site p s i j q),
     )
 
-few_to_prefix : (side : Side) (site : Site) (p s : List Flow) (i : ℕ) (rest : Option ℕ) → AreServices site.services
+few_to_prefix : (side : Direction) (site : Site) (p s : List Flow) (i : ℕ) (rest : Option ℕ) → AreServices site.services
     → (j : ℕ) (q : Prefix) → length (to_prefix side site p s i rest j q) ≤ 33
 few_to_prefix side site p s i rest are j q =
     omega (
       arith,
       few_accepts side site p s i j (Some q) are,
-      few_if (is_open side p s i rest && not (links_whole side site p i j)) (at_other side (Some q) None Drop ∷ []) 1 (omega arith),
+      few_if (is_open side p s i rest && not (connects_unrestricted side site p i j)) (match_peer side (Some q) None Drop ∷ []) 1 (omega arith),
       length-append (accepts side site p s i j (Some q)) (drops side site p s i rest j q),
     )
 
-few_to_rest : (side : Side) (site : Site) (p s : List Flow) (i : ℕ) (rest : Option ℕ) → AreServices site.services
+few_to_rest : (side : Direction) (site : Site) (p s : List Flow) (i : ℕ) (rest : Option ℕ) → AreServices site.services
     → length (to_rest side site p s i rest) ≤ 32
 few_to_rest side site p s i None are = omega arith
 few_to_rest side site p s i (Some r) are = few_accepts side site p s i r None are
 
-pub few_to_hosts : (side : Side) (site : Site) (p s : List Flow) (i : ℕ) (rest : Option ℕ) → IsSite site
+pub few_to_hosts : (side : Direction) (site : Site) (p s : List Flow) (i : ℕ) (rest : Option ℕ) → IsSite site
     → length (for_each_prefix (to_prefix side site p s i rest) 0 site.hosts) ≤ 33 * 1024
 few_to_hosts side site p s i rest is =
     let few = is.hosts.few_prefixes in
     omega (arith, few, few_for_all 33 (to_prefix side site p s i rest) (few_to_prefix side site p s i rest is.services) 0 site.hosts)
 
 -- The chain of a host for outbound or for inbound packets.
-pub few_host_rules : (side : Side) (site : Site) (p s : List Flow) (i : ℕ) → IsSite site → length (host_rules side site p s i) ≤ 33825
+pub few_host_rules : (side : Direction) (site : Site) (p s : List Flow) (i : ℕ) → IsSite site → length (host_rules side site p s i) ≤ 33825
 few_host_rules side site p s i is =
     omega (
       arith,
       few_to_hosts side site p s i (rest_of site.hosts) is,
       few_to_rest side site p s i (rest_of site.hosts) is.services,
-      length-append (for_each_prefix (to_prefix side site p s i (rest_of site.hosts)) 0 site.hosts) (to_rest side site p s i (rest_of site.hosts) ++ at_other side None None Drop ∷ []),
-      length-append (to_rest side site p s i (rest_of site.hosts)) (at_other side None None Drop ∷ []),
+      length-append (for_each_prefix (to_prefix side site p s i (rest_of site.hosts)) 0 site.hosts) (to_rest side site p s i (rest_of site.hosts) ++ match_peer side None None Drop ∷ []),
+      length-append (to_rest side site p s i (rest_of site.hosts)) (match_peer side None None Drop ∷ []),
     )

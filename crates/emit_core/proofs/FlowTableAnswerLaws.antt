@@ -10,7 +10,7 @@ use Rattle.host_net.specs.declared.service.Service.{Service}
 use Rattle.host_net.specs.Packet.{swap_of, IsPacket}
 use Rattle.host_net.specs.Host.{owner_of}
 use Rattle.host_net.specs.Service.{has_all_ports, is_served, serves, is_whole}
-use Rattle.host_net.specs.Services.{NarrowedFlow, services_of}
+use Rattle.host_net.specs.Services.{RestrictedFlow, services_of}
 use Rattle.host_net.specs.Site.{Site}
 use Rattle.flow_set.specs.declared.flow.Flow.{Flow}
 use Rattle.flow_set.specs.FlowSet.{has}
@@ -65,7 +65,7 @@ back_served (s ∷ ss) (b ∷ bs) packet fits covered served = answered_by (s �
 equal_back : (i j : ℕ) → (j == i) ≡ (i == j)
 equal_back i j = grind (arith, nat_tests)
 
-answer_by : (same : Bool) (services : List NarrowedFlow) (p s : List Flow) (i j : ℕ) (packet : Packet) → packet.dport < 2 ^ 16 → AnswersAreCovered services p s
+answer_by : (same : Bool) (services : List RestrictedFlow) (p s : List Flow) (i j : ℕ) (packet : Packet) → packet.dport < 2 ^ 16 → AnswersAreCovered services p s
     → belongs services s (swap_of packet) (if same then None else Some (record { from = j; to = i })) ≡ true
     → belongs services p packet (if same then None else Some (record { from = i; to = j })) ≡ true
 answer_by true services p s i j packet fits covered h = h
@@ -79,7 +79,7 @@ answer_by false services p s i j packet fits covered h =
     and_from (has p g) (is_served back packet) cover.0 (back_served there back packet fits cover.1 parts.1)
 
 -- An answer to a packet of a stateful flow belongs to a permitted flow.
-pub answer_is : (services : List NarrowedFlow) (p s : List Flow) (from to : Option ℕ) (packet : Packet) → packet.dport < 2 ^ 16 → AnswersAreCovered services p s
+pub answer_is : (services : List RestrictedFlow) (p s : List Flow) (from to : Option ℕ) (packet : Packet) → packet.dport < 2 ^ 16 → AnswersAreCovered services p s
     → belongs services s (swap_of packet) (flow_of_owners to from) ≡ true
     → belongs services p packet (flow_of_owners from to) ≡ true
 answer_is services p s None None packet fits covered h = h
@@ -97,7 +97,7 @@ expected_is site p s past packet is covered (inl permitted) = permitted
 expected_is site p s past packet is covered (inr answer) =
     answer_is site.services p s (owner_of site.hosts packet.src) (owner_of site.hosts packet.dst) packet is.4 covered answer.0
 
-none_covered : (services : List NarrowedFlow) (p : List Flow) → AnswersAreCovered services p []
+none_covered : (services : List RestrictedFlow) (p : List Flow) → AnswersAreCovered services p []
 none_covered services p = λ f none. absurd (true≢false (sym none))
 
 -- So it expects the same as a policy without stateful flows.

@@ -10,11 +10,11 @@ use Rattle.flow_set.specs.declared.flow.Flow.{Flow}
 use Rattle.flow_set.specs.FlowSet.{IsSubset}
 use Rattle.pkt_core.specs.Firewall.{is_established}
 use Rattle.pkt_core.specs.FlowPolicy.{flow_of, is_of, lets_pass}
-use Rattle.pkt_core.specs.Filter.{Enforces, ForwardsExpected}
+use Rattle.pkt_core.specs.Filter.{Enforces, ForwardsAsExpected}
 use Rattle.pkt_core.proofs.FilterLaws.{enforced_expected}
 use Rattle.ofp_rules.specs.declared.entry.Frame.TheVariants.{Arp, Ipv4, Other}
 use Rattle.ofp_rules.specs.declared.entry.Entry.{Entry}
-use Rattle.ofp_rules.specs.Meaning.{HasVerdict, Passes}
+use Rattle.ofp_rules.specs.Semantics.{HasVerdict, Passes}
 use Rattle.emit_core.proofs.FlowTableAnswerLaws.{same_expected}
 use Rattle.emit_core.specs.FlowTableEvents.{AnswersAreCovered}
 use Rattle.emit_core.specs.FlowTableForwarding.{ForwardsArpAlone}
@@ -47,9 +47,9 @@ no_flows p = record { ordered = tt; within = λ f none. absurd (true≢false (sy
 
 -- It forwards what is expected with stateful flows too, if their answers are covered.
 pub flows_expected : (entries : List Entry) (site : Site) (p s : List Flow) → ForwardsFlows entries site p → AnswersAreCovered site.services p s
-    → ForwardsExpected (Passes entries) site p s
+    → ForwardsAsExpected (Passes entries) site p s
 flows_expected entries site p s forwards covered =
-    let alone : ForwardsExpected (Passes entries) site p [] = enforced_expected (Passes entries) site p [] (no_flows p) (flows_enforced entries site p forwards) in
+    let alone : ForwardsAsExpected (Passes entries) site p [] = enforced_expected (Passes entries) site p [] (no_flows p) (flows_enforced entries site p forwards) in
     record {
       expected = λ events answers packets run. same_expected site p s events answers packets covered (alone.expected events answers packets run);
       some = alone.some;

@@ -10,8 +10,8 @@ use Rattle.host_net.specs.declared.packet.Verdict.{Verdict}
 use Rattle.host_net.specs.declared.service.Service.{Service}
 use Rattle.host_net.specs.Prefix.{covers}
 use Rattle.host_net.specs.Host.{owner_of, rest_of}
-use Rattle.host_net.specs.Service.{is_served, narrowings}
-use Rattle.host_net.specs.Services.{NarrowedFlow, services_of}
+use Rattle.host_net.specs.Service.{is_served, service_matches}
+use Rattle.host_net.specs.Services.{RestrictedFlow, services_of}
 use Rattle.host_net.specs.Site.{Site}
 use Rattle.host_net.specs.inner.Site.{IsSite}
 use Rattle.host_net.specs.Verdict.{verdict_if}
@@ -27,7 +27,7 @@ use Rattle.ofp_rules.specs.Ambiguity.{IsFrame}
 use Rattle.ofp_rules.specs.inner.Build.{AreAmbiguous}
 use Rattle.ofp_rules.proofs.HighestLaws.{one_of_at}
 use Rattle.ofp_rules.specs.Matching.{matches}
-use Rattle.ofp_rules.specs.Meaning.{IsOneOf, HasVerdict}
+use Rattle.ofp_rules.specs.Semantics.{IsOneOf, HasVerdict}
 use Rattle.emit_core.specs.FlowTable.{ip_entry, service_entry, flow_entries}
 use Rattle.emit_core.proofs.FlowTableOriginLaws.{IsBetween, Origin, of_pair, of_to_rest, of_from_rest, of_arp, of_other, origin}
 use Rattle.emit_core.proofs.FlowTablePairLaws.{PairKind, of_service, of_low, of_drop, pair_kind}
@@ -35,7 +35,7 @@ use Rattle.emit_core.proofs.FlowTableServiceLaws.{IsAskable, askable, entry_matc
 use Rattle.emit_core.proofs.HeldLaws.{owner_is}
 use Rattle.emit_core.proofs.NarrowingLaws.{lets}
 use Rattle.emit_core.specs.PortRanges.{HasNoRange}
-use Rattle.emit_core.specs.Sides.{permits}
+use Rattle.emit_core.specs.Directions.{permits}
 
 -- The frame is to be forwarded: an IPv4 frame if its packet belongs to a permitted flow, an ARP frame always, any other
 -- frame never.
@@ -51,10 +51,10 @@ pub record ForwardsFlows (entries : List Entry) (site : Site) (p : List Flow) : 
   pub only : (frame : Frame) (v : Verdict) → IsFrame frame → HasVerdict entries frame v → v ≡ verdict_if (passes site p frame)
 
 -- The packet belongs to the flow: the flow is in the set, and its services match the packet.
-abbrev pub belongs : List NarrowedFlow → List Flow → Packet → Option Flow → Bool
+abbrev pub belongs : List RestrictedFlow → List Flow → Packet → Option Flow → Bool
 belongs services flows packet flow = option_map_or (λ f. has flows f && is_served (services_of services f.from f.to) packet) flow false
 
-belongs_by : (same : Bool) (services : List NarrowedFlow) (p : List Flow) (f : Flow) (packet : Packet)
+belongs_by : (same : Bool) (services : List RestrictedFlow) (p : List Flow) (f : Flow) (packet : Packet)
     → belongs services p packet (if same then None else Some f) ≡ ((not same && has p f) && is_served (services_of services f.from f.to) packet)
 belongs_by true services p f packet = refl
 belongs_by false services p f packet = refl
@@ -93,7 +93,7 @@ module _ (site : Site) (p : List Flow) where
 
   -- A permitted flow with a service that an entry matches.
   pub passes_by : (packet : Packet) (i j : ℕ) (n : Option Service) → owner_of site.hosts packet.src ≡ Some i → owner_of site.hosts packet.dst ≡ Some j
-      → permits p i j ≡ true → IsOneOf n (narrowings (services_of site.services i j)) → lets packet n ≡ true → is_of site p packet ≡ true
+      → permits p i j ≡ true → IsOneOf n (service_matches (services_of site.services i j)) → lets packet n ≡ true → is_of site p packet ≡ true
   passes_by packet i j n from to permitted one on =
       of_owners packet i j from to ∙ and_from _ _ permitted (served_by (services_of site.services i j) packet n one on)
 
@@ -118,14 +118,14 @@ module _ (site : Site) (p : List Flow) (known : IsSite site) where
       of_owners site p packet o.i o.j owners.0 owners.1 ∙ ap (λ b. b && is_served (services_of site.services o.i o.j) packet) denied
 
 module _ (site : Site) (p : List Flow) (known : IsSite site) (plain : HasNoRange site.services p) where
-  pub askable_by : (i j : ℕ) (n : Option Service) → permits p i j ≡ true → IsOneOf n (narrowings (services_of site.services i j)) → IsAskable n
+  pub askable_by : (i j : ℕ) (n : Option Service) → permits p i j ≡ true → IsOneOf n (service_matches (services_of site.services i j)) → IsAskable n
   askable_by i j n permitted one =
       askable (services_of site.services i j) n (known.services.valid i j)
       (plain (record { from = i; to = j }) (and_parts (not (i == j)) (has p (record { from = i; to = j })) permitted).1) one
 
   -- A frame that an entry for a service forwards is to be forwarded.
   pub service_goes : (frame : Frame) (e : Entry) (o : IsBetween site p e) (n : Option Service) → IsFrame frame → permits p o.i o.j ≡ true
-      → IsOneOf n (narrowings (services_of site.services o.i o.j)) → matches frame (service_entry 40 (Some o.q) (Some o.t) n) ≡ true
+      → IsOneOf n (service_matches (services_of site.services o.i o.j)) → matches frame (service_entry 40 (Some o.q) (Some o.t) n) ≡ true
       → passes site p frame ≡ true
   service_goes Arp e o n is permitted one on = cc
   service_goes Other e o n is permitted one on = cc

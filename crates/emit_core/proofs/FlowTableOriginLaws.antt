@@ -3,16 +3,16 @@ use Rattle.std.proofs.Common.{◌≡◌, inl, inr, ℕ, Bool, true, false, List,
 use Rattle.host_net.specs.declared.prefix.Prefix.{Prefix}
 use Rattle.host_net.specs.declared.service.Service.{Service}
 use Rattle.host_net.specs.Host.{Host, rest_of}
-use Rattle.host_net.specs.Service.{narrowings}
+use Rattle.host_net.specs.Service.{service_matches}
 use Rattle.host_net.specs.Services.{services_of}
 use Rattle.host_net.specs.Site.{Site}
 use Rattle.flow_set.specs.declared.flow.Flow.{Flow}
 use Rattle.ofp_rules.specs.declared.entry.Entry.{Entry}
 use Rattle.ofp_rules.proofs.HighestLaws.{one_of_front, one_of_back, one_of_parts}
-use Rattle.ofp_rules.specs.Meaning.{IsOneOf}
+use Rattle.ofp_rules.specs.Semantics.{IsOneOf}
 use Rattle.emit_core.proofs.EachHostLaws.{flat_from, flat_in, map_from, map_in, each_from, each_in}
 use Rattle.emit_core.specs.FlowTable.{service_entry, pair_entries, from_prefix, host_pair, from_host, between, to_rest_host, from_rest_host, to_rest, from_rest, with_rest, arp_entry, other_entry, flow_entries}
-use Rattle.emit_core.specs.Sides.{permits}
+use Rattle.emit_core.specs.Directions.{permits}
 
 module _ (site : Site) (p : List Flow) where
   pub record IsBetween (e : Entry) : Type 0 where
@@ -38,7 +38,7 @@ module _ (site : Site) (p : List Flow) where
     pub there : slice_get site.hosts i ≡ Some h
     pub from : IsOneOf q h.prefixes
     pub permitted : permits p i r ≡ true
-    pub one : IsOneOf n (narrowings (services_of site.services i r))
+    pub one : IsOneOf n (service_matches (services_of site.services i r))
     pub is : e ≡ service_entry 30 (Some q) None n
 
   pub record IsFromRest (e : Entry) : Type 0 where
@@ -51,7 +51,7 @@ module _ (site : Site) (p : List Flow) where
     pub there : slice_get site.hosts i ≡ Some h
     pub to : IsOneOf q h.prefixes
     pub permitted : permits p r i ≡ true
-    pub one : IsOneOf n (narrowings (services_of site.services r i))
+    pub one : IsOneOf n (service_matches (services_of site.services r i))
     pub is : e ≡ service_entry 30 None (Some q) n
 
   pub data Origin (e : Entry) : Type 0 where
@@ -87,16 +87,16 @@ module _ (site : Site) (p : List Flow) where
       → IsOneOf e (to_rest_host b (services_of site.services i r) h.prefixes) → IsToRest e
   to_rest_by r i h e false rest there is listed = absurd listed
   to_rest_by r i h e true rest there is listed =
-      let a = flat_from (λ q. map (service_entry 30 (Some q) None) (narrowings (services_of site.services i r))) h.prefixes e listed in
-      let made = map_from (service_entry 30 (Some a.from) None) (narrowings (services_of site.services i r)) e a.written in
+      let a = flat_from (λ q. map (service_entry 30 (Some q) None) (service_matches (services_of site.services i r))) h.prefixes e listed in
+      let made = map_from (service_entry 30 (Some a.from) None) (service_matches (services_of site.services i r)) e a.written in
       record { r = r; i = i; h = h; q = a.from; n = made.from; rest = rest; there = there; from = a.listed; permitted = is; one = made.listed; is = made.is }
 
   from_rest_by : (r i : ℕ) (h : Host) (e : Entry) (b : Bool) → rest_of site.hosts ≡ Some r → slice_get site.hosts i ≡ Some h → permits p r i ≡ b
       → IsOneOf e (from_rest_host b (services_of site.services r i) h.prefixes) → IsFromRest e
   from_rest_by r i h e false rest there is listed = absurd listed
   from_rest_by r i h e true rest there is listed =
-      let a = flat_from (λ q. map (service_entry 30 None (Some q)) (narrowings (services_of site.services r i))) h.prefixes e listed in
-      let made = map_from (service_entry 30 None (Some a.from)) (narrowings (services_of site.services r i)) e a.written in
+      let a = flat_from (λ q. map (service_entry 30 None (Some q)) (service_matches (services_of site.services r i))) h.prefixes e listed in
+      let made = map_from (service_entry 30 None (Some a.from)) (service_matches (services_of site.services r i)) e a.written in
       record { r = r; i = i; h = h; q = a.from; n = made.from; rest = rest; there = there; to = a.listed; permitted = is; one = made.listed; is = made.is }
 
   rest_origin : (e : Entry) (rest : Option ℕ) → rest_of site.hosts ≡ rest → IsOneOf e (with_rest site p rest) → Origin e
@@ -147,7 +147,7 @@ module _ (site : Site) (p : List Flow) where
       (subst (λ (o : Option ℕ). IsOneOf e (with_rest site p o)) (sym rest) listed))
 
   pub to_rest_in : (r i : ℕ) (h : Host) (q : Prefix) (n : Option Service) → rest_of site.hosts ≡ Some r → slice_get site.hosts i ≡ Some h
-      → IsOneOf q h.prefixes → permits p i r ≡ true → IsOneOf n (narrowings (services_of site.services i r))
+      → IsOneOf q h.prefixes → permits p i r ≡ true → IsOneOf n (service_matches (services_of site.services i r))
       → IsOneOf (service_entry 30 (Some q) None n) (flow_entries site p)
   to_rest_in r i h q n rest there from permitted one =
       let e : Entry = service_entry 30 (Some q) None n in
@@ -155,11 +155,11 @@ module _ (site : Site) (p : List Flow) where
       (one_of_front e (to_rest site p r) (from_rest site p r)
       (each_in (λ k qs. to_rest_host (permits p k r) (services_of site.services k r) qs) site.hosts e i h there
       (subst (λ (b : Bool). IsOneOf e (to_rest_host b (services_of site.services i r) h.prefixes)) (sym permitted)
-      (flat_in (λ x. map (service_entry 30 (Some x) None) (narrowings (services_of site.services i r))) h.prefixes q e from
-      (map_in (service_entry 30 (Some q) None) (narrowings (services_of site.services i r)) n one)))))
+      (flat_in (λ x. map (service_entry 30 (Some x) None) (service_matches (services_of site.services i r))) h.prefixes q e from
+      (map_in (service_entry 30 (Some q) None) (service_matches (services_of site.services i r)) n one)))))
 
   pub from_rest_in : (r i : ℕ) (h : Host) (q : Prefix) (n : Option Service) → rest_of site.hosts ≡ Some r → slice_get site.hosts i ≡ Some h
-      → IsOneOf q h.prefixes → permits p r i ≡ true → IsOneOf n (narrowings (services_of site.services r i))
+      → IsOneOf q h.prefixes → permits p r i ≡ true → IsOneOf n (service_matches (services_of site.services r i))
       → IsOneOf (service_entry 30 None (Some q) n) (flow_entries site p)
   from_rest_in r i h q n rest there to permitted one =
       let e : Entry = service_entry 30 None (Some q) n in
@@ -167,8 +167,8 @@ module _ (site : Site) (p : List Flow) where
       (one_of_back e (to_rest site p r) (from_rest site p r)
       (each_in (λ k qs. from_rest_host (permits p r k) (services_of site.services r k) qs) site.hosts e i h there
       (subst (λ (b : Bool). IsOneOf e (from_rest_host b (services_of site.services r i) h.prefixes)) (sym permitted)
-      (flat_in (λ x. map (service_entry 30 None (Some x)) (narrowings (services_of site.services r i))) h.prefixes q e to
-      (map_in (service_entry 30 None (Some q)) (narrowings (services_of site.services r i)) n one)))))
+      (flat_in (λ x. map (service_entry 30 None (Some x)) (service_matches (services_of site.services r i))) h.prefixes q e to
+      (map_in (service_entry 30 None (Some q)) (service_matches (services_of site.services r i)) n one)))))
 
   pub last_in : (e : Entry) → IsOneOf e (arp_entry ∷ other_entry ∷ []) → IsOneOf e (flow_entries site p)
   unfolding flow_entries

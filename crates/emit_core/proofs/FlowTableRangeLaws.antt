@@ -11,7 +11,7 @@ use Rattle.host_net.specs.declared.service.Service.{Service}
 use Rattle.host_net.specs.Host.{Host}
 use Rattle.host_net.specs.Hosts.{all_prefixes}
 use Rattle.host_net.specs.inner.Hosts.{IsHosts, is_network}
-use Rattle.host_net.specs.Service.{has_all_ports, has_ports, narrowings}
+use Rattle.host_net.specs.Service.{has_all_ports, has_ports, service_matches}
 use Rattle.host_net.specs.inner.Service.{is_service}
 use Rattle.host_net.specs.Services.{services_of}
 use Rattle.host_net.specs.inner.Services.{AreServices}
@@ -20,7 +20,7 @@ use Rattle.host_net.specs.inner.Site.{IsSite}
 use Rattle.flow_set.specs.declared.flow.Flow.{Flow}
 use Rattle.ofp_rules.specs.declared.entry.Entry.{Entry}
 use Rattle.ofp_rules.specs.Matching.{asks_of_ip}
-use Rattle.ofp_rules.specs.Meaning.{IsOneOf}
+use Rattle.ofp_rules.specs.Semantics.{IsOneOf}
 use Rattle.ofp_rules.specs.inner.Ranges.{AreInRange, address_fits, in_range, number_fits}
 use Rattle.emit_core.proofs.EachHostLaws.{all_pass, one_passes}
 use Rattle.emit_core.specs.FlowTable.{service_entry, flow_entries}
@@ -28,7 +28,7 @@ use Rattle.emit_core.proofs.FlowTableLaws.{kind_of_pair}
 use Rattle.emit_core.proofs.FlowTableOriginLaws.{IsBetween, Origin, of_pair, of_to_rest, of_from_rest, of_arp, of_other, origin}
 use Rattle.emit_core.proofs.FlowTablePairLaws.{PairKind, of_service, of_low, of_drop}
 use Rattle.emit_core.proofs.FlowTableServiceLaws.{narrowed_passes}
-use Rattle.emit_core.specs.Sides.{permits}
+use Rattle.emit_core.specs.Directions.{permits}
 
 -- The addresses: a host's prefixes are networks.
 held_network : (hosts : List Host) (i : ℕ) (h : Host) (q : Prefix) → list_all is_network (all_prefixes hosts) ≡ true
@@ -75,7 +75,7 @@ service_asks k q t None valid = refl
 service_asks k q t (Some s) valid = port_asked_by (has_all_ports s) s refl valid
 
 module _ (site : Site) (p : List Flow) (valid : AreServices site.services) where
-  valid_of : (i j : ℕ) (n : Option Service) → IsOneOf n (narrowings (services_of site.services i j)) → IsValid n
+  valid_of : (i j : ℕ) (n : Option Service) → IsOneOf n (service_matches (services_of site.services i j)) → IsValid n
   valid_of i j n one = narrowed_passes is_service (services_of site.services i j) n (valid.valid i j) one
 
   pair_asks : (e : Entry) (o : IsBetween site p e) → PairKind (permits p o.i o.j) (services_of site.services o.i o.j) o.q o.t e → asks_of_ip e ≡ true

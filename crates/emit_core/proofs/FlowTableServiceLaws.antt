@@ -9,19 +9,19 @@ use Rattle.host_net.specs.declared.prefix.Prefix.{Prefix}
 use Rattle.host_net.specs.declared.packet.Packet.{Packet}
 use Rattle.host_net.specs.declared.service.Service.{Service}
 use Rattle.host_net.specs.Packet.{IsPacket}
-use Rattle.host_net.specs.Service.{has_all_ports, is_served, narrowings}
+use Rattle.host_net.specs.Service.{has_all_ports, is_served, service_matches}
 use Rattle.host_net.specs.inner.Service.{is_service}
 use Rattle.ofp_rules.specs.declared.entry.Action.TheVariants.{Normal}
 use Rattle.ofp_rules.specs.declared.entry.Frame.TheVariants.{Ipv4}
 use Rattle.ofp_rules.specs.Matching.{matches, number_matches}
-use Rattle.ofp_rules.specs.Meaning.{IsOneOf}
+use Rattle.ofp_rules.specs.Semantics.{IsOneOf}
 use Rattle.emit_core.proofs.EachHostLaws.{map_from, one_passes}
 use Rattle.emit_core.specs.FlowTable.{ip_entry, service_entry, port_of_service}
-use Rattle.emit_core.proofs.NarrowingLaws.{lets, is_served-narrowings, all_ports}
+use Rattle.emit_core.proofs.NarrowingLaws.{lets, is_served-service_matches, all_ports}
 use Rattle.emit_core.specs.PortRanges.{is_range}
 
 -- A test that each service of a flow passes is passed by each of its restrictions.
-pub narrowed_passes : (test : Service → Bool) (ss : List Service) (n : Option Service) → list_all test ss ≡ true → IsOneOf n (narrowings ss)
+pub narrowed_passes : (test : Service → Bool) (ss : List Service) (n : Option Service) → list_all test ss ≡ true → IsOneOf n (service_matches ss)
     → option_map_or test n true ≡ true
 narrowed_passes test [] n all (inl is) = ap (λ (o : Option Service). option_map_or test o true) is
 narrowed_passes test [] n all (inr none) = absurd none
@@ -46,7 +46,7 @@ no_ranges (s ∷ ss) none = by (is_range s) (no_ranges ss) none
     by true later h = cc
     by false later h = later h
 
-pub askable : (ss : List Service) (n : Option Service) → list_all is_service ss ≡ true → list_any is_range ss ≡ false → IsOneOf n (narrowings ss)
+pub askable : (ss : List Service) (n : Option Service) → list_all is_service ss ≡ true → list_any is_range ss ≡ false → IsOneOf n (service_matches ss)
     → IsAskable n
 askable ss n valid plain one = record {
   service = narrowed_passes is_service ss n valid one;
@@ -91,8 +91,8 @@ any_of test [] n one on = absurd one
 any_of test (m ∷ ns) n (inl is) on = or_left (test m) (list_any test ns) (ap test (sym is) ∙ on)
 any_of test (m ∷ ns) n (inr later) on = or_right (test m) (list_any test ns) (any_of test ns n later on)
 
-pub served_by : (ss : List Service) (packet : Packet) (n : Option Service) → IsOneOf n (narrowings ss) → lets packet n ≡ true → is_served ss packet ≡ true
-served_by ss packet n one on = is_served-narrowings packet ss ∙ any_of (lets packet) (narrowings ss) n one on
+pub served_by : (ss : List Service) (packet : Packet) (n : Option Service) → IsOneOf n (service_matches ss) → lets packet n ≡ true → is_served ss packet ≡ true
+served_by ss packet n one on = is_served-service_matches packet ss ∙ any_of (lets packet) (service_matches ss) n one on
 
 pub record Serving (packet : Packet) (ns : List (Option Service)) : Type 0 where
   pub narrowing : Option Service
@@ -108,5 +108,5 @@ serving packet (n ∷ ns) h = by (lets packet n) refl (serving packet ns) h
     by true is later on = record { narrowing = n; listed = inl refl; lets_it = is }
     by false is later on = let r = later on in record { narrowing = r.narrowing; listed = inr r.listed; lets_it = r.lets_it }
 
-pub server : (ss : List Service) (packet : Packet) → is_served ss packet ≡ true → Serving packet (narrowings ss)
-server ss packet served = serving packet (narrowings ss) (sym (is_served-narrowings packet ss) ∙ served)
+pub server : (ss : List Service) (packet : Packet) → is_served ss packet ≡ true → Serving packet (service_matches ss)
+server ss packet served = serving packet (service_matches ss) (sym (is_served-service_matches packet ss) ∙ served)

@@ -20,7 +20,7 @@ use Rattle.ofp_rules.specs.declared.entry.Frame.TheVariants.{Arp, Ipv4, Other}
 use Rattle.ofp_rules.specs.Ambiguity.{IsFrame}
 use Rattle.ofp_rules.proofs.HighestLaws.{has_verdict}
 use Rattle.ofp_rules.specs.Matching.{matches}
-use Rattle.ofp_rules.specs.Meaning.{IsOneOf, IsHighest, HasVerdict, verdict_of as verdict_by_action}
+use Rattle.ofp_rules.specs.Semantics.{IsOneOf, IsHighest, HasVerdict, verdict_of as verdict_by_action}
 use Rattle.emit_core.specs.FlowTable.{ip_entry, service_entry, pair_entries, arp_entry, other_entry, flow_entries}
 use Rattle.emit_core.proofs.FlowTableLaws.{passes, ForwardsFlows, of_owners, of_nobody_from, of_nobody_to, never_within, askable_by, passes_by, service_goes, drop_stays, kind_of_pair}
 use Rattle.emit_core.proofs.FlowTableOriginLaws.{IsBetween, IsToRest, IsFromRest, Origin, of_pair, of_to_rest, of_from_rest, of_arp, of_other, origin, pair_in, to_rest_in, from_rest_in, last_in}
@@ -29,7 +29,7 @@ use Rattle.emit_core.proofs.FlowTableServiceLaws.{entry_matches, server}
 use Rattle.emit_core.proofs.HeldLaws.{IsHeld, ownership, owner_is}
 use Rattle.emit_core.proofs.NarrowingLaws.{lets}
 use Rattle.emit_core.specs.PortRanges.{HasNoRange}
-use Rattle.emit_core.specs.Sides.{permits}
+use Rattle.emit_core.specs.Directions.{permits}
 
 module _ (site : Site) (p : List Flow) (known : IsSite site) (plain : HasNoRange site.services p) where
   abbrev table : List Entry

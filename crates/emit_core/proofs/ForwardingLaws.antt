@@ -7,11 +7,11 @@ use Rattle.host_net.specs.declared.packet.Packet.{Packet}
 use Rattle.host_net.specs.declared.packet.CtState.{CtState}
 use Rattle.host_net.specs.declared.packet.Verdict.{Verdict}
 use Rattle.host_net.specs.declared.prefix.Prefix.{Prefix}
-use Rattle.host_net.specs.Host.{owner_of, holder_of, rest_of}
+use Rattle.host_net.specs.Host.{owner_of, prefix_owner_of, rest_of}
 use Rattle.host_net.specs.inner.Hosts.{IsHosts}
 use Rattle.host_net.specs.Packet.{IsPacket, swap_of}
 use Rattle.host_net.specs.Service.{is_served}
-use Rattle.host_net.specs.Services.{NarrowedFlow, services_of}
+use Rattle.host_net.specs.Services.{RestrictedFlow, services_of}
 use Rattle.host_net.specs.Site.{Site}
 use Rattle.host_net.specs.Verdict.{verdict_if}
 use Rattle.host_net.proofs.VerdictLaws.{verdict_if-injective}
@@ -23,21 +23,21 @@ use Rattle.ipt_rules.specs.declared.rule.Policy.TheVariants.{Drop as Dropping}
 use Rattle.ipt_rules.specs.Chain.{rules_of}
 use Rattle.ipt_rules.specs.inner.ChainTable.{rules_in}
 use Rattle.ipt_rules.specs.Matching.{matches}
-use Rattle.ipt_rules.specs.Meaning.{Gives, Passes, verdict_by}
+use Rattle.ipt_rules.specs.Semantics.{Gives, Passes, verdict_by}
 use Rattle.ipt_rules.proofs.MeaningLaws.{verdict_once}
 use Rattle.ipt_rules.specs.inner.OneOutcome.{HasVerdict}
 use Rattle.ipt_rules.specs.inner.Saying.{Says}
 use Rattle.ipt_rules.proofs.SayingLaws.{says_none, says_append, says_jump, gives_said, verdict_said}
-use Rattle.pkt_core.specs.Filter.{Enforces, ForwardsExpected}
+use Rattle.pkt_core.specs.Filter.{Enforces, ForwardsAsExpected}
 use Rattle.pkt_core.proofs.FilterLaws.{enforced_expected}
 use Rattle.pkt_core.specs.Firewall.{is_established}
 use Rattle.pkt_core.specs.FlowPolicy.{flow_of_owners, lets_pass}
-use Rattle.emit_core.specs.declared.side.Side.TheVariants.{Sending, Receiving}
+use Rattle.emit_core.specs.declared.direction.Direction.TheVariants.{Outbound, Inbound}
 use Rattle.emit_core.proofs.HostChainLaws.{says_for_each, may_link_owner, said_by, host_says}
 use Rattle.emit_core.specs.Layout.{for_each_prefix, host_rules, forward_rules, rest_jump, jump_from, from_source, chain_of, layout, host_chain}
 use Rattle.emit_core.proofs.OwnerLaws.{IsHeldOnce, hosts_hold_once, rest_below}
 use Rattle.emit_core.proofs.RuleFitsLaws.{lies_in, source_fits}
-use Rattle.emit_core.specs.Sides.{permits}
+use Rattle.emit_core.specs.Directions.{permits}
 
 -- 1. FORWARD.
 
@@ -52,29 +52,29 @@ host_chain_at site p s k (suc n) (suc i) below =
     rw (← moved) (host_chain_at site p s (k + 1) n i later)
 
 chain_rules : (site : Site) (p s : List Flow) (i : ℕ) → i < length site.hosts
-    → rules_of (layout site p s) (chain_of i) ≡ host_rules Sending site p s i
+    → rules_of (layout site p s) (chain_of i) ≡ host_rules Outbound site p s i
 chain_rules site p s i below =
     let three : i + 3 ≡ suc (suc (suc i)) = omega arith in
     let start : 0 + i ≡ i = omega arith in
-    rw three (ap rules_in (host_chain_at site p s 0 (length site.hosts) i below) ∙ ap (host_rules Sending site p s) start)
+    rw three (ap rules_in (host_chain_at site p s 0 (length site.hosts) i below) ∙ ap (host_rules Outbound site p s) start)
 
 jump_says : (site : Site) (p s : List Flow) (packet : Packet) (state : CtState) (i : ℕ) → IsPacket packet → i < length site.hosts
     → IsHeldOnce packet.dst site.hosts → (q : Option Prefix)
     → Says (matches packet state) (layout site p s) (from_source q (Jump (chain_of i)) ∷ [])
-    (if lies_in q packet.src then Some (said_by Sending site p s packet state i) else None)
+    (if lies_in q packet.src then Some (said_by Outbound site p s packet state i) else None)
 jump_says site p s packet state i is below once q =
     let fits = matches packet state in
     let chains = layout site p s in
-    let v = said_by Sending site p s packet state i in
+    let v = said_by Outbound site p s packet state i in
     subst (λ (x : Bool). Says fits chains (from_source q (Jump (chain_of i)) ∷ []) (if x then Some v else None))
     (source_fits q (Jump (chain_of i)) packet state)
     (says_jump fits chains (from_source q (Jump (chain_of i))) (chain_of i) (Some v) refl
     (subst (λ (x : List Rule). Gives fits chains x (Some v)) (sym (chain_rules site p s i below))
-    (gives_said fits chains (host_rules Sending site p s i) (Some v) (host_says Sending chains site p s packet state i is once))))
+    (gives_said fits chains (host_rules Outbound site p s i) (Some v) (host_says Outbound chains site p s packet state i is once))))
 
 rest_jump_says : (site : Site) (p s : List Flow) (packet : Packet) (state : CtState) (rest : Option ℕ) → IsPacket packet
     → ((r : ℕ) → rest ≡ Some r → r < length site.hosts) → IsHeldOnce packet.dst site.hosts
-    → Says (matches packet state) (layout site p s) (rest_jump rest) (option_map (said_by Sending site p s packet state) rest)
+    → Says (matches packet state) (layout site p s) (rest_jump rest) (option_map (said_by Outbound site p s packet state) rest)
 rest_jump_says site p s packet state None is below once = says_none (matches packet state) (layout site p s)
 rest_jump_says site p s packet state (Some r) is below once = jump_says site p s packet state r is (below r refl) once None
 
@@ -86,13 +86,13 @@ by_owner said (Some i) rest = refl
 -- FORWARD has the verdict of the chain of the host that owns the source.
 forward_says : (site : Site) (p s : List Flow) (packet : Packet) (state : CtState) → IsPacket packet
     → IsHeldOnce packet.src site.hosts → IsHeldOnce packet.dst site.hosts
-    → Says (matches packet state) (layout site p s) (forward_rules site.hosts) (option_map (said_by Sending site p s packet state) (owner_of site.hosts packet.src))
+    → Says (matches packet state) (layout site p s) (forward_rules site.hosts) (option_map (said_by Outbound site p s packet state) (owner_of site.hosts packet.src))
 unfolding owner_of
 forward_says site p s packet state is source destination =
     let fits = matches packet state in
     let chains = layout site p s in
-    let said = said_by Sending site p s packet state in
-    let own = holder_of site.hosts packet.src in
+    let said = said_by Outbound site p s packet state in
+    let own = prefix_owner_of site.hosts packet.src in
     subst (λ (x : Option Verdict). Says fits chains (forward_rules site.hosts) x) (by_owner said own (rest_of site.hosts))
     (says_append fits chains (for_each_prefix jump_from 0 site.hosts) (rest_jump (rest_of site.hosts)) _ _
     (says_for_each fits chains packet.src (length site.hosts) (λ i. Some (said i)) jump_from
@@ -116,7 +116,7 @@ answered flows f false served established = together (has flows f) served establ
     together false b c = refl
 
 -- The flow that is found is the requested one, with its services.
-of_found : (services : List NarrowedFlow) (flows : List Flow) (f : Flow) (packet : Packet) (same : Bool)
+of_found : (services : List RestrictedFlow) (flows : List Flow) (f : Flow) (packet : Packet) (same : Bool)
     → option_map_or (λ g. has flows g && is_served (services_of services f.from f.to) packet) (if same then None else Some f) false
     ≡ option_map_or (λ g. has flows g && is_served (services_of services g.from g.to) packet) (if same then None else Some f) false
 of_found services flows f packet true = refl
@@ -140,7 +140,7 @@ back_to_one site s packet established i j =
 
 -- A policy allows a packet if and only if the owner of its source may send to the owner of its destination.
 pub owners_send : (site : Site) (p s : List Flow) (packet : Packet) (established : Bool) (from to : Option ℕ)
-    → option_map_or (λ i. may_link_owner Sending site p s packet established i to) from false
+    → option_map_or (λ i. may_link_owner Outbound site p s packet established i to) from false
     ≡ (option_map_or (λ f. has p f && is_served (services_of site.services f.from f.to) packet) (flow_of_owners from to) false
     || (option_map_or (λ f. has s f && is_served (services_of site.services f.from f.to) (swap_of packet)) (flow_of_owners to from) false && established))
 owners_send site p s packet established None None = refl
@@ -150,7 +150,7 @@ owners_send site p s packet established (Some i) (Some j) = λ k. to_one site p 
 
 -- Equivalently, if the owner of its destination may receive from the owner of its source.
 pub owners_receive : (site : Site) (p s : List Flow) (packet : Packet) (established : Bool) (from to : Option ℕ)
-    → option_map_or (λ j. may_link_owner Receiving site p s packet established j from) to false
+    → option_map_or (λ j. may_link_owner Inbound site p s packet established j from) to false
     ≡ (option_map_or (λ f. has p f && is_served (services_of site.services f.from f.to) packet) (flow_of_owners from to) false
     || (option_map_or (λ f. has s f && is_served (services_of site.services f.from f.to) (swap_of packet)) (flow_of_owners to from) false && established))
 owners_receive site p s packet established None None = refl
@@ -171,9 +171,9 @@ layout_verdict : (site : Site) (p s : List Flow) (packet : Packet) (state : CtSt
 layout_verdict site p s packet state is source destination =
     let owner = owner_of site.hosts packet.src in
     let to = owner_of site.hosts packet.dst in
-    let said = option_map (said_by Sending site p s packet state) owner in
+    let said = option_map (said_by Outbound site p s packet state) owner in
     let same : verdict_by (Some Dropping) said ≡ verdict_if (lets_pass site p s packet state) =
-    sym (by_default (λ i. may_link_owner Sending site p s packet (is_established state) i to) owner) ∙ ap verdict_if (owners_send site p s packet (is_established state) owner to) in
+    sym (by_default (λ i. may_link_owner Outbound site p s packet (is_established state) i to) owner) ∙ ap verdict_if (owners_send site p s packet (is_established state) owner to) in
     subst (HasVerdict (layout site p s) packet state) same
     (verdict_said (layout site p s) 1 packet state said (forward_says site p s packet state is source destination))
 
@@ -187,5 +187,5 @@ layout_enforces site p s known =
     }
 
 -- So they forward exactly what is expected.
-pub layout_expected : (site : Site) (p s : List Flow) → IsHosts site.hosts → IsSubset s p → ForwardsExpected (Passes (layout site p s)) site p s
+pub layout_expected : (site : Site) (p s : List Flow) → IsHosts site.hosts → IsSubset s p → ForwardsAsExpected (Passes (layout site p s)) site p s
 layout_expected site p s known subset = enforced_expected (Passes (layout site p s)) site p s subset (layout_enforces site p s known)

@@ -9,7 +9,7 @@ use Rattle.host_net.specs.Prefix.{covers}
 use Rattle.host_net.specs.Host.{Host, covers_any, owner_of, rest_of}
 use Rattle.host_net.specs.inner.Hosts.{IsHosts}
 use Rattle.host_net.proofs.OwnerLaws.{owner_of_covered}
-use Rattle.ofp_rules.specs.Meaning.{IsOneOf}
+use Rattle.ofp_rules.specs.Semantics.{IsOneOf}
 
 -- The owner of an address: a host with a prefix that covers it, otherwise the rest host, if there is one.
 pub record IsHeld (hosts : List Host) (a : ℕ) : Type 0 where

@@ -22,12 +22,12 @@ use Rattle.ipt_rules.specs.declared.rule.Target.{Target}
 use Rattle.ipt_rules.specs.declared.rule.Target.TheVariants.{Accept, Drop, Reject, Return, Count, Jump}
 use Rattle.ipt_rules.specs.Chain.{number_of}
 use Rattle.ipt_rules.specs.ChainTable.{rule_count}
-use Rattle.ipt_rules.specs.inner.Build.{jumps_nowhere, first_unknown, refusal_of}
-use Rattle.ipt_rules.specs.Loops.{HasNoLoop}
+use Rattle.ipt_rules.specs.inner.Build.{has_unknown_target, first_unknown, refusal_of}
+use Rattle.ipt_rules.specs.Loops.{IsAcyclic}
 use Rattle.ipt_rules.proofs.LoopLaws.{goes_up, jumps_go_up, no_loop_upward}
 use Rattle.ipt_rules.specs.Name.{is_user_name, is_reserved, is_printing, has_name_length}
-use Rattle.emit_core.specs.declared.side.Side.{Side}
-use Rattle.emit_core.specs.declared.side.Side.TheVariants.{Sending}
+use Rattle.emit_core.specs.declared.direction.Direction.{Direction}
+use Rattle.emit_core.specs.declared.direction.Direction.TheVariants.{Outbound}
 use Rattle.emit_core.proofs.LayoutRulesLaws.{PassForms, all_anywhere, anywhere, forward_rules_pass, host_rules_pass}
 use Rattle.emit_core.specs.Layout.{for_each_prefix, host_rules, forward_rules, rest_jump, jump_from, chain_of, layout, host_chain, host_chain_name}
 use Rattle.emit_core.specs.inner.Filling.{chains_up_to}
@@ -66,7 +66,7 @@ jumps_between low past (Jump c) = nat_le low c && nat_lt c past
 jumps_between low past _ = true
 
 -- No rule of a host's chain jumps.
-pub host_rules_stay : (low : ℕ) (side : Side) (site : Site) (p s : List Flow) (i : ℕ) → AreServices site.services
+pub host_rules_stay : (low : ℕ) (side : Direction) (site : Site) (p s : List Flow) (i : ℕ) → AreServices site.services
     → list_all (λ r. jumps_between low 0 r.target) (host_rules side site p s i) ≡ true
 host_rules_stay low side site p s i are =
     let stay : Rule → Bool = λ r. jumps_between low 0 r.target in
@@ -82,7 +82,7 @@ forward_rules_jump hosts =
     forward_rules_pass (λ r. jumps_between 3 (length hosts + 3) r.target) anywhere hosts (λ q i below at. jump_there (length hosts) i below)
     (all_anywhere (all_prefixes hosts))
 
-somewhere : (low past count : ℕ) → 3 ≤ low → past ≤ count → (t : Target) → jumps_between low past t ≡ true → jumps_nowhere count t ≡ false
+somewhere : (low past count : ℕ) → 3 ≤ low → past ≤ count → (t : Target) → jumps_between low past t ≡ true → has_unknown_target count t ≡ false
 somewhere low past count user room Accept is = refl
 somewhere low past count user room Drop is = refl
 somewhere low past count user room Reject is = refl
@@ -92,7 +92,7 @@ somewhere low past count user room (Jump c) is = grind (arith, nat_tests)
 
 -- Rules that jump to existing user chains have known targets.
 pub none_nowhere : (low past count : ℕ) → 3 ≤ low → past ≤ count → (i : ℕ) (rules : List Rule)
-    → list_all (λ r. jumps_between low past r.target) rules ≡ true → position_from (λ r. jumps_nowhere count r.target) i rules ≡ None
+    → list_all (λ r. jumps_between low past r.target) rules ≡ true → position_from (λ r. has_unknown_target count r.target) i rules ≡ None
 none_nowhere low past count user room i [] all = refl
 none_nowhere low past count user room i (r ∷ rs) all =
     let parts = and_parts (jumps_between low past r.target) (list_all (λ x. jumps_between low past x.target) rs) all in
@@ -102,7 +102,7 @@ host_chains_known : (site : Site) (p s : List Flow) (count c k n : ℕ) → AreS
     → first_unknown count c (map (host_chain site p s) (range_with_len k n)) ≡ None
 host_chains_known site p s count c k zero are = refl
 host_chains_known site p s count c k (suc n) are =
-    rw (none_nowhere 3 0 count (omega arith) (omega arith) 0 (host_rules Sending site p s k) (host_rules_stay 3 Sending site p s k are))
+    rw (none_nowhere 3 0 count (omega arith) (omega arith) 0 (host_rules Outbound site p s k) (host_rules_stay 3 Outbound site p s k are))
     (host_chains_known site p s count (c + 1) (k + 1) n are)
 
 -- Every jump leads to an existing chain.
@@ -142,11 +142,11 @@ host_chains_up : (site : Site) (p s : List Flow) (c k n : ℕ) → AreServices s
     → jumps_go_up c (map (host_chain site p s) (range_with_len k n)) ≡ true
 host_chains_up site p s c k zero are = refl
 host_chains_up site p s c k (suc n) are =
-    and_from _ _ (all_upward (c + 1) 0 c (omega arith) (host_rules Sending site p s k) (host_rules_stay (c + 1) Sending site p s k are))
+    and_from _ _ (all_upward (c + 1) 0 c (omega arith) (host_rules Outbound site p s k) (host_rules_stay (c + 1) Outbound site p s k are))
     (host_chains_up site p s (c + 1) (k + 1) n are)
 
 -- Jumps lead from FORWARD to the chains of hosts, and these have no jumps.
-pub layout_no_loop : (site : Site) (p s : List Flow) → AreServices site.services → HasNoLoop (layout site p s)
+pub layout_no_loop : (site : Site) (p s : List Flow) → AreServices site.services → IsAcyclic (layout site p s)
 layout_no_loop site p s are =
     no_loop_upward (layout site p s)
     (and_from _ _

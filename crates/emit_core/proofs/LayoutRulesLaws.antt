@@ -10,7 +10,7 @@ use Rattle.host_net.specs.declared.prefix.Prefix.{Prefix}
 use Rattle.host_net.specs.declared.service.Service.{Service}
 use Rattle.host_net.specs.Host.{Host, rest_of}
 use Rattle.host_net.specs.Hosts.{all_prefixes}
-use Rattle.host_net.specs.Service.{narrowings, has_ports, has_all_ports, icmp, last_port}
+use Rattle.host_net.specs.Service.{service_matches, has_ports, has_all_ports, icmp, max_port}
 use Rattle.host_net.specs.inner.Service.{is_service}
 use Rattle.host_net.specs.inner.Services.{AreServices}
 use Rattle.host_net.specs.Site.{Site}
@@ -19,10 +19,10 @@ use Rattle.ipt_rules.specs.declared.rule.Rule.{Rule}
 use Rattle.ipt_rules.specs.declared.rule.Target.TheVariants.{Drop, Jump}
 use Rattle.ipt_rules.specs.RuleParts.{names_ports}
 use Rattle.ipt_rules.specs.inner.RuleParts.{is_protocol, are_ports, is_rule, AreRules}
-use Rattle.emit_core.specs.declared.side.Side.{Side}
-use Rattle.emit_core.specs.declared.side.Side.TheVariants.{Sending}
-use Rattle.emit_core.specs.Layout.{for_each_prefix, at_other, protocol_part, port_part, to_service, from_service, links_whole, accepts_flow, accepts_answers, accepts, drops, is_open, to_prefix, to_rest, host_rules, forward_rules, rest_jump, jump_from, from_source, chain_of, layout, host_chain}
-use Rattle.emit_core.specs.Sides.{links, other_side, services_on, flow_on}
+use Rattle.emit_core.specs.declared.direction.Direction.{Direction}
+use Rattle.emit_core.specs.declared.direction.Direction.TheVariants.{Outbound}
+use Rattle.emit_core.specs.Layout.{for_each_prefix, match_peer, protocol_part, port_part, to_service, from_service, connects_unrestricted, accepts_flow, accepts_answers, accepts, drops, is_open, to_prefix, to_rest, host_rules, forward_rules, rest_jump, jump_from, from_source, chain_of, layout, host_chain}
+use Rattle.emit_core.specs.Directions.{connects, other_direction, services_on, flow_on}
 use Rattle.emit_core.proofs.OwnerLaws.{rest_below}
 
 -- A service, or nothing.
@@ -32,9 +32,9 @@ is_narrowing n = option_map_or is_service n true
 -- A rule of one of the three forms in host chains passes the test if its prefix, if it has one, satisfies `fits`, and its service, if it
 -- has one, is valid.
 pub record PassForms (test : Rule → Bool) (fits : Prefix → Bool) : Type 0 where
-  pub dropping : (side : Side) (q : Option Prefix) → option_map_or fits q true ≡ true → test (at_other side q None Drop) ≡ true
-  pub flow : (side : Side) (q : Option Prefix) (n : Option Service) → option_map_or fits q true ≡ true → is_narrowing n ≡ true → test (to_service side q n) ≡ true
-  pub answer : (side : Side) (q : Option Prefix) (n : Option Service) → option_map_or fits q true ≡ true → is_narrowing n ≡ true → test (from_service side q n) ≡ true
+  pub dropping : (side : Direction) (q : Option Prefix) → option_map_or fits q true ≡ true → test (match_peer side q None Drop) ≡ true
+  pub flow : (side : Direction) (q : Option Prefix) (n : Option Service) → option_map_or fits q true ≡ true → is_narrowing n ≡ true → test (to_service side q n) ≡ true
+  pub answer : (side : Direction) (q : Option Prefix) (n : Option Service) → option_map_or fits q true ≡ true → is_narrowing n ≡ true → test (from_service side q n) ≡ true
 
 -- 1. Lists of rules, by parts.
 
@@ -42,7 +42,7 @@ some_pass : (ss : List Service) → list_all is_service ss ≡ true → list_all
 some_pass [] all = refl
 some_pass (s ∷ ss) all = let parts = and_parts (is_service s) (list_all is_service ss) all in and_from _ _ parts.0 (some_pass ss parts.1)
 
-narrowings_pass : (ss : List Service) → list_all is_service ss ≡ true → list_all is_narrowing (narrowings ss) ≡ true
+narrowings_pass : (ss : List Service) → list_all is_service ss ≡ true → list_all is_narrowing (service_matches ss) ≡ true
 narrowings_pass [] all = refl
 narrowings_pass (s ∷ ss) all = some_pass (s ∷ ss) all
 
@@ -92,47 +92,47 @@ forward_rules_pass test fits hosts form all =
     (rest_jump_pass test (length hosts) (λ i below. form None i below refl) (rest_of hosts) (rest_below hosts))
 
 module _ (test : Rule → Bool) (fits : Prefix → Bool) (forms : PassForms test fits) where
-  accepts_pass : (side : Side) (site : Site) (p s : List Flow) (i j : ℕ) (q : Option Prefix) → AreServices site.services → option_map_or fits q true ≡ true
+  accepts_pass : (side : Direction) (site : Site) (p s : List Flow) (i j : ℕ) (q : Option Prefix) → AreServices site.services → option_map_or fits q true ≡ true
       → list_all test (accepts side site p s i j q) ≡ true
   accepts_pass side site p s i j q are at =
       let there = services_on side site.services i j in
-      let back = services_on (other_side side) site.services i j in
-      let flows : list_all is_narrowing (narrowings there) ≡ true = narrowings_pass there (are.valid (flow_on side i j).from (flow_on side i j).to) in
-      let answers : list_all is_narrowing (narrowings back) ≡ true =
-      narrowings_pass back (are.valid (flow_on (other_side side) i j).from (flow_on (other_side side) i j).to) in
+      let back = services_on (other_direction side) site.services i j in
+      let flows : list_all is_narrowing (service_matches there) ≡ true = narrowings_pass there (are.valid (flow_on side i j).from (flow_on side i j).to) in
+      let answers : list_all is_narrowing (service_matches back) ≡ true =
+      narrowings_pass back (are.valid (flow_on (other_direction side) i j).from (flow_on (other_direction side) i j).to) in
       list_all-append test (accepts_flow side site p i j q) (accepts_answers side site p s i j q)
       ∙ and_from _ _
-      (if_pass test (links side p i j) (map (to_service side q) (narrowings there))
-      (map_pass test (to_service side q) (λ n is. forms.flow side q n at is) (narrowings there) flows))
-      (if_pass test (links (other_side side) s i j && not (links_whole side site p i j)) (map (from_service side q) (narrowings back))
-      (map_pass test (from_service side q) (λ n is. forms.answer side q n at is) (narrowings back) answers))
+      (if_pass test (connects side p i j) (map (to_service side q) (service_matches there))
+      (map_pass test (to_service side q) (λ n is. forms.flow side q n at is) (service_matches there) flows))
+      (if_pass test (connects (other_direction side) s i j && not (connects_unrestricted side site p i j)) (map (from_service side q) (service_matches back))
+      (map_pass test (from_service side q) (λ n is. forms.answer side q n at is) (service_matches back) answers))
 
-  to_prefix_pass : (side : Side) (site : Site) (p s : List Flow) (i : ℕ) (rest : Option ℕ) → AreServices site.services → (j : ℕ) (q : Prefix) → fits q ≡ true
+  to_prefix_pass : (side : Direction) (site : Site) (p s : List Flow) (i : ℕ) (rest : Option ℕ) → AreServices site.services → (j : ℕ) (q : Prefix) → fits q ≡ true
       → list_all test (to_prefix side site p s i rest j q) ≡ true
   to_prefix_pass side site p s i rest are j q at =
       list_all-append test (accepts side site p s i j (Some q)) (drops side site p s i rest j q)
       ∙ and_from _ _ (accepts_pass side site p s i j (Some q) are at)
-      (if_pass test (is_open side p s i rest && not (links_whole side site p i j)) (at_other side (Some q) None Drop ∷ [])
+      (if_pass test (is_open side p s i rest && not (connects_unrestricted side site p i j)) (match_peer side (Some q) None Drop ∷ [])
       (and_from _ _ (forms.dropping side (Some q) at) refl))
 
-  to_rest_pass : (side : Side) (site : Site) (p s : List Flow) (i : ℕ) (rest : Option ℕ) → AreServices site.services
+  to_rest_pass : (side : Direction) (site : Site) (p s : List Flow) (i : ℕ) (rest : Option ℕ) → AreServices site.services
       → list_all test (to_rest side site p s i rest) ≡ true
   to_rest_pass side site p s i None are = refl
   to_rest_pass side site p s i (Some r) are = accepts_pass side site p s i r None are refl
 
-  pub host_rules_pass : (side : Side) (site : Site) (p s : List Flow) (i : ℕ) → AreServices site.services → list_all fits (all_prefixes site.hosts) ≡ true
+  pub host_rules_pass : (side : Direction) (site : Site) (p s : List Flow) (i : ℕ) → AreServices site.services → list_all fits (all_prefixes site.hosts) ≡ true
       → list_all test (host_rules side site p s i) ≡ true
   host_rules_pass side site p s i are all =
       let rest = rest_of site.hosts in
-      list_all-append test (for_each_prefix (to_prefix side site p s i rest) 0 site.hosts) (to_rest side site p s i rest ++ at_other side None None Drop ∷ [])
+      list_all-append test (for_each_prefix (to_prefix side site p s i rest) 0 site.hosts) (to_rest side site p s i rest ++ match_peer side None None Drop ∷ [])
       ∙ and_from _ _ (each_pass test fits (to_prefix side site p s i rest) (length site.hosts) (λ j q below at. to_prefix_pass side site p s i rest are j q at) 0 site.hosts (omega arith) all)
-      (list_all-append test (to_rest side site p s i rest) (at_other side None None Drop ∷ [])
+      (list_all-append test (to_rest side site p s i rest) (match_peer side None None Drop ∷ [])
       ∙ and_from _ _ (to_rest_pass side site p s i rest are) (and_from _ _ (forms.dropping side None refl) refl))
 
   chains_pass : (site : Site) (p s : List Flow) (k n : ℕ) → AreServices site.services → list_all fits (all_prefixes site.hosts) ≡ true
       → list_all (λ x. list_all test x.rules) (map (host_chain site p s) (range_with_len k n)) ≡ true
   chains_pass site p s k zero are all = refl
-  chains_pass site p s k (suc n) are all = and_from _ _ (host_rules_pass Sending site p s k are all) (chains_pass site p s (k + 1) n are all)
+  chains_pass site p s k (suc n) are all = and_from _ _ (host_rules_pass Outbound site p s k are all) (chains_pass site p s (k + 1) n are all)
 
   pub layout_passes : ((q : Option Prefix) (i : ℕ) → option_map_or fits q true ≡ true → test (from_source q (Jump (chain_of i))) ≡ true)
       → (site : Site) (p s : List Flow) → AreServices site.services → list_all fits (all_prefixes site.hosts) ≡ true
@@ -157,7 +157,7 @@ pub record IsAsked (s : Service) : Type 0 where
 protocol_asked : (proto : ℕ) (all : Bool) → (has_ports proto || ((proto == icmp) && all)) ≡ true → is_protocol (Some (record { proto = proto; negated = false })) ≡ true
 protocol_asked proto all is = grind (arith, nat_tests)
 
-ports_asked : (low high : ℕ) (named all : Bool) (icmp_only : Bool) → nat_le low high ≡ true → nat_le high last_port ≡ true → (named || (icmp_only && all)) ≡ true
+ports_asked : (low high : ℕ) (named all : Bool) (icmp_only : Bool) → nat_le low high ≡ true → nat_le high max_port ≡ true → (named || (icmp_only && all)) ≡ true
     → are_ports named (if all then None else Some (record { low = low; high = high; negated = false })) ≡ true
 ports_asked low high named true only order last is = refl
 ports_asked low high true false only order last is = and_from _ _ order last
@@ -166,25 +166,25 @@ ports_asked low high false false false order last is = cc
 
 pub service_asked : (s : Service) → is_service s ≡ true → IsAsked s
 service_asked s is =
-    let parts = and_parts (nat_le s.low s.high) (nat_le s.high last_port && (has_ports s.proto || ((s.proto == icmp) && has_all_ports s))) is in
-    let later = and_parts (nat_le s.high last_port) (has_ports s.proto || ((s.proto == icmp) && has_all_ports s)) parts.1 in
+    let parts = and_parts (nat_le s.low s.high) (nat_le s.high max_port && (has_ports s.proto || ((s.proto == icmp) && has_all_ports s))) is in
+    let later = and_parts (nat_le s.high max_port) (has_ports s.proto || ((s.proto == icmp) && has_all_ports s)) parts.1 in
     record {
       protocol = protocol_asked s.proto (has_all_ports s) later.1;
       ports = ports_asked s.low s.high (has_ports s.proto) (has_all_ports s) (s.proto == icmp) parts.0 later.0 later.1;
     }
 
-flow_is_rule : (side : Side) (q : Option Prefix) (n : Option Service) → option_map_or anywhere q true ≡ true → is_narrowing n ≡ true → is_rule (to_service side q n) ≡ true
+flow_is_rule : (side : Direction) (q : Option Prefix) (n : Option Service) → option_map_or anywhere q true ≡ true → is_narrowing n ≡ true → is_rule (to_service side q n) ≡ true
 flow_is_rule side q None at is = refl
 flow_is_rule side q (Some s) at is = let asked = service_asked s is in and_from _ _ asked.protocol (and_from _ _ refl asked.ports)
 
-answer_is_rule : (side : Side) (q : Option Prefix) (n : Option Service) → option_map_or anywhere q true ≡ true → is_narrowing n ≡ true → is_rule (from_service side q n) ≡ true
+answer_is_rule : (side : Direction) (q : Option Prefix) (n : Option Service) → option_map_or anywhere q true ≡ true → is_narrowing n ≡ true → is_rule (from_service side q n) ≡ true
 answer_is_rule side q None at is = refl
 answer_is_rule side q (Some s) at is = let asked = service_asked s is in and_from _ _ asked.protocol (and_from _ _ asked.ports refl)
 
 forms_are_rules : PassForms is_rule anywhere
 forms_are_rules = record { dropping = λ side q at. refl; flow = flow_is_rule; answer = answer_is_rule }
 
-pub host_rules_are : (side : Side) (site : Site) (p s : List Flow) (i : ℕ) → AreServices site.services → list_all is_rule (host_rules side site p s i) ≡ true
+pub host_rules_are : (side : Direction) (site : Site) (p s : List Flow) (i : ℕ) → AreServices site.services → list_all is_rule (host_rules side site p s i) ≡ true
 host_rules_are side site p s i are = host_rules_pass is_rule anywhere forms_are_rules side site p s i are (all_anywhere (all_prefixes site.hosts))
 
 pub forward_rules_are : (hosts : List Host) → list_all is_rule (forward_rules hosts) ≡ true

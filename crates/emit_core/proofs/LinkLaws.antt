@@ -3,47 +3,47 @@ use Rattle.std.proofs.Common.{◌≡◌, ℕ, Bool, true, false, not, ◌&&◌, 
 use Rattle.std.specs.Prelude.{if◌then◌else◌}
 use Rattle.host_net.specs.declared.prefix.Prefix.{Prefix}
 use Rattle.host_net.specs.declared.service.Service.{Service}
-use Rattle.host_net.specs.Service.{is_whole, narrowings}
+use Rattle.host_net.specs.Service.{is_whole, service_matches}
 use Rattle.host_net.specs.Site.{Site}
 use Rattle.flow_set.specs.declared.flow.Flow.{Flow}
 use Rattle.ipt_rules.specs.declared.rule.Target.TheVariants.{Drop}
-use Rattle.emit_core.specs.declared.side.Side.{Side}
-use Rattle.emit_core.specs.Layout.{accepts, at_other, from_service, is_open, to_prefix, to_service}
-use Rattle.emit_core.specs.Sides.{links, other_side, services_on}
+use Rattle.emit_core.specs.declared.direction.Direction.{Direction}
+use Rattle.emit_core.specs.Layout.{accepts, match_peer, from_service, is_open, to_prefix, to_service}
+use Rattle.emit_core.specs.Directions.{connects, other_direction, services_on}
 use Rattle.emit_core.specs.inner.Link.{accept_rules, is_open_link, link_of, prefix_rules, served}
 
-open_by : (side : Side) (b c : Bool) (ss ts : List Service) → is_open_link (record { side = side; flow = served b ss; answers = served c ts }) ≡ (b || c)
+open_by : (side : Direction) (b c : Bool) (ss ts : List Service) → is_open_link (record { side = side; flow = served b ss; answers = served c ts }) ≡ (b || c)
 open_by side true c ss ts = refl
 open_by side false true ss ts = refl
 open_by side false false ss ts = refl
 
-pub link_open : (side : Side) (site : Site) (p s : List Flow) (i j : ℕ) → is_open_link (link_of side site p s i j) ≡ (links side p i j || links (other_side side) s i j)
+pub link_open : (side : Direction) (site : Site) (p s : List Flow) (i j : ℕ) → is_open_link (link_of side site p s i j) ≡ (connects side p i j || connects (other_direction side) s i j)
 link_open side site p s i j =
-    open_by side (links side p i j) (links (other_side side) s i j) (services_on side site.services i j) (services_on (other_side side) site.services i j)
+    open_by side (connects side p i j) (connects (other_direction side) s i j) (services_on side site.services i j) (services_on (other_direction side) site.services i j)
 
-accepts_by : (side : Side) (b c : Bool) (ss ts : List Service) (q : Option Prefix)
+accepts_by : (side : Direction) (b c : Bool) (ss ts : List Service) (q : Option Prefix)
     → accept_rules (record { side = side; flow = served b ss; answers = served c ts }) q
-    ≡ (if b then map (to_service side q) (narrowings ss) else []) ++ (if c && not (b && is_whole ss) then map (from_service side q) (narrowings ts) else [])
+    ≡ (if b then map (to_service side q) (service_matches ss) else []) ++ (if c && not (b && is_whole ss) then map (from_service side q) (service_matches ts) else [])
 accepts_by side true true ss ts q = refl
 accepts_by side true false ss ts q = refl
 accepts_by side false true ss ts q = refl
 accepts_by side false false ss ts q = refl
 
-pub link_accepts : (side : Side) (site : Site) (p s : List Flow) (i j : ℕ) (q : Option Prefix) → accept_rules (link_of side site p s i j) q ≡ accepts side site p s i j q
+pub link_accepts : (side : Direction) (site : Site) (p s : List Flow) (i j : ℕ) (q : Option Prefix) → accept_rules (link_of side site p s i j) q ≡ accepts side site p s i j q
 link_accepts side site p s i j q =
-    accepts_by side (links side p i j) (links (other_side side) s i j) (services_on side site.services i j) (services_on (other_side side) site.services i j) q
+    accepts_by side (connects side p i j) (connects (other_direction side) s i j) (services_on side site.services i j) (services_on (other_direction side) site.services i j) q
 
-prefix_by : (side : Side) (b c o : Bool) (ss ts : List Service) (q : Prefix)
+prefix_by : (side : Direction) (b c o : Bool) (ss ts : List Service) (q : Prefix)
     → prefix_rules (record { side = side; flow = served b ss; answers = served c ts }) o q
-    ≡ ((if b then map (to_service side (Some q)) (narrowings ss) else []) ++ (if c && not (b && is_whole ss) then map (from_service side (Some q)) (narrowings ts) else []))
-    ++ (if o && not (b && is_whole ss) then at_other side (Some q) None Drop ∷ [] else [])
+    ≡ ((if b then map (to_service side (Some q)) (service_matches ss) else []) ++ (if c && not (b && is_whole ss) then map (from_service side (Some q)) (service_matches ts) else []))
+    ++ (if o && not (b && is_whole ss) then match_peer side (Some q) None Drop ∷ [] else [])
 prefix_by side true true o ss ts q = refl
 prefix_by side true false o ss ts q = refl
 prefix_by side false true o ss ts q = refl
 prefix_by side false false o ss ts q = refl
 
-pub link_prefix : (side : Side) (site : Site) (p s : List Flow) (i : ℕ) (rest : Option ℕ) (j : ℕ)
+pub link_prefix : (side : Direction) (site : Site) (p s : List Flow) (i : ℕ) (rest : Option ℕ) (j : ℕ)
     → prefix_rules (link_of side site p s i j) (is_open side p s i rest) ≡ to_prefix side site p s i rest j
 link_prefix side site p s i rest j =
-    λ k q. prefix_by side (links side p i j) (links (other_side side) s i j) (is_open side p s i rest) (services_on side site.services i j)
-    (services_on (other_side side) site.services i j) q k
+    λ k q. prefix_by side (connects side p i j) (connects (other_direction side) s i j) (is_open side p s i rest) (services_on side site.services i j)
+    (services_on (other_direction side) site.services i j) q k

@@ -14,9 +14,9 @@ use Rattle.ipt_rules.specs.declared.rule.Target.{Target}
 use Rattle.ipt_rules.specs.declared.rule.Target.TheVariants.{Accept}
 use Rattle.ipt_rules.specs.Matching.{matches, port_matches}
 use Rattle.pkt_core.specs.Firewall.{is_established}
-use Rattle.emit_core.specs.declared.side.Side.{Side}
-use Rattle.emit_core.specs.declared.side.Side.TheVariants.{Sending, Receiving}
-use Rattle.emit_core.specs.Layout.{at_other, answering, from_source, port_part, to_service, from_service}
+use Rattle.emit_core.specs.declared.direction.Direction.{Direction}
+use Rattle.emit_core.specs.declared.direction.Direction.TheVariants.{Outbound, Inbound}
+use Rattle.emit_core.specs.Layout.{match_peer, match_established, from_source, port_part, to_service, from_service}
 use Rattle.emit_core.proofs.NarrowingLaws.{lets, all_ports}
 use Rattle.emit_core.specs.OtherAddress.{other_address}
 
@@ -30,23 +30,23 @@ pub source_fits : (q : Option Prefix) (target : Target) (packet : Packet) (state
 source_fits None target packet state = refl
 source_fits (Some q) target packet state = and-true (covers q packet.src)
 
-pub whole_fits : (side : Side) (q : Option Prefix) (target : Target) (packet : Packet) (state : CtState)
-    → matches packet state (at_other side q None target) ≡ lies_in q (other_address side packet)
-whole_fits Sending None target packet state = refl
-whole_fits Sending (Some q) target packet state = and-true (covers q packet.dst)
-whole_fits Receiving q target packet state = source_fits q target packet state
+pub whole_fits : (side : Direction) (q : Option Prefix) (target : Target) (packet : Packet) (state : CtState)
+    → matches packet state (match_peer side q None target) ≡ lies_in q (other_address side packet)
+whole_fits Outbound None target packet state = refl
+whole_fits Outbound (Some q) target packet state = and-true (covers q packet.dst)
+whole_fits Inbound q target packet state = source_fits q target packet state
 
 -- The address match, and the state match for answers.
-answer_fits : (side : Side) (q : Option Prefix) (target : Target) (packet : Packet) (state : CtState)
-    → matches packet state (at_other side q answering target) ≡ (lies_in q (other_address side packet) && is_established state)
-answer_fits Sending None target packet New = refl
-answer_fits Sending None target packet Established = refl
-answer_fits Sending (Some q) target packet New = refl
-answer_fits Sending (Some q) target packet Established = refl
-answer_fits Receiving None target packet New = refl
-answer_fits Receiving None target packet Established = refl
-answer_fits Receiving (Some q) target packet New = refl
-answer_fits Receiving (Some q) target packet Established = refl
+answer_fits : (side : Direction) (q : Option Prefix) (target : Target) (packet : Packet) (state : CtState)
+    → matches packet state (match_peer side q match_established target) ≡ (lies_in q (other_address side packet) && is_established state)
+answer_fits Outbound None target packet New = refl
+answer_fits Outbound None target packet Established = refl
+answer_fits Outbound (Some q) target packet New = refl
+answer_fits Outbound (Some q) target packet Established = refl
+answer_fits Inbound None target packet New = refl
+answer_fits Inbound None target packet Established = refl
+answer_fits Inbound (Some q) target packet New = refl
+answer_fits Inbound (Some q) target packet Established = refl
 
 -- The port match of a rule for a service matches the ports of the service; it is omitted if these are all ports.
 ports_by : (b : Bool) (s : Service) (port : ℕ) → has_all_ports s ≡ b → port < 2 ^ 16
@@ -65,11 +65,11 @@ turned_round false b true = refl
 turned_round false b false = refl
 
 -- The rule matches packets to the other host that match the service.
-pub to_service_fits : (side : Side) (q : Option Prefix) (n : Option Service) (packet : Packet) (state : CtState) → IsPacket packet
+pub to_service_fits : (side : Direction) (q : Option Prefix) (n : Option Service) (packet : Packet) (state : CtState) → IsPacket packet
     → matches packet state (to_service side q n) ≡ (lies_in q (other_address side packet) && lets packet n)
 to_service_fits side q None packet state is = whole_fits side q Accept packet state ∙ sym (and-true (lies_in q (other_address side packet)))
 to_service_fits side q (Some s) packet state is =
-    let rest : matches packet state (at_other side q None Accept) ≡ lies_in q (other_address side packet) = whole_fits side q Accept packet state in
+    let rest : matches packet state (match_peer side q None Accept) ≡ lies_in q (other_address side packet) = whole_fits side q Accept packet state in
     (λ i. (s.proto == packet.proto) && (ports_fit s packet.dport is.4 i && rest i))
     ∙ turned_round (s.proto == packet.proto) (nat_le s.low packet.dport && nat_le packet.dport s.high) (lies_in q (other_address side packet))
 
@@ -81,7 +81,7 @@ moved false b true e = refl
 moved false b false e = refl
 
 -- The rule matches answers to packets of the service.
-pub from_service_fits : (side : Side) (q : Option Prefix) (n : Option Service) (packet : Packet) (state : CtState) → IsPacket packet
+pub from_service_fits : (side : Direction) (q : Option Prefix) (n : Option Service) (packet : Packet) (state : CtState) → IsPacket packet
     → matches packet state (from_service side q n) ≡ (lies_in q (other_address side packet) && (lets (swap_of packet) n && is_established state))
 from_service_fits side q None packet state is = answer_fits side q Accept packet state
 from_service_fits side q (Some s) packet state is =

@@ -7,7 +7,7 @@ use Rattle.host_net.specs.declared.packet.Packet.{Packet}
 use Rattle.host_net.specs.declared.packet.CtState.{CtState}
 use Rattle.host_net.specs.Packet.{IsPacket, swap_of}
 use Rattle.host_net.specs.Host.{owner_of}
-use Rattle.host_net.specs.Services.{NarrowedFlow}
+use Rattle.host_net.specs.Services.{RestrictedFlow}
 use Rattle.host_net.specs.Verdict.{verdict_if}
 use Rattle.host_net.proofs.VerdictLaws.{verdict_if-injective}
 use Rattle.host_net.specs.Site.{Site}
@@ -19,10 +19,10 @@ use Rattle.pkt_core.specs.Filter.{Enforces}
 use Rattle.pkt_core.specs.FlowPolicy.{is_of, lets_pass}
 use Rattle.ofp_rules.specs.declared.entry.Frame.TheVariants.{Ipv4}
 use Rattle.ofp_rules.specs.inner.Build.{IsTable}
-use Rattle.ofp_rules.specs.Meaning.{Passes}
+use Rattle.ofp_rules.specs.Semantics.{Passes}
 use Rattle.emit_core.specs.FlowTable.{flow_entries}
 use Rattle.emit_core.proofs.FlowTableAnswerLaws.{answer_is}
-use Rattle.emit_core.specs.FlowTableEvents.{AnswersAreCovered, IsFirstBarred, is_covered}
+use Rattle.emit_core.specs.FlowTableEvents.{AnswersAreCovered, IsFirstUncovered, is_covered}
 use Rattle.emit_core.proofs.FlowTableEventsLaws.{arp_alone}
 use Rattle.emit_core.specs.FlowTableForwarding.{ForwardsArpAlone}
 use Rattle.emit_core.proofs.FlowTableLaws.{ForwardsFlows, passes, unambiguous}
@@ -81,21 +81,21 @@ before_or_same f g false false is_before is_behind not_before not_behind =
     λ i. record { from = from i; to = to i }
 
 -- If answers are covered, no flow is the first whose answers are not covered.
-pub none_barred : (services : List NarrowedFlow) (p s : List Flow) (f : Flow) → AnswersAreCovered services p s → IsFirstBarred services p s f → ⊥
+pub none_barred : (services : List RestrictedFlow) (p s : List Flow) (f : Flow) → AnswersAreCovered services p s → IsFirstUncovered services p s f → ⊥
 none_barred services p s f covered barred = let answered : IsTrue (is_covered services p f) = covered f barred.stateful in let off = barred.barred in cc
 
 -- Such a flow is unique.
-pub first_barred_once : (services : List NarrowedFlow) (p s : List Flow) (f g : Flow) → IsFirstBarred services p s f → IsFirstBarred services p s g → f ≡ g
+pub first_barred_once : (services : List RestrictedFlow) (p s : List Flow) (f g : Flow) → IsFirstUncovered services p s f → IsFirstUncovered services p s g → f ≡ g
 first_barred_once services p s f g is other =
     before_or_same f g (before f g) (before g f) refl refl
     (λ earlier. let answered : IsTrue (is_covered services p f) = other.first f earlier is.stateful in let off = is.barred in cc)
     (λ later. let answered : IsTrue (is_covered services p g) = is.first g later other.stateful in let off = other.barred in cc)
 
 -- The same for the first flow with a range of ports.
-pub none_ranging : (services : List NarrowedFlow) (p : List Flow) (f : Flow) → HasNoRange services p → IsFirstRange services p f → ⊥
+pub none_ranging : (services : List RestrictedFlow) (p : List Flow) (f : Flow) → HasNoRange services p → IsFirstRange services p f → ⊥
 none_ranging services p f plain ranging = let off : IsFalse (has_range services f) = plain f ranging.permitted in let on = ranging.range in cc
 
-pub first_range_once : (services : List NarrowedFlow) (p : List Flow) (f g : Flow) → IsFirstRange services p f → IsFirstRange services p g → f ≡ g
+pub first_range_once : (services : List RestrictedFlow) (p : List Flow) (f g : Flow) → IsFirstRange services p f → IsFirstRange services p g → f ≡ g
 first_range_once services p f g is other =
     before_or_same f g (before f g) (before g f) refl refl
     (λ earlier. let off : IsFalse (has_range services f) = other.first f earlier is.permitted in let on = is.range in cc)

@@ -14,7 +14,7 @@ use Rattle.host_net.specs.Prefix.{is_exact}
 use Rattle.host_net.proofs.PrefixTextLaws.{prefix_short}
 use Rattle.host_net.specs.Hosts.{all_prefixes}
 use Rattle.host_net.specs.inner.Hosts.{is_network}
-use Rattle.host_net.specs.Service.{has_ports, has_all_ports, icmp, last_port}
+use Rattle.host_net.specs.Service.{has_ports, has_all_ports, icmp, max_port}
 use Rattle.host_net.specs.inner.Service.{is_service}
 use Rattle.host_net.specs.inner.Services.{AreServices}
 use Rattle.host_net.specs.Site.{Site}
@@ -31,10 +31,10 @@ use Rattle.ipt_rules.specs.Text.{address_text, service_text, text}
 use Rattle.ipt_rules.proofs.TextLaws.{HasNames, TakeAtMost, asked, at_most, counted_short, no_name, ports_short, protocol_short, takes_at_most, text_short_by}
 use Rattle.ipt_rules.specs.inner.Addresses.{address_fits, addresses_fit, AddressesFit}
 use Rattle.ipt_rules.specs.inner.Writable.{IsWritable}
-use Rattle.emit_core.specs.declared.side.Side.{Side}
-use Rattle.emit_core.specs.declared.side.Side.TheVariants.{Sending, Receiving}
+use Rattle.emit_core.specs.declared.direction.Direction.{Direction}
+use Rattle.emit_core.specs.declared.direction.Direction.TheVariants.{Outbound, Inbound}
 use Rattle.emit_core.specs.EmitRefusals.{rule_limit}
-use Rattle.emit_core.specs.Layout.{at_other, chain_of, destination_part, forward_rules, from_service, host_chain, host_chain_name, host_rules, in_prefix, layout, port_part, protocol_part, source_part, to_service}
+use Rattle.emit_core.specs.Layout.{match_peer, chain_of, destination_part, forward_rules, from_service, host_chain, host_chain_name, host_rules, match_prefix, layout, port_part, protocol_part, source_part, to_service}
 use Rattle.emit_core.proofs.LayoutRulesLaws.{PassForms, all_anywhere, anywhere, forward_rules_pass, host_rules_pass, is_narrowing, layout_passes, layout_rules_are, service_asked}
 use Rattle.emit_core.proofs.LayoutLaws.{layout_accepted, layout_no_loop, length-chains_up_to, host_chain_name_legal, other_name}
 
@@ -112,14 +112,14 @@ network_fits (q ∷ qs) all =
     let here = and_parts (prefix_fits q) (is_exact q && nat_le 1 q.len) parts.0 in
     and_from (prefix_fits q) (list_all prefix_fits qs) here.0 (network_fits qs parts.1)
 
-prefix_part_fits : (q : Option Prefix) → option_map_or prefix_fits q true ≡ true → address_fits (in_prefix q) ≡ true
+prefix_part_fits : (q : Option Prefix) → option_map_or prefix_fits q true ≡ true → address_fits (match_prefix q) ≡ true
 prefix_part_fits None fits = refl
 prefix_part_fits (Some q) fits = fits
 
-parts_fit : (side : Side) (q : Option Prefix) → option_map_or prefix_fits q true ≡ true
-    → (address_fits (source_part side (in_prefix q)) && address_fits (destination_part side (in_prefix q))) ≡ true
-parts_fit Sending q fits = prefix_part_fits q fits
-parts_fit Receiving q fits = and_from _ _ (prefix_part_fits q fits) refl
+parts_fit : (side : Direction) (q : Option Prefix) → option_map_or prefix_fits q true ≡ true
+    → (address_fits (source_part side (match_prefix q)) && address_fits (destination_part side (match_prefix q))) ≡ true
+parts_fit Outbound q fits = prefix_part_fits q fits
+parts_fit Inbound q fits = and_from _ _ (prefix_part_fits q fits) refl
 
 forms_fit : PassForms addresses_fit prefix_fits
 forms_fit = record {
@@ -130,10 +130,10 @@ forms_fit = record {
 
 layout_addresses : (site : Site) (p s : List Flow) → IsSite site → AddressesFit (layout site p s)
 layout_addresses site p s is =
-    layout_passes addresses_fit prefix_fits forms_fit (λ q i fits. parts_fit Receiving q fits) site p s is.services (network_fits (all_prefixes site.hosts) is.hosts.networks)
+    layout_passes addresses_fit prefix_fits forms_fit (λ q i fits. parts_fit Inbound q fits) site p s is.services (network_fits (all_prefixes site.hosts) is.hosts.networks)
 
 -- The same for the chain of a host, for outbound or for inbound packets.
-pub host_rules_addresses : (side : Side) (site : Site) (p s : List Flow) (i : ℕ) → IsSite site → list_all addresses_fit (host_rules side site p s i) ≡ true
+pub host_rules_addresses : (side : Direction) (site : Site) (p s : List Flow) (i : ℕ) → IsSite site → list_all addresses_fit (host_rules side site p s i) ≡ true
 host_rules_addresses side site p s i is =
     host_rules_pass addresses_fit prefix_fits forms_fit side site p s i is.services (network_fits (all_prefixes site.hosts) is.hosts.networks)
 
@@ -145,7 +145,7 @@ layout_writable site p s is few =
     record {
       table = layout_table site p s hosts;
       accepted = layout_accepted site p s is.services hosts (omega (arith, few));
-      no_loop = layout_no_loop site p s is.services;
+      acyclic = layout_no_loop site p s is.services;
       addresses = layout_addresses site p s is;
       parts = layout_rules_are site p s is.services;
     }
@@ -169,12 +169,12 @@ layout_name_short site p s (suc (suc (suc i))) few = elim (cases_lt (suc (suc (s
 abbrev asks_at_most : ℕ → Rule → Bool
 asks_at_most most rule = nat_le (asked rule) most
 
-address_short : (side : Side) (q : Option Prefix)
-    → length (address_text (codes " -s ") (source_part side (in_prefix q))) + length (address_text (codes " -d ") (destination_part side (in_prefix q))) ≤ 22
-address_short Sending None = omega arith
-address_short Sending (Some q) = omega (arith, prefix_short q)
-address_short Receiving None = omega arith
-address_short Receiving (Some q) = omega (arith, prefix_short q)
+address_short : (side : Direction) (q : Option Prefix)
+    → length (address_text (codes " -s ") (source_part side (match_prefix q))) + length (address_text (codes " -d ") (destination_part side (match_prefix q))) ≤ 22
+address_short Outbound None = omega arith
+address_short Outbound (Some q) = omega (arith, prefix_short q)
+address_short Inbound None = omega arith
+address_short Inbound (Some q) = omega (arith, prefix_short q)
 
 -- A service without all ports has a protocol with ports.
 chooses_ports : (named only : Bool) → (named || (only && false)) ≡ true → named ≡ true
@@ -183,7 +183,7 @@ chooses_ports false true is = cc
 chooses_ports false false is = cc
 
 -- The matches of a rule for the service of a packet, or of an answer.
-service_parts_short : (proto low high : ℕ) (all : Bool) → proto < 2 ^ 8 → nat_le low high ≡ true → nat_le high last_port ≡ true
+service_parts_short : (proto low high : ℕ) (all : Bool) → proto < 2 ^ 8 → nat_le low high ≡ true → nat_le high max_port ≡ true
     → (has_ports proto || ((proto == icmp) && all)) ≡ true
     → (length (service_text (Some (record { proto = proto; negated = false })) None (if all then None else Some (record { low = low; high = high; negated = false }))) ≤ 34)
     × (length (service_text (Some (record { proto = proto; negated = false })) (if all then None else Some (record { low = low; high = high; negated = false })) None) ≤ 34)
@@ -198,23 +198,23 @@ service_parts_short proto low high false small order fits is =
 service_short : (s : Service) → is_service s ≡ true
     → (length (service_text (protocol_part (Some s)) None (port_part (Some s))) ≤ 34) × (length (service_text (protocol_part (Some s)) (port_part (Some s)) None) ≤ 34)
 service_short s is =
-    let parts = and_parts (nat_le s.low s.high) (nat_le s.high last_port && (has_ports s.proto || ((s.proto == icmp) && has_all_ports s))) is in
-    let later = and_parts (nat_le s.high last_port) (has_ports s.proto || ((s.proto == icmp) && has_all_ports s)) parts.1 in
+    let parts = and_parts (nat_le s.low s.high) (nat_le s.high max_port && (has_ports s.proto || ((s.proto == icmp) && has_all_ports s))) is in
+    let later = and_parts (nat_le s.high max_port) (has_ports s.proto || ((s.proto == icmp) && has_all_ports s)) parts.1 in
     service_parts_short s.proto s.low s.high (has_all_ports s) (below_256 s.proto (service_asked s is).protocol) parts.0 later.0 later.1
   where
     below_256 : (n : ℕ) → (nat_lt 0 n && nat_lt n (2 ^ 8)) ≡ true → n < 2 ^ 8
     below_256 n h = grind (arith, nat_tests)
 
-flow_asks : (side : Side) (q : Option Prefix) (n : Option Service) → is_narrowing n ≡ true → asks_at_most 91 (to_service side q n) ≡ true
+flow_asks : (side : Direction) (q : Option Prefix) (n : Option Service) → is_narrowing n ≡ true → asks_at_most 91 (to_service side q n) ≡ true
 flow_asks side q None is = at_most (asked (to_service side q None)) 91 (omega (arith, address_short side q))
 flow_asks side q (Some s) is = at_most (asked (to_service side q (Some s))) 91 (omega (arith, address_short side q, (service_short s is).0))
 
-answer_asks : (side : Side) (q : Option Prefix) (n : Option Service) → is_narrowing n ≡ true → asks_at_most 91 (from_service side q n) ≡ true
+answer_asks : (side : Direction) (q : Option Prefix) (n : Option Service) → is_narrowing n ≡ true → asks_at_most 91 (from_service side q n) ≡ true
 answer_asks side q None is = at_most (asked (from_service side q None)) 91 (omega (arith, address_short side q))
 answer_asks side q (Some s) is = at_most (asked (from_service side q (Some s))) 91 (omega (arith, address_short side q, (service_short s is).1))
 
-plain_asks : (most : ℕ) → 22 ≤ most → (side : Side) (q : Option Prefix) (target : Target) → asks_at_most most (at_other side q None target) ≡ true
-plain_asks most room side q target = at_most (asked (at_other side q None target)) most (omega (arith, room, address_short side q))
+plain_asks : (most : ℕ) → 22 ≤ most → (side : Direction) (q : Option Prefix) (target : Target) → asks_at_most most (match_peer side q None target) ≡ true
+plain_asks most room side q target = at_most (asked (match_peer side q None target)) most (omega (arith, room, address_short side q))
 
 forms_ask : PassForms (asks_at_most 91) anywhere
 forms_ask = record {
@@ -240,15 +240,15 @@ chains_take site p s k zero are few = refl
 chains_take site p s k (suc n) are few =
     let short : length (decimal k) ≤ 3 = length-decimal-le 3 k (omega arith) (omega arith) (omega arith) in
     and_from _ _
-    (takes 95 91 (host_chain_name k) (host_rules Sending site p s k) (omega (arith, short))
-    (host_rules_pass (asks_at_most 91) anywhere forms_ask Sending site p s k are (all_anywhere (all_prefixes site.hosts))))
+    (takes 95 91 (host_chain_name k) (host_rules Outbound site p s k) (omega (arith, short))
+    (host_rules_pass (asks_at_most 91) anywhere forms_ask Outbound site p s k are (all_anywhere (all_prefixes site.hosts))))
     (chains_take site p s (k + 1) n are (omega (arith, few)))
 
 layout_takes : (site : Site) (p s : List Flow) → IsSite site → TakeAtMost 95 (layout site p s)
 layout_takes site p s is =
     and_from _ _
     (takes 95 22 (codes "FORWARD") (forward_rules site.hosts) (omega arith)
-    (forward_rules_pass (asks_at_most 22) anywhere site.hosts (λ q i below at. plain_asks 22 (omega arith) Receiving q (Jump (chain_of i))) (all_anywhere (all_prefixes site.hosts))))
+    (forward_rules_pass (asks_at_most 22) anywhere site.hosts (λ q i below at. plain_asks 22 (omega arith) Inbound q (Jump (chain_of i))) (all_anywhere (all_prefixes site.hosts))))
     (chains_take site p s 0 (length site.hosts) is.services (let few : length site.hosts ≤ 256 = is.hosts.few in omega (arith, few)))
 
 -- The text is within the size limit of the parser: at most 110 bytes per line.

@@ -6,7 +6,7 @@ use Rattle.std.specs.Option.{option_map_or, option_and_then}
 use Rattle.host_net.specs.declared.prefix.Prefix.{Prefix}
 use Rattle.host_net.specs.declared.service.Service.{Service}
 use Rattle.host_net.specs.Host.{Host, rest_of}
-use Rattle.host_net.specs.Service.{has_all_ports, is_whole, narrowings}
+use Rattle.host_net.specs.Service.{has_all_ports, is_whole, service_matches}
 use Rattle.host_net.specs.Services.{services_of}
 use Rattle.host_net.specs.Site.{Site}
 use Rattle.flow_set.specs.declared.flow.Flow.{Flow}
@@ -14,7 +14,7 @@ use Rattle.ofp_rules.specs.declared.entry.Entry.{Entry}
 use Rattle.ofp_rules.specs.declared.entry.FrameKind.TheVariants.{Any, Arp, Ip}
 use Rattle.ofp_rules.specs.declared.entry.Action.{Action}
 use Rattle.ofp_rules.specs.declared.entry.Action.TheVariants.{Normal, Drop}
-use Rattle.emit_core.specs.Sides.{permits}
+use Rattle.emit_core.specs.Directions.{permits}
 
 -- The entries for each host, from number k on, computed from its prefixes. The rest host has no prefixes.
 abbrev pub for_each_host : (ℕ → List Prefix → List Entry) → ℕ → List Host → List Entry
@@ -42,7 +42,7 @@ rest_drop rest priority q t = option_map_or (λ r. ip_entry priority (Some q) (S
 -- For any other flow: only the drop entry.
 abbrev pub pair_entries : Bool → List Service → Option ℕ → Prefix → Prefix → List Entry
 pair_entries true ss rest q t =
-    map (service_entry 40 (Some q) (Some t)) (narrowings ss) ++ (if is_whole ss then [] else rest_drop rest 35 q t)
+    map (service_entry 40 (Some q) (Some t)) (service_matches ss) ++ (if is_whole ss then [] else rest_drop rest 35 q t)
 pair_entries false ss rest q t = rest_drop rest 40 q t
 
 -- The entries from one prefix to each of several prefixes.
@@ -63,11 +63,11 @@ between site p rest = for_each_host (from_host site p rest) 0 site.hosts
 
 -- The entries from the prefixes of a host to the rest host, for each service.
 abbrev pub to_rest_host : Bool → List Service → List Prefix → List Entry
-to_rest_host permitted ss qs = if permitted then flat_map (λ q. map (service_entry 30 (Some q) None) (narrowings ss)) qs else []
+to_rest_host permitted ss qs = if permitted then flat_map (λ q. map (service_entry 30 (Some q) None) (service_matches ss)) qs else []
 
 -- The entries from the rest host to the prefixes of a host, for each service.
 abbrev pub from_rest_host : Bool → List Service → List Prefix → List Entry
-from_rest_host permitted ss qs = if permitted then flat_map (λ q. map (service_entry 30 None (Some q)) (narrowings ss)) qs else []
+from_rest_host permitted ss qs = if permitted then flat_map (λ q. map (service_entry 30 None (Some q)) (service_matches ss)) qs else []
 
 -- The entries from each host to the rest host.
 abbrev pub to_rest : Site → List Flow → ℕ → List Entry

@@ -3,9 +3,9 @@ use Rattle.std.specs.Prelude.{Bool, not, ◌&&◌, ◌||◌, ◌==◌, IsTrue, I
 use Rattle.std.specs.List.{list_all, list_any}
 use Rattle.host_net.specs.declared.service.Service.{Service}
 use Rattle.host_net.specs.Service.{has_all_ports, is_whole}
-use Rattle.host_net.specs.Services.{NarrowedFlow, services_of}
+use Rattle.host_net.specs.Services.{RestrictedFlow, services_of}
 use Rattle.flow_set.specs.declared.flow.Flow.{Flow}
-use Rattle.flow_set.specs.Flow.{back_of, before}
+use Rattle.flow_set.specs.Flow.{reverse_of, before}
 use Rattle.flow_set.specs.FlowSet.{has}
 
 -- One of these services matches all packets of the protocol of the other service.
@@ -14,18 +14,18 @@ has_all_of ss t = list_any (λ u. (t.proto == u.proto) && has_all_ports u) ss
 
 -- The answers to a flow are covered: its reverse is permitted, and the reverse is unrestricted; or the flow is restricted, and the
 -- permitted reverse has all ports of each protocol of its services.
-abbrev pub is_covered : List NarrowedFlow → List Flow → Flow → Bool
+abbrev pub is_covered : List RestrictedFlow → List Flow → Flow → Bool
 is_covered services p f =
-    has p (back_of f)
+    has p (reverse_of f)
     && (is_whole (services_of services f.to f.from)
     || (not (is_whole (services_of services f.from f.to)) && list_all (has_all_of (services_of services f.to f.from)) (services_of services f.from f.to)))
 
 -- The answers of each stateful flow are covered.
-abbrev pub AnswersAreCovered : List NarrowedFlow → List Flow → List Flow → Type 0
+abbrev pub AnswersAreCovered : List RestrictedFlow → List Flow → List Flow → Type 0
 AnswersAreCovered services p s = (f : Flow) → IsTrue (has s f) → IsTrue (is_covered services p f)
 
 -- f is the first stateful flow whose answers are not covered.
-pub record IsFirstBarred (services : List NarrowedFlow) (p s : List Flow) (f : Flow) : Type 0 where
+pub record IsFirstUncovered (services : List RestrictedFlow) (p s : List Flow) (f : Flow) : Type 0 where
   pub stateful : IsTrue (has s f)
   pub barred : IsFalse (is_covered services p f)
   pub first : (g : Flow) → IsTrue (before g f) → IsTrue (has s g) → IsTrue (is_covered services p g)

@@ -7,7 +7,7 @@ use Rattle.std.specs.Option.{option_map_or, option_and_then}
 use Rattle.host_net.specs.declared.prefix.Prefix.{Prefix}
 use Rattle.host_net.specs.declared.service.Service.{Service}
 use Rattle.host_net.specs.Host.{Host, rest_of}
-use Rattle.host_net.specs.Service.{has_all_ports, is_whole, narrowings}
+use Rattle.host_net.specs.Service.{has_all_ports, is_whole, service_matches}
 use Rattle.host_net.specs.Site.{Site}
 use Rattle.flow_set.specs.declared.flow.Flow.{Flow}
 use Rattle.ipt_rules.specs.declared.rule.AddrMatch.{AddrMatch}
@@ -19,33 +19,33 @@ use Rattle.ipt_rules.specs.declared.rule.Target.{Target}
 use Rattle.ipt_rules.specs.declared.rule.Target.TheVariants.{Accept, Drop, Jump}
 use Rattle.ipt_rules.specs.declared.rule.Policy.TheVariants.{Accept as Accepting, Drop as Dropping}
 use Rattle.ipt_rules.specs.Chain.{Chain}
-use Rattle.emit_core.specs.declared.side.Side.{Side}
-use Rattle.emit_core.specs.declared.side.Side.TheVariants.{Sending, Receiving}
-use Rattle.emit_core.specs.Sides.{links, other_side, services_on}
+use Rattle.emit_core.specs.declared.direction.Direction.{Direction}
+use Rattle.emit_core.specs.declared.direction.Direction.TheVariants.{Outbound, Inbound}
+use Rattle.emit_core.specs.Directions.{connects, other_direction, services_on}
 
 -- The address match of a rule for a prefix. Without a prefix the rule has no address match.
-abbrev pub in_prefix : Option Prefix → Option AddrMatch
-in_prefix q = option_map (λ x. record { prefix = x; negated = false }) q
+abbrev pub match_prefix : Option Prefix → Option AddrMatch
+match_prefix q = option_map (λ x. record { prefix = x; negated = false }) q
 
 -- The state match of a rule for answers.
-abbrev pub answering : Option StateMatch
-answering = Some (record { new = false; established = true; negated = false })
+abbrev pub match_established : Option StateMatch
+match_established = Some (record { new = false; established = true; negated = false })
 
 -- The source match of a rule: the address of the other host is the source of an inbound packet.
-abbrev pub source_part : Side → Option AddrMatch → Option AddrMatch
-source_part Sending part = None
-source_part Receiving part = part
+abbrev pub source_part : Direction → Option AddrMatch → Option AddrMatch
+source_part Outbound part = None
+source_part Inbound part = part
 
 -- The destination match of a rule: the address of the other host is the destination of an outbound packet.
-abbrev pub destination_part : Side → Option AddrMatch → Option AddrMatch
-destination_part Sending part = part
-destination_part Receiving part = None
+abbrev pub destination_part : Direction → Option AddrMatch → Option AddrMatch
+destination_part Outbound part = part
+destination_part Inbound part = None
 
 -- A rule that matches the address of the other host, and optionally the state.
-abbrev pub at_other : Side → Option Prefix → Option StateMatch → Target → Rule
-at_other side q state target = record {
-  src = source_part side (in_prefix q);
-  dst = destination_part side (in_prefix q);
+abbrev pub match_peer : Direction → Option Prefix → Option StateMatch → Target → Rule
+match_peer side q state target = record {
+  src = source_part side (match_prefix q);
+  dst = destination_part side (match_prefix q);
   proto = None;
   sport = None;
   dport = None;
@@ -55,7 +55,7 @@ at_other side q state target = record {
 
 -- A rule that matches the source of a packet.
 abbrev pub from_source : Option Prefix → Target → Rule
-from_source q target = at_other Receiving q None target
+from_source q target = match_peer Inbound q None target
 
 -- The rules for each host, from number k on, and each of its prefixes, in order. The rest host has no prefixes.
 abbrev pub for_each_prefix : (ℕ → Prefix → List Rule) → ℕ → List Host → List Rule
@@ -91,56 +91,56 @@ abbrev pub port_part : Option Service → Option PortMatch
 port_part n = option_and_then ports_of_service n
 
 -- The rule for packets of the flow: the destination port is a port of the service.
-abbrev pub to_service : Side → Option Prefix → Option Service → Rule
-to_service side q n = record (at_other side q None Accept) { proto = protocol_part n; dport = port_part n }
+abbrev pub to_service : Direction → Option Prefix → Option Service → Rule
+to_service side q n = record (match_peer side q None Accept) { proto = protocol_part n; dport = port_part n }
 
 -- The rule for their answers: the source port is a port of the service.
-abbrev pub from_service : Side → Option Prefix → Option Service → Rule
-from_service side q n = record (at_other side q answering Accept) { proto = protocol_part n; sport = port_part n }
+abbrev pub from_service : Direction → Option Prefix → Option Service → Rule
+from_service side q n = record (match_peer side q match_established Accept) { proto = protocol_part n; sport = port_part n }
 
 -- The flow that host i has with host j in this direction is in the set, and it is unrestricted.
-abbrev pub links_whole : Side → Site → List Flow → ℕ → ℕ → Bool
-links_whole side site p i j = links side p i j && is_whole (services_on side site.services i j)
+abbrev pub connects_unrestricted : Direction → Site → List Flow → ℕ → ℕ → Bool
+connects_unrestricted side site p i j = connects side p i j && is_whole (services_on side site.services i j)
 
 -- The rules that accept the packets of the flow between host i and host j at prefix q of host j, one for each service.
-abbrev pub accepts_flow : Side → Site → List Flow → ℕ → ℕ → Option Prefix → List Rule
+abbrev pub accepts_flow : Direction → Site → List Flow → ℕ → ℕ → Option Prefix → List Rule
 accepts_flow side site p i j q =
-    if links side p i j then map (to_service side q) (narrowings (services_on side site.services i j)) else []
+    if connects side p i j then map (to_service side q) (service_matches (services_on side site.services i j)) else []
 
 -- The rules that accept answers to its reverse, one for each service of the reverse, unless all packets are accepted
 -- anyway.
-abbrev pub accepts_answers : Side → Site → List Flow → List Flow → ℕ → ℕ → Option Prefix → List Rule
+abbrev pub accepts_answers : Direction → Site → List Flow → List Flow → ℕ → ℕ → Option Prefix → List Rule
 accepts_answers side site p s i j q =
-    if links (other_side side) s i j && not (links_whole side site p i j)
-    then map (from_service side q) (narrowings (services_on (other_side side) site.services i j)) else []
+    if connects (other_direction side) s i j && not (connects_unrestricted side site p i j)
+    then map (from_service side q) (service_matches (services_on (other_direction side) site.services i j)) else []
 
 -- The rules that accept packets between host i and host j at prefix q of host j: those of the flow, then answers.
-abbrev pub accepts : Side → Site → List Flow → List Flow → ℕ → ℕ → Option Prefix → List Rule
+abbrev pub accepts : Direction → Site → List Flow → List Flow → ℕ → ℕ → Option Prefix → List Rule
 accepts side site p s i j q = accepts_flow side site p i j q ++ accepts_answers side site p s i j q
 
 -- The chain of host i is open if it accepts some packet to the rest host, or from it.
-abbrev pub is_open : Side → List Flow → List Flow → ℕ → Option ℕ → Bool
-is_open side p s i rest = option_map_or (λ r. links side p i r || links (other_side side) s i r) rest false
+abbrev pub is_open : Direction → List Flow → List Flow → ℕ → Option ℕ → Bool
+is_open side p s i rest = option_map_or (λ r. connects side p i r || connects (other_direction side) s i r) rest false
 
 -- The rules of an open chain that drop, at the prefixes of host j, the packets that would otherwise be accepted as
 -- packets of the rest host.
-abbrev pub drops : Side → Site → List Flow → List Flow → ℕ → Option ℕ → ℕ → Prefix → List Rule
+abbrev pub drops : Direction → Site → List Flow → List Flow → ℕ → Option ℕ → ℕ → Prefix → List Rule
 drops side site p s i rest j q =
-    if is_open side p s i rest && not (links_whole side site p i j) then at_other side (Some q) None Drop ∷ [] else []
+    if is_open side p s i rest && not (connects_unrestricted side site p i j) then match_peer side (Some q) None Drop ∷ [] else []
 
 -- The rules of host i for one prefix of host j.
-abbrev pub to_prefix : Side → Site → List Flow → List Flow → ℕ → Option ℕ → ℕ → Prefix → List Rule
+abbrev pub to_prefix : Direction → Site → List Flow → List Flow → ℕ → Option ℕ → ℕ → Prefix → List Rule
 to_prefix side site p s i rest j q = accepts side site p s i j (Some q) ++ drops side site p s i rest j q
 
 -- The rules of host i for the rest host.
-abbrev pub to_rest : Side → Site → List Flow → List Flow → ℕ → Option ℕ → List Rule
+abbrev pub to_rest : Direction → Site → List Flow → List Flow → ℕ → Option ℕ → List Rule
 to_rest side site p s i rest = option_map_or (λ r. accepts side site p s i r None) rest []
 
 -- The chain of host i for outbound or for inbound packets, by the address of the other host. Packets that no rule accepts are dropped.
-abbrev pub host_rules : Side → Site → List Flow → List Flow → ℕ → List Rule
+abbrev pub host_rules : Direction → Site → List Flow → List Flow → ℕ → List Rule
 host_rules side site p s i =
     for_each_prefix (to_prefix side site p s i (rest_of site.hosts)) 0 site.hosts
-    ++ (to_rest side site p s i (rest_of site.hosts) ++ at_other side None None Drop ∷ [])
+    ++ (to_rest side site p s i (rest_of site.hosts) ++ match_peer side None None Drop ∷ [])
 
 -- The name of the chain of host i: `H` followed by i.
 abbrev pub host_chain_name : ℕ → List ℕ
@@ -148,7 +148,7 @@ host_chain_name i = codes "H" ++ decimal i
 
 -- The chain of host i, for outbound packets.
 abbrev pub host_chain : Site → List Flow → List Flow → ℕ → Chain
-host_chain site p s i = record { name = host_chain_name i; policy = None; rules = host_rules Sending site p s i }
+host_chain site p s i = record { name = host_chain_name i; policy = None; rules = host_rules Outbound site p s i }
 
 -- The built-in chains: INPUT and OUTPUT are empty with policy ACCEPT, FORWARD has policy DROP.
 abbrev pub entry_chains : List Host → List Chain

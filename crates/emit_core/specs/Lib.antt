@@ -5,5 +5,5 @@ pub mod FlowTableForwarding
 pub mod Layout
 pub mod OtherAddress
 pub mod PortRanges
-pub mod Sides
+pub mod Directions
 pub mod inner

@@ -1,9 +1,9 @@
 -- The address of the other host in a packet.
 use Rattle.std.specs.Prelude.{ℕ}
 use Rattle.host_net.specs.declared.packet.Packet.{Packet}
-use Rattle.emit_core.specs.declared.side.Side.{Side}
-use Rattle.emit_core.specs.declared.side.Side.TheVariants.{Sending, Receiving}
+use Rattle.emit_core.specs.declared.direction.Direction.{Direction}
+use Rattle.emit_core.specs.declared.direction.Direction.TheVariants.{Outbound, Inbound}
 
-abbrev pub other_address : Side → Packet → ℕ
-other_address Sending packet = packet.dst
-other_address Receiving packet = packet.src
+abbrev pub other_address : Direction → Packet → ℕ
+other_address Outbound packet = packet.dst
+other_address Inbound packet = packet.src

@@ -4,7 +4,7 @@ ghost use Rattle.std.specs.Prelude.{◌≡◌, ◌<◌, ◌&&◌, ◌||◌, not,
 ghost use Rattle.std.specs.List.{list_all};
 ghost use Rattle.host_net.specs.Service.{is_whole};
 ghost use Rattle.flow_set.specs.Flow.{IsFlow};
-ghost use Rattle.emit_core.specs.FlowTableEvents.{AnswersAreCovered, IsFirstBarred, has_all_of, is_covered};
+ghost use Rattle.emit_core.specs.FlowTableEvents.{AnswersAreCovered, IsFirstUncovered, has_all_of, is_covered};
 
 use crate::narrowing::{has_all_ports, is_whole};
 use flow_set::{Flow, FlowSet};
@@ -15,16 +15,16 @@ use pkt_core::FlowPolicy;
 /// if there is none.
 pub fn needs_state(policy: &FlowPolicy<'_>) -> Option<Flow>
     ensures barred { MatchOption result (AnswersAreCovered policy.now.site.services policy.now.permitted policy.now.stateful)
-        (IsFirstBarred policy.now.site.services policy.now.permitted policy.now.stateful) }
+        (IsFirstUncovered policy.now.site.services policy.now.permitted policy.now.stateful) }
     ensures within { IfSome result (λ flow. (flow.from < length policy.now.site.hosts) × (flow.to < length policy.now.site.hosts)) }
 {
-    first_barred(policy.services(), policy.permitted(), policy.stateful())
+    first_uncovered(policy.services(), policy.permitted(), policy.stateful())
 }
 
-fn first_barred(services: &Services, permitted: &FlowSet, stateful: &FlowSet) -> Option<Flow>
+fn first_uncovered(services: &Services, permitted: &FlowSet, stateful: &FlowSet) -> Option<Flow>
     requires { stateful.now.size ≡ permitted.now.size }
     ensures barred { MatchOption result (AnswersAreCovered services.now permitted.now.flows stateful.now.flows)
-        (IsFirstBarred services.now permitted.now.flows stateful.now.flows) }
+        (IsFirstUncovered services.now permitted.now.flows stateful.now.flows) }
     ensures within { IfSome result (λ flow. (flow.from < stateful.now.size) × (flow.to < stateful.now.size)) }
 {
     for flow in stateful.iter() {

@@ -5,11 +5,11 @@ ghost use Rattle.std.specs.Prelude.{◌≡◌, ◌≤◌, List, [], length, IfOk
 ghost use Rattle.host_net.specs.Site.{site_with};
 ghost use Rattle.flow_set.specs.declared.flow.Flow.{Flow};
 ghost use Rattle.flow_set.specs.FlowSet.{IsSubset};
-ghost use Rattle.pkt_core.specs.Filter.{Enforces, ForwardsExpected};
+ghost use Rattle.pkt_core.specs.Filter.{Enforces, ForwardsAsExpected};
 ghost use Rattle.ipt_rules.specs.ChainTable.{rule_count};
-ghost use Rattle.ipt_rules.specs.Meaning.{Passes as ChainsPass};
+ghost use Rattle.ipt_rules.specs.Semantics.{Passes as ChainsPass};
 ghost use Rattle.ofp_rules.specs.Ambiguity.{most_entries};
-ghost use Rattle.ofp_rules.specs.Meaning.{Passes as EntriesPass};
+ghost use Rattle.ofp_rules.specs.Semantics.{Passes as EntriesPass};
 ghost use Rattle.emit_core.specs.EmitRefusals.{rule_limit};
 ghost use Rattle.emit_core.specs.FlowTable.{flow_entries};
 ghost use Rattle.emit_core.specs.FlowTableEvents.{AnswersAreCovered};
@@ -48,7 +48,7 @@ pub fn emit_iptables(
     ensures enforces { IfOk result (λ rules. Enforces (ChainsPass rules) (site_with hosts.now services.now) p.now.flows s.now.flows) }
 
     // For every list of events, a packet is forwarded if and only if it is expected to pass.
-    ensures expected { IfOk result (λ rules. ForwardsExpected (ChainsPass rules) (site_with hosts.now services.now) p.now.flows s.now.flows) }
+    ensures expected { IfOk result (λ rules. ForwardsAsExpected (ChainsPass rules) (site_with hosts.now services.now) p.now.flows s.now.flows) }
 {
     match iptables_layout(alloc, &FlowPolicy::new(hosts, services, p, s)) {
         Ok(rules) => Ok(rules),
@@ -79,7 +79,7 @@ pub fn emit_openflow(
     // If the answers of each flow of `s` are covered, a packet is forwarded if and only if it is
     // expected to pass, for every list of events.
     ensures expected { IfOk result (λ table. (s : List Flow) → AnswersAreCovered services.now p.now.flows s
-        → ForwardsExpected (EntriesPass table) (site_with hosts.now services.now) p.now.flows s) }
+        → ForwardsAsExpected (EntriesPass table) (site_with hosts.now services.now) p.now.flows s) }
 {
     // The call establishes that the set is sorted, and so a subset of itself.
     let _size = p.size();

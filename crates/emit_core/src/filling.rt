@@ -4,7 +4,7 @@ ghost use Rattle.std.specs.Prelude.{◌≡◌, ◌+◌, ◌<◌, ◌^◌, ℕ, l
 ghost use Rattle.std.specs.List.{list_all};
 ghost use Rattle.ipt_rules.specs.inner.Build.{refusal_of};
 ghost use Rattle.ipt_rules.specs.ChainTable.{rule_count};
-ghost use Rattle.ipt_rules.specs.Loops.{HasNoLoop};
+ghost use Rattle.ipt_rules.specs.Loops.{IsAcyclic};
 ghost use Rattle.ipt_rules.specs.inner.RuleParts.{is_rule};
 ghost use Rattle.emit_core.specs.inner.Filling.{with_rules};
 
@@ -31,7 +31,7 @@ pub fn fill(chains: &mut Chains, chain: u16, rules: &[Rule]) -> Result<(), Alloc
 /// allocation fails.
 pub fn build_accepted(alloc: Global, chains: Chains) -> Result<Ruleset, AllocError>
     requires accepted { refusal_of chains ≡ None }
-    requires no_loop { HasNoLoop chains }
+    requires acyclic { IsAcyclic chains }
     ensures { IfOk result (λ rules. rules ≡ chains) }
 {
     // The search finds no cycle, and so an order in which each jump goes back.

@@ -1,7 +1,7 @@
 //! The forms of entries that a flow table has.
 
 ghost use Rattle.std.specs.Prelude.{◌≡◌, OnOk, Some, map};
-ghost use Rattle.host_net.specs.Service.{narrowings};
+ghost use Rattle.host_net.specs.Service.{service_matches};
 ghost use Rattle.emit_core.specs.FlowTable.{arp_entry, ip_entry, other_entry, port_of_service, rest_drop, service_entry};
 ghost use Rattle.emit_core.specs.inner.KeptEntries.{with_entries};
 
@@ -21,7 +21,7 @@ pub(crate) fn push_services(
     services: &[Service],
 ) -> Result<(), AllocError>
     ensures { OnOk result (entries.new ≡ with_entries entries.old
-        (map (service_entry priority src dst) (narrowings services.now))) }
+        (map (service_entry priority src dst) (service_matches services.now))) }
 {
     if is_whole(services) {
         entries.push(service_entry(priority, src, dst, None))?;

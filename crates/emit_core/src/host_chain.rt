@@ -9,8 +9,8 @@ ghost use Rattle.emit_core.specs.inner.Link.{link_of, prefix_rules};
 
 mod link;
 
-use crate::parts::at_other;
-use crate::side::Side;
+use crate::direction::Direction;
+use crate::parts::match_peer;
 use host_net::Prefix;
 use ipt_rules::{Rule, Target};
 use link::Link;
@@ -21,7 +21,7 @@ use std::alloc::{AllocError, Global};
 pub fn host_rules(
     alloc: Global,
     policy: &FlowPolicy<'_>,
-    side: Side,
+    side: Direction,
     host: u16,
 ) -> Result<Vec<Rule>, AllocError>
     requires { host < length policy.now.site.hosts }
@@ -40,7 +40,7 @@ pub fn host_rules(
 #[derive(Drop)]
 struct HostChain<'a> {
     policy: &'a FlowPolicy<'a>,
-    side: Side,
+    side: Direction,
     host: u16,
     rest: Option<u16>,
     ghost host_within: { host < length policy.now.site.hosts },
@@ -78,7 +78,7 @@ impl<'a> HostChain<'a> {
         let mut rules = Vec::with_capacity(alloc, self.policy.count() as usize)?;
         self.push_to_hosts(&mut rules)?;
         self.push_to_rest(&mut rules)?;
-        rules.push(at_other(self.side, None, Target::Drop))?;
+        rules.push(match_peer(self.side, None, Target::Drop))?;
         Ok(rules)
     }
 

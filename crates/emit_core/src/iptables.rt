@@ -4,22 +4,22 @@ ghost use Rattle.std.specs.Prelude.{◌≡◌, ◌+◌, ◌<◌, ◌≤◌, ◌^
 ghost use Rattle.std.specs.List.{list_all};
 ghost use Rattle.host_net.specs.inner.Hosts.{IsHosts};
 ghost use Rattle.host_net.specs.inner.Site.{IsSite};
-ghost use Rattle.pkt_core.specs.Filter.{Enforces, ForwardsExpected};
+ghost use Rattle.pkt_core.specs.Filter.{Enforces, ForwardsAsExpected};
 ghost use Rattle.pkt_core.specs.inner.FlowPolicy.{IsFlowPolicy};
 ghost use Rattle.ipt_rules.specs.Chain.{number_of};
 ghost use Rattle.ipt_rules.specs.ChainTable.{rule_count};
-ghost use Rattle.ipt_rules.specs.Meaning.{Passes};
+ghost use Rattle.ipt_rules.specs.Semantics.{Passes};
 ghost use Rattle.ipt_rules.specs.inner.RuleParts.{is_rule};
 ghost use Rattle.emit_core.specs.EmitRefusals.{rule_limit};
 ghost use Rattle.emit_core.specs.inner.EmitRefusals.{HasNoChains};
 ghost use Rattle.emit_core.specs.inner.Filling.{AreCounted, chains_up_to};
 ghost use Rattle.emit_core.specs.Layout.{entry_chains, forward_rules, host_chain_name, layout};
 
+use crate::direction::Direction;
 use crate::filling::{build_accepted, fill};
 use crate::forward::forward_rules;
 use crate::host_chain::host_rules;
 use crate::refusal::NoChains;
-use crate::side::Side;
 use host_net::Hosts;
 use ipt_rules::{ChainName, Chains, FORWARD, Policy, Rule, Ruleset};
 use pkt_core::FlowPolicy;
@@ -40,7 +40,7 @@ pub fn iptables_layout(alloc: Global, policy: &FlowPolicy<'_>) -> Result<Ruleset
 
     // For every list of events, a packet is forwarded if and only if the policy and its answers
     // expect it.
-    ensures expected { IfOk result (λ rules. ForwardsExpected (Passes rules) policy.now.site policy.now.permitted policy.now.stateful) }
+    ensures expected { IfOk result (λ rules. ForwardsAsExpected (Passes rules) policy.now.site policy.now.permitted policy.now.stateful) }
 {
     let Ok(Layout { chains, count }) = layout_of(alloc, policy) else {
         return Err(NoChains::Memory);
@@ -104,7 +104,7 @@ fn add_host_chain(
     ensures { OnOk result (AreCounted (chains_up_to policy.now.site policy.now.permitted
         policy.now.stateful (host + 1)) made.new.chains made.new.count) }
 {
-    let rules = host_rules(alloc, policy, Side::Sending, host)?;
+    let rules = host_rules(alloc, policy, Direction::Outbound, host)?;
     made.count += rules.len() as u32;
     if made.count > RULE_LIMIT {
         return Ok(());

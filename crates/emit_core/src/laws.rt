@@ -6,10 +6,10 @@ ghost use Rattle.host_net.specs.declared.packet.Packet.{Packet};
 ghost use Rattle.host_net.specs.Host.{Host};
 ghost use Rattle.host_net.specs.inner.Site.{unnarrowed};
 ghost use Rattle.flow_set.specs.declared.flow.Flow.{Flow};
-ghost use Rattle.flow_set.specs.Flow.{back_of};
+ghost use Rattle.flow_set.specs.Flow.{reverse_of};
 ghost use Rattle.flow_set.specs.FlowSet.{has};
 ghost use Rattle.pkt_core.specs.FlowPolicy.{flow_of, is_of};
-ghost use Rattle.emit_core.specs.declared.side.Side.{Side as HostSide};
+ghost use Rattle.emit_core.specs.declared.direction.Direction.{Direction as HostSide};
 ghost use Rattle.emit_core.specs.FlowTable.{flow_entries};
 ghost use Rattle.emit_core.specs.FlowTableEvents.{AnswersAreCovered};
 ghost use Rattle.emit_core.specs.Layout.{host_rules};
@@ -26,5 +26,5 @@ pub fn unnarrowed_flows_are_whole()
         host_rules side (unnarrowed hosts) p s i ≡ whole_host_rules side hosts p s i }
     ensures entries { (hosts : List Host) (p : List Flow) → flow_entries (unnarrowed hosts) p ≡ whole_entries hosts p }
     ensures answers { (p s : List Flow) →
-        AnswersAreCovered [] p s ↔ ((f : Flow) → IsTrue (has s f) → IsTrue (has p (back_of f))) }
+        AnswersAreCovered [] p s ↔ ((f : Flow) → IsTrue (has s f) → IsTrue (has p (reverse_of f))) }
 {}

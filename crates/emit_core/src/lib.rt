@@ -5,6 +5,7 @@
 #![tactic(auto)]
 
 mod answers;
+mod direction;
 mod emit;
 mod entries;
 mod filling;
@@ -22,15 +23,14 @@ mod policy_flow;
 mod ranges;
 mod refusal;
 mod rest_flows;
-mod side;
 
 pub use answers::needs_state;
+pub use direction::Direction;
 pub use emit::{emit_iptables, emit_openflow};
 pub use filling::{build_accepted, fill};
 pub use host_chain::host_rules;
 pub use iptables::iptables_layout;
 pub use laws::unnarrowed_flows_are_whole;
 pub use openflow::flow_table_layout;
-pub use parts::{at_other, in_prefix};
+pub use parts::{match_peer, match_prefix};
 pub use refusal::{EmitRefusal, NoChains, NoTable};
-pub use side::Side;

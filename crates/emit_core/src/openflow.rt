@@ -2,9 +2,9 @@
 
 ghost use Rattle.std.specs.Prelude.{◌≡◌, List, [], ◌≤◌, length, IfOk, IfErr, OnOk};
 ghost use Rattle.flow_set.specs.declared.flow.Flow.{Flow};
-ghost use Rattle.pkt_core.specs.Filter.{Enforces, ForwardsExpected};
+ghost use Rattle.pkt_core.specs.Filter.{Enforces, ForwardsAsExpected};
 ghost use Rattle.ofp_rules.specs.Ambiguity.{most_entries};
-ghost use Rattle.ofp_rules.specs.Meaning.{Passes};
+ghost use Rattle.ofp_rules.specs.Semantics.{Passes};
 ghost use Rattle.emit_core.specs.inner.EmitRefusals.{HasNoTable};
 ghost use Rattle.emit_core.specs.FlowTable.{flow_entries};
 ghost use Rattle.emit_core.specs.FlowTableEvents.{AnswersAreCovered};
@@ -38,7 +38,7 @@ pub fn flow_table_layout(alloc: Global, policy: &FlowPolicy<'_>) -> Result<Table
     // So if the answers of each stateful flow are covered, packets are forwarded exactly as
     // expected, for every list of events.
     ensures expected { IfOk result (λ table. (s : List Flow) → AnswersAreCovered policy.now.site.services policy.now.permitted s
-        → ForwardsExpected (Passes table) policy.now.site policy.now.permitted s) }
+        → ForwardsAsExpected (Passes table) policy.now.site policy.now.permitted s) }
 {
     // The call establishes the invariants of policies.
     let _count = policy.count();
@@ -54,12 +54,12 @@ pub fn flow_table_layout(alloc: Global, policy: &FlowPolicy<'_>) -> Result<Table
     }
     match Table::build(alloc, entries.into_kept()) {
         Ok(table) => Ok(table),
-        Err(why) => Err(out_of_memory(why)),
+        Err(why) => Err(alloc_error(why)),
     }
 }
 
 // No layout within the entry limit is refused: if no table is returned, memory allocation failed.
-fn out_of_memory(why: TableRefusal) -> NoTable
+fn alloc_error(why: TableRefusal) -> NoTable
     requires { why ≡ TableRefusal.Memory }
     ensures { result ≡ NoTable.Memory }
 {

@@ -1,11 +1,11 @@
 //! The forms of rules that a layout has.
 
 ghost use Rattle.std.specs.Prelude.{◌≡◌, ◌+◌, ◌<◌, ◌^◌};
-ghost use Rattle.emit_core.specs.Layout.{chain_of, in_prefix, answering, from_source, at_other, protocol_part, port_part, ports_of_service};
+ghost use Rattle.emit_core.specs.Layout.{chain_of, match_prefix, match_established, from_source, match_peer, protocol_part, port_part, ports_of_service};
 ghost use Rattle.emit_core.specs.inner.Link.{accepting};
 
+use crate::direction::Direction;
 use crate::narrowing::has_all_ports;
-use crate::side::Side;
 use host_net::{Prefix, Service};
 use ipt_rules::{AddrMatch, PortMatch, ProtoMatch, Rule, StateMatch, Target};
 
@@ -21,18 +21,18 @@ pub(crate) fn chain_of(host: u16) -> u16
 pub(crate) fn from_source(prefix: Option<Prefix>, target: Target) -> Rule
     ensures { result ≡ from_source prefix target }
 {
-    at_other(Side::Receiving, prefix, target)
+    match_peer(Direction::Inbound, prefix, target)
 }
 
 /// Returns a rule that matches the address of the other host; without a prefix it matches every
 /// address.
-pub fn at_other(side: Side, prefix: Option<Prefix>, target: Target) -> Rule
-    ensures { result ≡ at_other side prefix None target }
+pub fn match_peer(side: Direction, prefix: Option<Prefix>, target: Target) -> Rule
+    ensures { result ≡ match_peer side prefix None target }
 {
-    let part = in_prefix(prefix);
+    let part = match_prefix(prefix);
     let (src, dst) = match side {
-        Side::Sending => (None, part),
-        Side::Receiving => (part, None),
+        Direction::Outbound => (None, part),
+        Direction::Inbound => (part, None),
     };
     Rule {
         src,
@@ -56,14 +56,14 @@ pub(crate) enum Accepted {
 /// service it matches on neither protocol nor port.
 pub(crate) fn accepting(
     accepted: Accepted,
-    side: Side,
+    side: Direction,
     prefix: Option<Prefix>,
     service: Option<Service>,
 ) -> Rule
     ensures { result ≡ accepting accepted side prefix service }
 {
     let (proto, ports) = (protocol_part(service), port_part(service));
-    let rule = at_other(side, prefix, Target::Accept);
+    let rule = match_peer(side, prefix, Target::Accept);
     match accepted {
         Accepted::Flow => Rule {
             proto,
@@ -73,15 +73,15 @@ pub(crate) fn accepting(
         Accepted::Answers => Rule {
             proto,
             sport: ports,
-            state: answering(),
+            state: match_established(),
             ..rule
         },
     }
 }
 
 /// Returns the state match for answers.
-fn answering() -> Option<StateMatch>
-    ensures { result ≡ answering }
+fn match_established() -> Option<StateMatch>
+    ensures { result ≡ match_established }
 {
     Some(StateMatch {
         new: false,
@@ -91,8 +91,8 @@ fn answering() -> Option<StateMatch>
 }
 
 /// Returns the address match for a prefix; without a prefix there is none.
-pub fn in_prefix(prefix: Option<Prefix>) -> Option<AddrMatch>
-    ensures { result ≡ in_prefix prefix }
+pub fn match_prefix(prefix: Option<Prefix>) -> Option<AddrMatch>
+    ensures { result ≡ match_prefix prefix }
 {
     match prefix {
         None => None,

@@ -1,7 +1,7 @@
 //! Membership of the flow between two hosts in a set of flows.
 
 ghost use Rattle.std.specs.Prelude.{◌≡◌, ◌<◌};
-ghost use Rattle.emit_core.specs.Sides.{permits};
+ghost use Rattle.emit_core.specs.Directions.{permits};
 
 use flow_set::{Flow, FlowSet};
 

@@ -2,10 +2,10 @@
 
 ghost use Rattle.std.specs.Prelude.{◌≡◌, ◌<◌, length};
 ghost use Rattle.host_net.specs.Services.{services_of};
-ghost use Rattle.emit_core.specs.Sides.{links, permits, services_on};
+ghost use Rattle.emit_core.specs.Directions.{connects, permits, services_on};
 
+use crate::direction::Direction;
 use crate::permitted::permits;
-use crate::side::Side;
 use host_net::Service;
 use pkt_core::FlowPolicy;
 
@@ -31,10 +31,15 @@ impl<'a> PolicyFlow<'a> {
     }
 
     /// Returns the flow that a host has with another in a direction.
-    pub(crate) fn on(policy: &FlowPolicy<'a>, side: Side, host: u16, other: u16) -> PolicyFlow<'a>
+    pub(crate) fn on(
+        policy: &FlowPolicy<'a>,
+        side: Direction,
+        host: u16,
+        other: u16,
+    ) -> PolicyFlow<'a>
         requires host { host < length policy.now.site.hosts }
         requires other { other < length policy.now.site.hosts }
-        ensures permitted { result.permitted ≡ links side policy.now.permitted host other }
+        ensures permitted { result.permitted ≡ connects side policy.now.permitted host other }
         ensures services { result.services.now ≡ services_on side policy.now.site.services host other }
     {
         let flow = side.flow(host, other);

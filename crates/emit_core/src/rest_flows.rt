@@ -8,10 +8,10 @@ ghost use Rattle.emit_core.specs.FlowTable.{with_rest};
 ghost use Rattle.emit_core.specs.inner.KeptEntries.{with_entries};
 ghost use Rattle.emit_core.specs.inner.RestEntries.{prefix_on, prefixes_on, with_rest_on};
 
+use crate::direction::Direction;
 use crate::entries::Entries;
 use crate::flow_entry::push_services;
 use crate::policy_flow::PolicyFlow;
-use crate::side::Side;
 use host_net::{Prefix, Service};
 use pkt_core::FlowPolicy;
 use std::alloc::AllocError;
@@ -28,8 +28,8 @@ pub(crate) fn push_with_rest(
         (with_rest policy.now.site policy.now.permitted rest)) }
 {
     if let Some(host) = rest {
-        push_on_side(entries, policy, Side::Sending, host)?;
-        push_on_side(entries, policy, Side::Receiving, host)?;
+        push_on_side(entries, policy, Direction::Outbound, host)?;
+        push_on_side(entries, policy, Direction::Inbound, host)?;
     }
     Ok(())
 }
@@ -39,7 +39,7 @@ pub(crate) fn push_with_rest(
 fn push_on_side(
     entries: &mut Entries,
     policy: &FlowPolicy<'_>,
-    side: Side,
+    side: Direction,
     rest: u16,
 ) -> Result<(), AllocError>
     requires { rest < length policy.now.site.hosts }
@@ -55,7 +55,7 @@ fn push_on_side(
 
 fn push_prefixes(
     entries: &mut Entries,
-    side: Side,
+    side: Direction,
     flow: &PolicyFlow<'_>,
     prefixes: &[Prefix],
 ) -> Result<(), AllocError>
@@ -73,14 +73,14 @@ fn push_prefixes(
 
 fn push_prefix(
     entries: &mut Entries,
-    side: Side,
+    side: Direction,
     services: &[Service],
     prefix: Prefix,
 ) -> Result<(), AllocError>
     ensures { OnOk result (entries.new ≡ with_entries entries.old (prefix_on side services.now prefix)) }
 {
     match side {
-        Side::Sending => push_services(entries, 30, Some(prefix), None, services),
-        Side::Receiving => push_services(entries, 30, None, Some(prefix), services),
+        Direction::Outbound => push_services(entries, 30, Some(prefix), None, services),
+        Direction::Inbound => push_services(entries, 30, None, Some(prefix), services),
     }
 }

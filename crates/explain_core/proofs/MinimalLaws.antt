@@ -7,7 +7,7 @@ use Rattle.flow_set.specs.declared.flow.Flow.{Flow}
 use Rattle.flow_set.specs.Flow.{IsFlow, same_flow}
 use Rattle.flow_set.specs.FlowSet.{has, IsOrdered, IsSubset, with_flow}
 use Rattle.flow_set.specs.inner.FlowSetView.{IsFlowSet}
-use Rattle.flow_set.specs.inner.Downward.{IsDownward, IsEdgeWise}
+use Rattle.flow_set.specs.inner.Downward.{IsDownwardClosed, IsEdgeWise}
 use Rattle.flow_set.proofs.ConditionLaws.{edge_wise-with_flow}
 use Rattle.flow_set.specs.laws.FlowLaws.{flows_ext, has-append, has-with_flow, has_nothing, or_swap, same_fact, same_test, same_flow_self, IsOrdered-front, IsOrdered-with_flow}
 use Rattle.flow_set.proofs.SubsetLaws.{IsFlowSet-subset, subset_both, subset_self, subset_trans}
@@ -91,7 +91,7 @@ within_without xs s g f sub same absent = record {
 
 -- ---- the search
 
-pub narrowed_start : (n : ℕ) (Holds : List Flow → Type 0) (e : List Flow) (f : Flow) → IsFlowSet n e → IsDownward n Holds
+pub narrowed_start : (n : ℕ) (Holds : List Flow → Type 0) (e : List Flow) (f : Flow) → IsFlowSet n e → IsDownwardClosed n Holds
     → Holds e → (Holds (with_flow e f) → ⊥) → AreNarrowed Holds (with_flow e f) (f ∷ []) e
 narrowed_start n Holds e f set downward holds fails =
     let whole : fold with_flow (f ∷ []) e ≡ with_flow e f = fold-one e f set.ordered in
@@ -107,7 +107,7 @@ narrowed_start n Holds e f set downward holds fails =
       least = λ s sub failed. inl (subst (IsSubset s) (sym whole) sub);
     }
 
-pub narrowed_next : (n : ℕ) (Holds : List Flow → Type 0) (e needed rest before : List Flow) (g : Flow) → IsFlowSet n e → IsDownward n Holds
+pub narrowed_next : (n : ℕ) (Holds : List Flow → Type 0) (e needed rest before : List Flow) (g : Flow) → IsFlowSet n e → IsDownwardClosed n Holds
     → AreNarrowed Holds e needed rest → IsTransition Holds needed rest g before → AreNarrowed Holds e (with_flow needed g) before
 narrowed_next n Holds e needed rest before g set downward narrowed transition =
     let front : List Flow = fold with_flow needed before in

@@ -1,13 +1,13 @@
 -- Laws of lists of invariants with their trials.
 use Rattle.std.proofs.Common.{◌≡◌, ℕ, ◌<◌, List, length, set, get_or, inl, inr, sym, ◌∙◌, ap, subst, arith}
 use Rattle.flow_set.specs.declared.flow.Flow.{Flow}
-use Rattle.flow_set.specs.inner.Steps.{TriedFlows}
+use Rattle.flow_set.specs.inner.Steps.{UndoableFlows}
 use Rattle.std.proofs.lemmas.Bool.{cases_eq}
 use Rattle.std.proofs.lemmas.List.{get_or-set_same, get_or-set_other, get_or_read, length-set}
 use Rattle.permit_core.specs.inner.Trials.{AreTried}
 
 -- The trials remain valid if one of them was used and has the same flows as before.
-pub AreTried-kept : {X T : Type 0} (Fits : X → T → Type 0) (tried : T → TriedFlows) (invs : List X) (trials : List T) (e : List Flow) (i : ℕ) (inv : X) (t : T)
+pub AreTried-kept : {X T : Type 0} (Fits : X → T → Type 0) (tried : T → UndoableFlows) (invs : List X) (trials : List T) (e : List Flow) (i : ℕ) (inv : X) (t : T)
     → AreTried Fits tried invs trials e → i < length invs → inv ≡ get_or invs i inv → Fits inv t → (tried t).flows ≡ e
     → AreTried Fits tried invs (set trials i t) e
 AreTried-kept Fits tried invs trials e i inv t are within read fits flows =

@@ -1,7 +1,7 @@
 -- The invariants that deny a flow or its answers, and minimal failing sets. The definitions are generic over the type of invariants.
 use Rattle.std.specs.Prelude.{◌≡◌, ◌<◌, ◌==◌, ◌||◌, ◌⊎◌, ℕ, Bool, true, false, List, [], ◌∷◌, IsTrue, IsFalse, slice_get, Some}
 use Rattle.flow_set.specs.declared.flow.Flow.{Flow}
-use Rattle.flow_set.specs.Flow.{back_of, before}
+use Rattle.flow_set.specs.Flow.{reverse_of, before}
 use Rattle.flow_set.specs.FlowSet.{has, IsSubset, with_flow, with_back}
 use Rattle.inv_law.specs.declared.strategy.Strategy.{Strategy}
 use Rattle.state_core.specs.Stateful.{is_strict}
@@ -40,7 +40,7 @@ AreDenying HoldsOn invs p f numbers = AreFailing (λ _. true) HoldsOn invs (with
 -- stateful flows s: they are strict, and fail on p and these answers with the answer of f.
 abbrev pub AreDenyingAnswers : {X : Type 0} → (X → Strategy) → (X → Bool) → (X → List Flow → Type 0) → List X → (p s : List Flow) → (f : Flow) → List ℕ → Type 0
 AreDenyingAnswers strategy_of edge_mark HoldsOn invs p s f numbers =
-    AreFailing (λ inv. is_strict (strategy_of inv) (edge_mark inv)) HoldsOn invs (with_flow (with_back p s) (back_of f)) numbers
+    AreFailing (λ inv. is_strict (strategy_of inv) (edge_mark inv)) HoldsOn invs (with_flow (with_back p s) (reverse_of f)) numbers
 
 -- ---- minimal failing sets
 

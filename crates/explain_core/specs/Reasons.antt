@@ -1,7 +1,7 @@
 -- The reasons why a flow or its answers are denied: all invariants that fail with it, each with a minimal failing set.
 use Rattle.std.specs.Prelude.{◌≡◌, Bool, true, List, All, map, slice_get, Some}
 use Rattle.flow_set.specs.declared.flow.Flow.{Flow}
-use Rattle.flow_set.specs.Flow.{back_of}
+use Rattle.flow_set.specs.Flow.{reverse_of}
 use Rattle.flow_set.specs.FlowSet.{with_flow, with_back}
 use Rattle.inv_law.specs.declared.strategy.Strategy.{Strategy}
 use Rattle.state_core.specs.Stateful.{is_strict}
@@ -23,4 +23,4 @@ DenyFlow HoldsOn invs p f reasons = AreReasons (λ _. true) HoldsOn invs (with_f
 -- invariants that fail on these with the answer of f.
 abbrev pub DenyAnswers : {X : Type 0} → (X → Strategy) → (X → Bool) → (X → List Flow → Type 0) → List X → (p s : List Flow) → (f : Flow) → List Reason → Type 0
 DenyAnswers strategy_of edge_mark HoldsOn invs p s f reasons =
-    AreReasons (λ inv. is_strict (strategy_of inv) (edge_mark inv)) HoldsOn invs (with_flow (with_back p s) (back_of f)) reasons
+    AreReasons (λ inv. is_strict (strategy_of inv) (edge_mark inv)) HoldsOn invs (with_flow (with_back p s) (reverse_of f)) reasons

@@ -11,20 +11,20 @@ use Rattle.flow_set.specs.Flow.{IsFlow, before, same_flow}
 use Rattle.flow_set.specs.FlowSet.{has, IsOrdered, with_flow}
 use Rattle.flow_set.specs.inner.FlowSetView.{IsFlowSet, without_flow}
 use Rattle.flow_set.specs.laws.FlowLaws.{has_nothing, has-append, has-with_flow, has-without_flow, flows_ext, IsOrdered-append, IsOrdered-with_flow, IsOrdered-without_flow}
-use Rattle.flow_set.specs.inner.BitRows.{marks, where_so, row_flows, rows_flows, flows_of, AreRows}
+use Rattle.flow_set.specs.inner.BitRows.{marks, singleton_if, row_flows, rows_flows, flows_of, AreRows}
 use Rattle.flow_set.specs.HostSet.{HostNumbers, hosts_below}
 use Rattle.flow_set.specs.inner.HostSet.{row_of}
 use Rattle.flow_set.specs.laws.HostSetLaws.{contains-insert, contains-remove, contains-hosts_below, hosts_ext, len_more}
 
 -- ---- members
 
-has-where_so : (b : Bool) (f g : Flow) → has (where_so b f) g ≡ (b && same_flow f g)
-has-where_so true f g = or_false (same_flow f g)
+has-singleton_if : (b : Bool) (f g : Flow) → has (singleton_if b f) g ≡ (b && same_flow f g)
+has-singleton_if true f g = or_false (same_flow f g)
   where
     or_false : (b : Bool) → (b || false) ≡ b
     or_false true = refl
     or_false false = refl
-has-where_so false f g = refl
+has-singleton_if false f g = refl
 
 none_below : (a b : Bool) (m : ℕ) → false ≡ (a && (nat_lt m 0 && b))
 none_below a b m = grind (arith, nat_tests)
@@ -38,8 +38,8 @@ has-row_flows : (i : ℕ) (row : HostNumbers) (n : ℕ) (f : Flow)
 unfolding row_flows
 has-row_flows i row zero f = none_below (nat_eq f.from i) (set.contains row f.to) f.to
 has-row_flows i row (suc n) f =
-    has-append (row_flows i row n) (where_so (set.contains row n) (record { from = i; to = n })) f
-    ∙ (λ k. has-row_flows i row n f k || has-where_so (set.contains row n) (record { from = i; to = n }) f k)
+    has-append (row_flows i row n) (singleton_if (set.contains row n) (record { from = i; to = n })) f
+    ∙ (λ k. has-row_flows i row n f k || has-singleton_if (set.contains row n) (record { from = i; to = n }) f k)
     ∙ row_step i n f.from f.to (set.contains row f.to) (set.contains row n) (λ same. ap (set.contains row) same)
 
 none_first : (b : Bool) (m : ℕ) → false ≡ (nat_lt m 0 && b)
@@ -60,9 +60,9 @@ has-rows_flows rows n (suc m) f =
 
 -- ---- in order
 
-IsOrdered-where_so : (b : Bool) (f : Flow) → IsOrdered (where_so b f)
-IsOrdered-where_so true f = (λ g there. has_nothing g there, tt)
-IsOrdered-where_so false f = tt
+IsOrdered-singleton_if : (b : Bool) (f : Flow) → IsOrdered (singleton_if b f)
+IsOrdered-singleton_if true f = (λ g there. has_nothing g there, tt)
+IsOrdered-singleton_if false f = tt
 
 row_order : (i n : ℕ) (f g : Flow) (c d : Bool) → IsTrue (nat_eq f.from i && (nat_lt f.to n && c))
     → IsTrue (d && ((i == g.from) && (n == g.to))) → IsTrue (before f g)
@@ -72,9 +72,9 @@ IsOrdered-row_flows : (i : ℕ) (row : HostNumbers) (n : ℕ) → IsOrdered (row
 unfolding row_flows
 IsOrdered-row_flows i row zero = tt
 IsOrdered-row_flows i row (suc n) =
-    IsOrdered-append (row_flows i row n) (where_so (set.contains row n) (record { from = i; to = n })) (IsOrdered-row_flows i row n)
-    (IsOrdered-where_so _ _)
-    (λ f g p q. row_order i n f g (set.contains row f.to) (set.contains row n) (sym (has-row_flows i row n f) ∙ p) (sym (has-where_so (set.contains row n) (record { from = i; to = n }) g) ∙ q))
+    IsOrdered-append (row_flows i row n) (singleton_if (set.contains row n) (record { from = i; to = n })) (IsOrdered-row_flows i row n)
+    (IsOrdered-singleton_if _ _)
+    (λ f g p q. row_order i n f g (set.contains row f.to) (set.contains row n) (sym (has-row_flows i row n f) ∙ p) (sym (has-singleton_if (set.contains row n) (record { from = i; to = n }) g) ∙ q))
 
 rows_order : (m : ℕ) (f g : Flow) (c d : Bool) → IsTrue (nat_lt f.from m && c) → IsTrue (nat_eq g.from m && d) → IsTrue (before f g)
 rows_order m f g c d p q = grind (arith, nat_tests)
@@ -227,13 +227,13 @@ length-row : (i : ℕ) (row : HostNumbers) (n : ℕ) → length (row_flows i row
 unfolding row_flows hosts_below
 length-row i row zero = sym (set.len-empty nat_cmp)
 length-row i row (suc n) =
-    length-append (row_flows i row n) (where_so (set.contains row n) (record { from = i; to = n }))
-    ∙ (λ k. length-row i row n k + length-where_so (set.contains row n) (record { from = i; to = n }) k)
+    length-append (row_flows i row n) (singleton_if (set.contains row n) (record { from = i; to = n }))
+    ∙ (λ k. length-row i row n k + length-singleton_if (set.contains row n) (record { from = i; to = n }) k)
     ∙ sym (len_more n (set.contains row))
   where
-    length-where_so : (b : Bool) (f : Flow) → length (where_so b f) ≡ cond b 1 0
-    length-where_so true f = refl
-    length-where_so false f = refl
+    length-singleton_if : (b : Bool) (f : Flow) → length (singleton_if b f) ≡ cond b 1 0
+    length-singleton_if true f = refl
+    length-singleton_if false f = refl
 
 all_below : (n : ℕ) (row : HostNumbers) → ((q : ℕ) → IsTrue (set.contains row q) → q < n) → hosts_below n (set.contains row) ≡ row
 all_below n row within = hosts_ext _ row (λ q. contains-hosts_below n (set.contains row) q ∙ only (set.contains row q) q (within q))

@@ -6,7 +6,7 @@ use Rattle.flow_set.specs.declared.flow.Flow.{Flow}
 use Rattle.flow_set.specs.Flow.{IsFlow, same_flow}
 use Rattle.flow_set.specs.FlowSet.{has, with_flow, with_back}
 use Rattle.flow_set.specs.inner.FlowSetView.{IsFlowSet}
-use Rattle.flow_set.specs.inner.Downward.{IsDownward, IsEdgeWise}
+use Rattle.flow_set.specs.inner.Downward.{IsDownwardClosed, IsEdgeWise}
 use Rattle.flow_set.specs.laws.FlowLaws.{has-with_flow, same_fact, same_flow_self}
 use Rattle.flow_set.proofs.SubsetLaws.{IsFlowSet-with_flow, IsFlowSet-with_back, with_back_grows}
 
@@ -24,7 +24,7 @@ edge_wise-with_flow n Holds e f edge_wise set is_flow holds =
     )
 
 -- A condition on a fixed set with the reverse of some flows is preserved if fewer flows are reversed.
-pub IsDownward-with_back : (n : ℕ) (Holds : List Flow → Type 0) (p : List Flow) → IsFlowSet n p → IsDownward n Holds
-    → IsDownward n (λ s. Holds (with_back p s))
-IsDownward-with_back n Holds p set downward e s within sub holds =
+pub IsDownwardClosed-with_back : (n : ℕ) (Holds : List Flow → Type 0) (p : List Flow) → IsFlowSet n p → IsDownwardClosed n Holds
+    → IsDownwardClosed n (λ s. Holds (with_back p s))
+IsDownwardClosed-with_back n Holds p set downward e s within sub holds =
     downward (with_back p e) (with_back p s) (IsFlowSet-with_back n p e set within) (with_back_grows p s e set.ordered sub) holds

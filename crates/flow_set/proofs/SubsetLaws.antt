@@ -3,15 +3,15 @@ use Rattle.std.proofs.Common.{◌≡◌, ℕ, ◌≤◌, Bool, true, false, not,
 use Rattle.std.specs.Prelude.{IsTrue, filter, ◌↔◌, ◌⊎◌}
 use Rattle.std.proofs.lemmas.Bool.{and_parts, or_cases, or_left, or_right}
 use Rattle.flow_set.specs.declared.flow.Flow.{Flow}
-use Rattle.flow_set.specs.Flow.{IsFlow, same_flow, back_of}
+use Rattle.flow_set.specs.Flow.{IsFlow, same_flow, reverse_of}
 use Rattle.flow_set.specs.FlowSet.{has, IsOrdered, IsSubset, IsFull, with_flow, without, with_back}
 use Rattle.flow_set.specs.inner.FlowSetView.{IsFlowSet, without_flow}
 use Rattle.flow_set.specs.laws.FlowLaws.{has_nothing, same_fact, has-append, has-with_flow, has-filter, has-with_back, flows_ext, IsOrdered-filter, IsOrdered-with_flow, IsOrdered-with_back, IsOrdered-front}
 
 -- ---- sets between n hosts
 
-pub IsFlow-back_of : (n : ℕ) (f : Flow) → IsFlow n f → IsFlow n (back_of f)
-IsFlow-back_of n f h = (h.1, h.0, λ e. h.2 (sym e))
+pub IsFlow-reverse_of : (n : ℕ) (f : Flow) → IsFlow n f → IsFlow n (reverse_of f)
+IsFlow-reverse_of n f h = (h.1, h.0, λ e. h.2 (sym e))
 
 pub IsFlowSet-nothing : (n : ℕ) → n ≤ 256 → IsFlowSet n []
 IsFlowSet-nothing n small = record {
@@ -51,15 +51,15 @@ pub IsFlowSet-with_back : (n : ℕ) (fs gs : List Flow) → IsFlowSet n fs → I
 IsFlowSet-with_back n fs gs p q = record {
   small = p.small;
   ordered = IsOrdered-with_back fs gs p.ordered;
-  flows = λ f h. elim (or_cases (has fs f) (has gs (back_of f)) (sym (has-with_back fs gs f) ∙ h)) [
+  flows = λ f h. elim (or_cases (has fs f) (has gs (reverse_of f)) (sym (has-with_back fs gs f) ∙ h)) [
     | inl m ↦ p.flows f m
-    | inr m ↦ IsFlow-back_of n (back_of f) (q.flows (back_of f) m)
+    | inr m ↦ IsFlow-reverse_of n (reverse_of f) (q.flows (reverse_of f) m)
   ];
 }
 
 -- A flow of a set with answers is a member of the set or an answer.
 pub with_back_members : (fs gs : List Flow) (f : Flow)
-    → IsTrue (has (with_back fs gs) f) ↔ (IsTrue (has fs f) ⊎ IsTrue (has gs (back_of f)))
+    → IsTrue (has (with_back fs gs) f) ↔ (IsTrue (has fs f) ⊎ IsTrue (has gs (reverse_of f)))
 with_back_members fs gs f = (
   λ there. or_cases _ _ (sym (has-with_back fs gs f) ∙ there),
   λ either. has-with_back fs gs f ∙ elim either [
@@ -131,9 +131,9 @@ with_flow_within xs ys f sub member = record {
 pub with_back_grows : (fs xs ys : List Flow) → IsOrdered fs → IsSubset xs ys → IsSubset (with_back fs xs) (with_back fs ys)
 with_back_grows fs xs ys o sub = record {
   ordered = IsOrdered-with_back fs xs o;
-  within = λ f h. has-with_back fs ys f ∙ (elim (or_cases (has fs f) (has xs (back_of f)) (sym (has-with_back fs xs f) ∙ h)) [
+  within = λ f h. has-with_back fs ys f ∙ (elim (or_cases (has fs f) (has xs (reverse_of f)) (sym (has-with_back fs xs f) ∙ h)) [
     | inl m ↦ or_left _ _ m
-    | inr m ↦ or_right _ _ (sub.within (back_of f) m)
+    | inr m ↦ or_right _ _ (sub.within (reverse_of f) m)
   ]);
 }
 

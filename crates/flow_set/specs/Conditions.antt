@@ -9,11 +9,11 @@ use Rattle.flow_set.specs.FlowSet.{has, IsSubset, with_flow, without}
 pub record IsMinimalOffending (Holds : List Flow → Type 0) (e f : List Flow) : Type 0 where
   pub within : IsSubset f e
   pub fails : Holds e → ⊥
-  pub mended : Holds (without e f)
+  pub holds_without : Holds (without e f)
   pub minimal : (g : Flow) → IsTrue (has f g) → Holds (with_flow (without e f) g) → ⊥
 
 -- xs contains a flow that ys lacks, and the two agree on all flows before it.
-pub record DiffersFirstIn (xs ys : List Flow) : Type 0 where
+pub record PrecedesAtFirstDifference (xs ys : List Flow) : Type 0 where
   pub flow : Flow
   pub here : IsTrue (has xs flow)
   pub not_there : IsFalse (has ys flow)
@@ -24,7 +24,7 @@ pub record DiffersFirstIn (xs ys : List Flow) : Type 0 where
 pub record IsFirst (Holds : List Flow → Type 0) (all xs : List Flow) : Type 0 where
   pub within : IsSubset xs all
   pub holds : Holds xs
-  pub first : (ys : List Flow) → IsSubset ys all → Holds ys → (ys ≡ xs) ⊎ DiffersFirstIn xs ys
+  pub first : (ys : List Flow) → IsSubset ys all → Holds ys → (ys ≡ xs) ⊎ PrecedesAtFirstDifference xs ys
 
 -- xs is the greatest subset of `all` that satisfies the condition: it contains every other such subset.
 pub record IsGreatest (Holds : List Flow → Type 0) (all xs : List Flow) : Type 0 where

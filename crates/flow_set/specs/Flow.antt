@@ -15,5 +15,5 @@ abbrev pub same_flow : Flow → Flow → Bool
 same_flow f g = (f.from == g.from) && (f.to == g.to)
 
 -- The reverse of a flow.
-abbrev pub back_of : Flow → Flow
-back_of f = record { from = f.to; to = f.from }
+abbrev pub reverse_of : Flow → Flow
+reverse_of f = record { from = f.to; to = f.from }

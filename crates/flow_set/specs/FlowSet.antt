@@ -3,7 +3,7 @@
 -- defined here.
 use Rattle.std.specs.Prelude.{ℕ, ◌↔◌, Bool, false, not, ◌||◌, if◌then◌else◌, List, [], ◌∷◌, IsTrue, filter}
 use Rattle.flow_set.specs.declared.flow.Flow.{Flow}
-use Rattle.flow_set.specs.Flow.{IsFlow, before, same_flow, back_of}
+use Rattle.flow_set.specs.Flow.{IsFlow, before, same_flow, reverse_of}
 use Rattle.std.specs.List.{fold}
 
 -- The model of `FlowSet`: the number of hosts, and the flows in order.
@@ -42,7 +42,7 @@ without fs gs = filter (λ f. not (has gs f)) fs
 -- The set with the reverse of every flow of gs inserted.
 abbrev pub with_back : List Flow → List Flow → List Flow
 with_back fs [] = fs
-with_back fs (g ∷ gs) = with_flow (with_back fs gs) (back_of g)
+with_back fs (g ∷ gs) = with_flow (with_back fs gs) (reverse_of g)
 
 -- The set of the listed flows.
 unfoldable pub set_of : List Flow → List Flow

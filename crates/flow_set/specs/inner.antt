@@ -5,5 +5,5 @@ pub mod Downward
 pub mod FlowSetView
 pub mod HostBits
 pub mod HostSet
-pub mod LastStep
+pub mod UndoRecord
 pub mod Steps

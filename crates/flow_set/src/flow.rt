@@ -2,7 +2,7 @@
 //! and receiver second, and every iteration over flows uses this order.
 
 ghost use Rattle.std.specs.Prelude.{◌≡◌};
-ghost use Rattle.flow_set.specs.Flow.{back_of};
+ghost use Rattle.flow_set.specs.Flow.{reverse_of};
 
 /// Packets from host `from` to host `to`.
 #[derive(Clone, Copy, PartialEq, Eq, PartialOrd, Ord, Debug)]
@@ -14,7 +14,7 @@ pub struct Flow {
 impl Flow {
     /// Returns the flow in the other direction.
     pub fn back(self) -> Flow
-        ensures { result ≡ back_of self }
+        ensures { result ≡ reverse_of self }
     {
         Flow {
             from: self.to,

@@ -12,4 +12,4 @@ pub use crate::host_set::HostSet;
 pub use flow::Flow;
 pub use iter::Iter;
 pub use set::FlowSet;
-pub use steps::FlowSteps;
+pub use steps::UndoableFlowSet;

@@ -3,7 +3,7 @@
 
 ghost use Rattle.std.specs.Prelude.{◌≡◌, ◌<◌, ◌≤◌, ◌⊎◌, ◌↔◌, [], length, not, IsTrue, IfOk};
 ghost use Rattle.flow_set.specs.EveryFlow.{every_flow};
-ghost use Rattle.flow_set.specs.Flow.{IsFlow, back_of};
+ghost use Rattle.flow_set.specs.Flow.{IsFlow, reverse_of};
 ghost use Rattle.flow_set.specs.FlowSet.{IsFull, has, with_flow, with_back};
 ghost use Rattle.flow_set.specs.inner.FlowSetView.{IsFlowSet, without_flow, first_from};
 
@@ -169,7 +169,7 @@ impl FlowSet {
         requires { s.now.size ≡ self.now.size }
         ensures size { IfOk result (λ all. all.size ≡ self.now.size) }
         ensures flows { IfOk result (λ all. all.flows ≡ with_back self.now.flows s.now.flows) }
-        ensures members { IfOk result (λ all. (f : Flow) → IsTrue (has all.flows f) ↔ (IsTrue (has self.now.flows f) ⊎ IsTrue (has s.now.flows (back_of f)))) }
+        ensures members { IfOk result (λ all. (f : Flow) → IsTrue (has all.flows f) ↔ (IsTrue (has self.now.flows f) ⊎ IsTrue (has s.now.flows (reverse_of f)))) }
     {
         let mut all = self.copy(alloc)?;
         for f in s.iter() {

@@ -11,7 +11,7 @@ use Rattle.host_net.specs.declared.packet.CtState.{CtState}
 use Rattle.host_net.specs.declared.packet.Verdict.{Verdict}
 use Rattle.host_net.specs.declared.packet.Verdict.TheVariants.{Forward as Forwarded}
 use Rattle.host_net.specs.Prefix.{covers}
-use Rattle.host_net.specs.Host.{Host, covers_any, holder_of, owner_of, rest_of}
+use Rattle.host_net.specs.Host.{Host, covers_any, prefix_owner_of, owner_of, rest_of}
 use Rattle.host_net.specs.inner.Hosts.{IsHosts}
 use Rattle.host_net.proofs.OwnerLaws.{owner_of_covered}
 use Rattle.host_net.specs.Packet.{IsPacket}
@@ -26,21 +26,21 @@ use Rattle.ipt_rules.specs.declared.rule.Target.TheVariants.{Jump}
 use Rattle.ipt_rules.specs.declared.rule.Policy.TheVariants.{Drop as Dropping}
 use Rattle.ipt_rules.specs.Chain.{policy_of, rules_of}
 use Rattle.ipt_rules.specs.Matching.{matches}
-use Rattle.ipt_rules.specs.Meaning.{Gives, HasVerdictIn, verdict_by}
+use Rattle.ipt_rules.specs.Semantics.{Gives, HasVerdictIn, verdict_by}
 use Rattle.ipt_rules.proofs.MeaningLaws.{verdict_once}
 use Rattle.ipt_rules.specs.inner.Saying.{Says}
 use Rattle.ipt_rules.proofs.SayingLaws.{says_append, says_one, says_jump, says_flat_map, gives_said, verdict_said}
-use Rattle.emit_core.specs.declared.side.Side.{Side}
-use Rattle.emit_core.specs.declared.side.Side.TheVariants.{Sending, Receiving}
+use Rattle.emit_core.specs.declared.direction.Direction.{Direction}
+use Rattle.emit_core.specs.declared.direction.Direction.TheVariants.{Outbound, Inbound}
 use Rattle.emit_core.proofs.HostChainLaws.{host_says, may_link_owner, said_by, said_by_any}
 use Rattle.emit_core.proofs.ForwardingLaws.{owners_receive, owners_send}
-use Rattle.emit_core.specs.Layout.{at_other, host_rules}
+use Rattle.emit_core.specs.Layout.{match_peer, host_rules}
 use Rattle.emit_core.specs.OtherAddress.{other_address}
 use Rattle.emit_core.proofs.OwnerLaws.{hosts_hold_once}
 use Rattle.emit_core.proofs.RuleFitsLaws.{whole_fits}
-use Rattle.emit_core.specs.Sides.{other_side}
+use Rattle.emit_core.specs.Directions.{other_direction}
 use Rattle.host_emit.specs.LocalLayout.{chain_for, entry_of, entry_rules, is_specific, local_layout, loopback, loopback_rule, own_jump, prefixes_of}
-use Rattle.host_emit.specs.Guarding.{Guards, PassesOn, is_internal, is_own}
+use Rattle.host_emit.specs.HostEnforcement.{EnforcesAtHost, PassesOn, is_internal, is_own}
 
 -- 1. Who owns an address.
 
@@ -60,7 +60,7 @@ found_at test k (x ∷ xs) i found = by_test (test x) refl found (λ later. foun
         (suc rest.0, rest.1, omega arith, rest.3, rest.4)
 
 -- The prefixes of a host that is found as holder of an address cover it.
-held_covered : (hosts : List Host) (a h : ℕ) → holder_of hosts a ≡ Some h → covers_any (prefixes_of hosts h) a ≡ true
+held_covered : (hosts : List Host) (a h : ℕ) → prefix_owner_of hosts a ≡ Some h → covers_any (prefixes_of hosts h) a ≡ true
 held_covered hosts a h held =
     let found = found_at (λ x. covers_any x.prefixes a) 0 hosts h held in
     let place : found.0 ≡ h = let start = found.2 in omega arith in
@@ -70,7 +70,7 @@ held_covered hosts a h held =
 pub owned_covered : (hosts : List Host) (a h : ℕ) → is_specific hosts h ≡ true → owner_of hosts a ≡ Some h
     → covers_any (prefixes_of hosts h) a ≡ true
 unfolding owner_of
-owned_covered hosts a h specific owned = by_holder (holder_of hosts a) refl owned
+owned_covered hosts a h specific owned = by_holder (prefix_owner_of hosts a) refl owned
   where
     itself : (n : ℕ) → not (n == n) ≡ false
     itself n = grind (arith, nat_tests)
@@ -78,7 +78,7 @@ owned_covered hosts a h specific owned = by_holder (holder_of hosts a) refl owne
     not_rest : rest_of hosts ≡ Some h → ⊥
     not_rest same = true≢false (sym specific ∙ ap (λ (x : Option ℕ). option_map_or (λ r. not (r == h)) x true) same ∙ itself h)
 
-    by_holder : (o : Option ℕ) → holder_of hosts a ≡ o → option_or o (rest_of hosts) ≡ Some h → covers_any (prefixes_of hosts h) a ≡ true
+    by_holder : (o : Option ℕ) → prefix_owner_of hosts a ≡ o → option_or o (rest_of hosts) ≡ Some h → covers_any (prefixes_of hosts h) a ≡ true
     by_holder None is owned = absurd (not_rest owned)
     by_holder (Some i) is owned = held_covered hosts a h (is ∙ owned)
 
@@ -94,39 +94,39 @@ covered_owned hosts a h known covered = by_host (slice_get hosts h) refl covered
 
 module _ (site : Site) (p s : List Flow) (h : ℕ) (known : IsHosts site.hosts) where
   -- The verdict of the host's chain is that of the policy for a packet of the host.
-  own_part : (side : Side) (state : CtState) (packet : Packet) → is_own side site.hosts h packet ≡ true
+  own_part : (side : Direction) (state : CtState) (packet : Packet) → is_own side site.hosts h packet ≡ true
       → may_link_owner side site p s packet (is_established state) h (owner_of site.hosts (other_address side packet)) ≡ lets_pass site p s packet state
-  own_part Sending state packet own =
-      sym (ap (λ (o : Option ℕ). option_map_or (λ i. may_link_owner Sending site p s packet (is_established state) i (owner_of site.hosts packet.dst)) o false)
+  own_part Outbound state packet own =
+      sym (ap (λ (o : Option ℕ). option_map_or (λ i. may_link_owner Outbound site p s packet (is_established state) i (owner_of site.hosts packet.dst)) o false)
       (covered_owned site.hosts packet.src h known own))
       ∙ owners_send site p s packet (is_established state) (owner_of site.hosts packet.src) (owner_of site.hosts packet.dst)
-  own_part Receiving state packet own =
-      sym (ap (λ (o : Option ℕ). option_map_or (λ j. may_link_owner Receiving site p s packet (is_established state) j (owner_of site.hosts packet.src)) o false)
+  own_part Inbound state packet own =
+      sym (ap (λ (o : Option ℕ). option_map_or (λ j. may_link_owner Inbound site p s packet (is_established state) j (owner_of site.hosts packet.src)) o false)
       (covered_owned site.hosts packet.dst h known own))
       ∙ owners_receive site p s packet (is_established state) (owner_of site.hosts packet.src) (owner_of site.hosts packet.dst)
 
-  user_rules : (side : Side) → rules_of (local_layout site p s h) (chain_for side) ≡ host_rules side site p s h
-  user_rules Sending = refl
-  user_rules Receiving = refl
+  user_rules : (side : Direction) → rules_of (local_layout site p s h) (chain_for side) ≡ host_rules side site p s h
+  user_rules Outbound = refl
+  user_rules Inbound = refl
 
-  entry_there : (side : Side) → rules_of (local_layout site p s h) (entry_of side) ≡ entry_rules side (prefixes_of site.hosts h)
-  entry_there Sending = refl
-  entry_there Receiving = refl
+  entry_there : (side : Direction) → rules_of (local_layout site p s h) (entry_of side) ≡ entry_rules side (prefixes_of site.hosts h)
+  entry_there Outbound = refl
+  entry_there Inbound = refl
 
-  entry_policy : (side : Side) → policy_of (local_layout site p s h) (entry_of side) ≡ Some Dropping
-  entry_policy Sending = refl
-  entry_policy Receiving = refl
+  entry_policy : (side : Direction) → policy_of (local_layout site p s h) (entry_of side) ≡ Some Dropping
+  entry_policy Outbound = refl
+  entry_policy Inbound = refl
 
-  jump_says : (side : Side) (state : CtState) (packet : Packet) → IsPacket packet → (q : Prefix)
+  jump_says : (side : Direction) (state : CtState) (packet : Packet) → IsPacket packet → (q : Prefix)
       → Says (matches packet state) (local_layout site p s h) (own_jump side q)
-      (if covers q (other_address (other_side side) packet) then Some (said_by side site p s packet state h) else None)
+      (if covers q (other_address (other_direction side) packet) then Some (said_by side site p s packet state h) else None)
   jump_says side state packet is q =
       let fits = matches packet state in
       let chains = local_layout site p s h in
       let v = said_by side site p s packet state h in
       subst (λ (x : Bool). Says fits chains (own_jump side q) (if x then Some v else None))
-      (whole_fits (other_side side) (Some q) (Jump (chain_for side)) packet state)
-      (says_jump fits chains (at_other (other_side side) (Some q) None (Jump (chain_for side))) (chain_for side) (Some v) refl
+      (whole_fits (other_direction side) (Some q) (Jump (chain_for side)) packet state)
+      (says_jump fits chains (match_peer (other_direction side) (Some q) None (Jump (chain_for side))) (chain_for side) (Some v) refl
       (subst (λ (x : List Rule). Gives fits chains x (Some v)) (sym (user_rules side))
       (gives_said fits chains (host_rules side site p s h) (Some v)
       (host_says side chains site p s packet state h is (hosts_hold_once site.hosts known (other_address side packet))))))
@@ -138,14 +138,14 @@ module _ (site : Site) (p s : List Flow) (h : ℕ) (known : IsHosts site.hosts) 
       (ap (λ (b : Bool). covers loopback packet.src && b) (and-true (covers loopback packet.dst)))
       (says_one (matches packet state) (local_layout site p s h) loopback_rule Forwarded refl)
 
-  entry_says : (side : Side) (state : CtState) (packet : Packet) → IsPacket packet
+  entry_says : (side : Direction) (state : CtState) (packet : Packet) → IsPacket packet
       → Says (matches packet state) (local_layout site p s h) (entry_rules side (prefixes_of site.hosts h))
       (option_or (if is_internal packet then Some Forwarded else None) (if is_own side site.hosts h packet then Some (said_by side site p s packet state h) else None))
   entry_says side state packet is =
       let fits = matches packet state in
       let chains = local_layout site p s h in
       let own = prefixes_of site.hosts h in
-      let a = other_address (other_side side) packet in
+      let a = other_address (other_direction side) packet in
       let v = said_by side site p s packet state h in
       says_append fits chains (loopback_rule ∷ []) (flat_map (own_jump side) own) _ _ (loopback_says state packet)
       (subst (λ (o : Option Verdict). Says fits chains (flat_map (own_jump side) own) o)
@@ -159,7 +159,7 @@ module _ (site : Site) (p s : List Flow) (h : ℕ) (known : IsHosts site.hosts) 
   entry_verdict false true lets v is = is refl
   entry_verdict false false lets v is = refl
 
-  passes_on : (side : Side) (state : CtState) (packet : Packet) → IsPacket packet
+  passes_on : (side : Direction) (state : CtState) (packet : Packet) → IsPacket packet
       → PassesOn (local_layout site p s h) side state packet (is_internal packet || (is_own side site.hosts h packet && lets_pass site p s packet state))
   passes_on side state packet is =
       let chains = local_layout site p s h in
@@ -171,14 +171,14 @@ module _ (site : Site) (p s : List Flow) (h : ℕ) (known : IsHosts site.hosts) 
       (verdict_said chains (entry_of side) packet state said
       (subst (λ (rs : List Rule). Says (matches packet state) chains rs said) (sym (entry_there side)) (entry_says side state packet is)))
 
-  at_internal : (side : Side) (state : CtState) (packet : Packet) (b : Bool) → IsPacket packet → is_internal packet ≡ b
+  at_internal : (side : Direction) (state : CtState) (packet : Packet) (b : Bool) → IsPacket packet → is_internal packet ≡ b
       → PassesOn (local_layout site p s h) side state packet (b || (is_own side site.hosts h packet && lets_pass site p s packet state))
   at_internal side state packet b is internal =
       subst (λ (x : Bool). PassesOn (local_layout site p s h) side state packet (x || (is_own side site.hosts h packet && lets_pass site p s packet state)))
       internal (passes_on side state packet is)
 
   -- The layout enforces the policy on the machines of its host.
-  pub layout_guards : Guards (local_layout site p s h) site p s h
+  pub layout_guards : EnforcesAtHost (local_layout site p s h) site p s h
   layout_guards = record {
     given = λ side state packet is. at_internal side state packet false is.0 is.1;
     only = λ side state packet passes is has. verdict_if-injective passes _ (verdict_once has (at_internal side state packet false is.0 is.1));

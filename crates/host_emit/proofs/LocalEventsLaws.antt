@@ -11,25 +11,25 @@ use Rattle.host_net.specs.Site.{Site}
 use Rattle.flow_set.specs.declared.flow.Flow.{Flow}
 use Rattle.flow_set.specs.FlowSet.{has, IsSubset}
 use Rattle.ipt_rules.specs.Chain.{Chain}
-use Rattle.ipt_rules.specs.Meaning.{Passes}
+use Rattle.ipt_rules.specs.Semantics.{Passes}
 use Rattle.pkt_core.specs.declared.event.Event.{Event}
 use Rattle.pkt_core.specs.Expected.{AreExpected}
 use Rattle.pkt_core.proofs.ExpectedLaws.{expected_once}
-use Rattle.pkt_core.specs.Filter.{RunsFromNothing}
+use Rattle.pkt_core.specs.Filter.{RunsFromNoConnections}
 use Rattle.pkt_core.proofs.FilterLaws.{is_of-within}
 use Rattle.pkt_core.specs.FlowPolicy.{flow_of, flow_of_owners, is_of, lets_pass}
-use Rattle.emit_core.specs.declared.side.Side.{Side}
-use Rattle.emit_core.specs.declared.side.Side.TheVariants.{Sending, Receiving}
+use Rattle.emit_core.specs.declared.direction.Direction.{Direction}
+use Rattle.emit_core.specs.declared.direction.Direction.TheVariants.{Outbound, Inbound}
 use Rattle.emit_core.proofs.ForwardingLaws.{layout_expected}
 use Rattle.emit_core.specs.Layout.{layout}
 use Rattle.emit_core.specs.OtherAddress.{other_address}
-use Rattle.emit_core.specs.Sides.{other_side}
-use Rattle.host_emit.specs.Guarding.{Guards, IsExternal, PassesOn, is_own}
+use Rattle.emit_core.specs.Directions.{other_direction}
+use Rattle.host_emit.specs.HostEnforcement.{EnforcesAtHost, IsExternal, PassesOn, is_own}
 use Rattle.host_emit.proofs.GuardingLaws.{layout_guards, owned_covered}
 use Rattle.host_emit.specs.inner.HostFirewalls.{AreFirewallsFor}
-use Rattle.host_emit.specs.LocalEvents.{AreExternal, AreSpecific, LocalRuns, PassesExpected, RunsWith}
+use Rattle.host_emit.specs.LocalEvents.{AreExternal, AreSpecific, LocalRuns, DeliversAsExpected, RunsWith}
 use Rattle.host_emit.specs.LocalLayout.{is_specific, local_layout}
-use Rattle.host_emit.specs.Passing.{empty_tables, or_unguarded}
+use Rattle.host_emit.specs.Delivery.{empty_tables, or_unenforced}
 use Rattle.host_emit.specs.inner.Passing.{host_on}
 use Rattle.host_emit.proofs.PassingLaws.{all_guarded, pass_as_expected, pass_keeps_first, some_pass_run}
 
@@ -49,10 +49,10 @@ between_ends (Some i) (Some j) f is = by_test (i == j) is
     by_test true is = cc
     by_test false is = let it = same_flow (record { from = i; to = j }) f is in (ap (λ (g : Flow). Some g.from) it, ap (λ (g : Flow). Some g.to) it)
 
-own_end : (hosts : List Host) (packet : Packet) (f : Flow) (side : Side) → flow_of hosts packet ≡ Some f
-    → owner_of hosts (other_address (other_side side) packet) ≡ Some (host_on side f)
-own_end hosts packet f Sending is = (between_ends (owner_of hosts packet.src) (owner_of hosts packet.dst) f is).0
-own_end hosts packet f Receiving is = (between_ends (owner_of hosts packet.src) (owner_of hosts packet.dst) f is).1
+own_end : (hosts : List Host) (packet : Packet) (f : Flow) (side : Direction) → flow_of hosts packet ≡ Some f
+    → owner_of hosts (other_address (other_direction side) packet) ≡ Some (host_on side f)
+own_end hosts packet f Outbound is = (between_ends (owner_of hosts packet.src) (owner_of hosts packet.dst) f is).0
+own_end hosts packet f Inbound is = (between_ends (owner_of hosts packet.src) (owner_of hosts packet.dst) f is).1
 
 -- A packet that belongs to one of some flows has a flow.
 of_some : (site : Site) (packet : Packet) (flows : List Flow) (o : Option Flow)
@@ -61,13 +61,13 @@ of_some site packet flows None is = absurd (true≢false (sym is))
 of_some site packet flows (Some f) is = refl
 
 -- At its end of a flow the packet belongs to the specific host.
-own_decides : (hosts : List Host) (side : Side) (packet : Packet) (f : Flow) → flow_of hosts packet ≡ Some f → is_specific hosts (host_on side f) ≡ true
+own_decides : (hosts : List Host) (side : Direction) (packet : Packet) (f : Flow) → flow_of hosts packet ≡ Some f → is_specific hosts (host_on side f) ≡ true
     → (b : Bool) → (is_own side hosts (host_on side f) packet && b) ≡ b
 own_decides hosts side packet f is specific b =
-    ap (λ (own : Bool). own && b) (owned_covered hosts (other_address (other_side side) packet) (host_on side f) specific (own_end hosts packet f side is))
+    ap (λ (own : Bool). own && b) (owned_covered hosts (other_address (other_direction side) packet) (host_on side f) specific (own_end hosts packet f side is))
 
 module _ (chains : ℕ → List Chain) (site : Site) (p s : List Flow) (subset : IsSubset s p)
-    (guarded : (h : ℕ) → is_specific site.hosts h ≡ true → Guards (chains h) site p s h) where
+    (guarded : (h : ℕ) → is_specific site.hosts h ≡ true → EnforcesAtHost (chains h) site p s h) where
   -- A host that enforces the policy decides as the policy does at its end of a flow.
   guards_are_firewalls : (enforces : ℕ → Bool) → AreSpecific site.hosts enforces
       → AreFirewallsFor site.hosts enforces (λ h. PassesOn (chains h)) IsExternal (is_of site p) (is_of site s)
@@ -84,7 +84,7 @@ module _ (chains : ℕ → List Chain) (site : Site) (p s : List Flow) (subset :
   }
 
   partly_expected : (enforces : ℕ → Bool) → AreSpecific site.hosts enforces → (events : List Event) (answers : List (Option Bool)) → AreExternal events
-      → RunsWith enforces chains site.hosts events answers → AreExpected (or_unguarded site.hosts enforces (is_of site p)) (is_of site s) events answers
+      → RunsWith enforces chains site.hosts events answers → AreExpected (or_unenforced site.hosts enforces (is_of site p)) (is_of site s) events answers
   partly_expected enforces are_specific events answers known run =
       pass_as_expected site.hosts enforces (λ h. PassesOn (chains h)) IsExternal (is_of site p) (is_of site s) (guards_are_firewalls enforces are_specific) events known answers run
 
@@ -101,10 +101,10 @@ module _ (chains : ℕ → List Chain) (site : Site) (p s : List Flow) (subset :
   firewalls = guards_are_firewalls (is_specific site.hosts) all_are_specific
 
   -- Exactly the expected packets pass.
-  pub guards_expected : PassesExpected chains site p s
+  pub guards_expected : DeliversAsExpected chains site p s
   guards_expected = record {
     expected = all_expected;
-    partly = partly_expected;
+    partial_deployment = partly_expected;
     first = λ events answers behind known run.
         pass_keeps_first site.hosts (is_specific site.hosts) (λ h. PassesOn (chains h)) IsExternal (is_of site p) (is_of site s) firewalls events known answers behind run;
     some = λ events known. some_pass_run site.hosts (is_specific site.hosts) (λ h. PassesOn (chains h)) IsExternal (is_of site p) (is_of site s) firewalls empty_tables events known;
@@ -113,13 +113,13 @@ module _ (chains : ℕ → List Chain) (site : Site) (p s : List Flow) (subset :
   }
 
 -- With the layouts of all hosts exactly the expected packets pass.
-pub layouts_expected : (site : Site) (p s : List Flow) → IsHosts site.hosts → IsSubset s p → PassesExpected (local_layout site p s) site p s
+pub layouts_expected : (site : Site) (p s : List Flow) → IsHosts site.hosts → IsSubset s p → DeliversAsExpected (local_layout site p s) site p s
 layouts_expected site p s known subset = guards_expected (local_layout site p s) site p s subset (λ h specific. layout_guards site p s h known)
 
 -- A packet passes between the hosts if and only if the chains of a firewall for the whole network forward it.
 pub passes_as_forwarded : (site : Site) (p s : List Flow) → IsHosts site.hosts → IsSubset s p → (events : List Event) → AreExternal events
     → (passes forwards : List (Option Bool)) → LocalRuns (local_layout site p s) site.hosts events passes
-    → RunsFromNothing (Passes (layout site p s)) events forwards → passes ≡ forwards
+    → RunsFromNoConnections (Passes (layout site p s)) events forwards → passes ≡ forwards
 passes_as_forwarded site p s known subset events external passes forwards local whole =
     expected_once (is_of site p) (is_of site s) events passes forwards
     ((layouts_expected site p s known subset).expected events passes external local)

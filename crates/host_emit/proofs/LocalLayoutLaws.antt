@@ -17,11 +17,11 @@ use Rattle.ipt_rules.specs.declared.rule.Policy.TheVariants.{Drop as Dropping}
 use Rattle.ipt_rules.specs.inner.Build.{refusal_of}
 use Rattle.ipt_rules.specs.Chain.{Chain, built_in_chains, with_policy}
 use Rattle.ipt_rules.specs.ChainTable.{rule_count}
-use Rattle.ipt_rules.specs.Loops.{HasNoLoop}
+use Rattle.ipt_rules.specs.Loops.{IsAcyclic}
 use Rattle.ipt_rules.proofs.LoopLaws.{no_loop_upward}
 use Rattle.ipt_rules.specs.Name.{is_reserved, is_user_name}
-use Rattle.emit_core.specs.declared.side.Side.{Side}
-use Rattle.emit_core.specs.declared.side.Side.TheVariants.{Sending, Receiving}
+use Rattle.emit_core.specs.declared.direction.Direction.{Direction}
+use Rattle.emit_core.specs.declared.direction.Direction.TheVariants.{Outbound, Inbound}
 use Rattle.emit_core.proofs.FewRulesLaws.{few_host_rules}
 use Rattle.emit_core.specs.inner.Filling.{with_rules}
 use Rattle.emit_core.proofs.FillingLaws.{with_rules-changed}
@@ -70,11 +70,11 @@ pub machine_rule_count : (input output incoming outgoing : List Rule)
     → rule_count (machine_chains input output incoming outgoing) ≡ length input + length output + length incoming + length outgoing
 machine_rule_count input output incoming outgoing = omega arith
 
-few_entries : (side : Side) (qs : List Prefix) → length (flat_map (own_jump side) qs) ≡ length qs
+few_entries : (side : Direction) (qs : List Prefix) → length (flat_map (own_jump side) qs) ≡ length qs
 few_entries side [] = refl
 few_entries side (q ∷ qs) = omega (arith, few_entries side qs)
 
-length-entry_rules : (side : Side) (qs : List Prefix) → length (entry_rules side qs) ≡ length qs + 1
+length-entry_rules : (side : Direction) (qs : List Prefix) → length (entry_rules side qs) ≡ length qs + 1
 length-entry_rules side qs = omega (arith, few_entries side qs)
 
 -- A host has at most as many prefixes as all hosts together.
@@ -87,7 +87,7 @@ few_prefixes (x ∷ xs) (suc h) =
     subst (λ (n : ℕ). length (prefixes_of xs h) ≤ n) (sym (sum_by-cons (λ (y : Host). length y.prefixes) x xs)) (omega arith)
 
 -- INPUT and OUTPUT of a host have few rules.
-pub few_entry_rules : (side : Side) (hosts : List Host) (h : ℕ) → prefix_count hosts ≤ 1024 → length (entry_rules side (prefixes_of hosts h)) ≤ 1025
+pub few_entry_rules : (side : Direction) (hosts : List Host) (h : ℕ) → prefix_count hosts ≤ 1024 → length (entry_rules side (prefixes_of hosts h)) ≤ 1025
 few_entry_rules side hosts h few = omega (arith, length-entry_rules side (prefixes_of hosts h), few_prefixes hosts h)
 
 -- The prefixes that are read from a host are its prefixes.
@@ -104,33 +104,33 @@ few_local_rules site p s h is =
     let few = is.hosts.few_prefixes in
     omega (
       arith,
-      machine_rule_count (entry_rules Receiving (prefixes_of site.hosts h)) (entry_rules Sending (prefixes_of site.hosts h)) (host_rules Receiving site p s h) (host_rules Sending site p s h),
-      few_entry_rules Receiving site.hosts h few,
-      few_entry_rules Sending site.hosts h few,
-      few_host_rules Receiving site p s h is,
-      few_host_rules Sending site p s h is,
+      machine_rule_count (entry_rules Inbound (prefixes_of site.hosts h)) (entry_rules Outbound (prefixes_of site.hosts h)) (host_rules Inbound site p s h) (host_rules Outbound site p s h),
+      few_entry_rules Inbound site.hosts h few,
+      few_entry_rules Outbound site.hosts h few,
+      few_host_rules Inbound site p s h is,
+      few_host_rules Outbound site p s h is,
     )
 
 -- 3. They form a rule set.
 
 -- If a rule of INPUT or OUTPUT jumps, its target is one of the two user chains.
-jumps_enter : (side : Side) (qs : List Prefix) → list_all (λ r. jumps_between 3 5 r.target) (flat_map (own_jump side) qs) ≡ true
+jumps_enter : (side : Direction) (qs : List Prefix) → list_all (λ r. jumps_between 3 5 r.target) (flat_map (own_jump side) qs) ≡ true
 jumps_enter side [] = refl
-jumps_enter Sending (q ∷ qs) = jumps_enter Sending qs
-jumps_enter Receiving (q ∷ qs) = jumps_enter Receiving qs
+jumps_enter Outbound (q ∷ qs) = jumps_enter Outbound qs
+jumps_enter Inbound (q ∷ qs) = jumps_enter Inbound qs
 
-entries_enter : (side : Side) (qs : List Prefix) → list_all (λ r. jumps_between 3 5 r.target) (entry_rules side qs) ≡ true
+entries_enter : (side : Direction) (qs : List Prefix) → list_all (λ r. jumps_between 3 5 r.target) (entry_rules side qs) ≡ true
 entries_enter side qs = jumps_enter side qs
 
 -- Jumps lead from INPUT and OUTPUT to the user chains, and these have no jumps.
-pub local_no_loop : (site : Site) (p s : List Flow) (h : ℕ) → IsSite site → HasNoLoop (local_layout site p s h)
+pub local_no_loop : (site : Site) (p s : List Flow) (h : ℕ) → IsSite site → IsAcyclic (local_layout site p s h)
 local_no_loop site p s h is =
     let own = prefixes_of site.hosts h in
     no_loop_upward (local_layout site p s h)
-    (and_from _ _ (all_upward 3 5 0 (omega arith) (entry_rules Receiving own) (entries_enter Receiving own))
-    (and_from _ _ (all_upward 3 5 2 (omega arith) (entry_rules Sending own) (entries_enter Sending own))
-    (and_from _ _ (all_upward 4 0 3 (omega arith) (host_rules Receiving site p s h) (host_rules_stay 4 Receiving site p s h is.services))
-    (and_from _ _ (all_upward 5 0 4 (omega arith) (host_rules Sending site p s h) (host_rules_stay 5 Sending site p s h is.services)) refl))))
+    (and_from _ _ (all_upward 3 5 0 (omega arith) (entry_rules Inbound own) (entries_enter Inbound own))
+    (and_from _ _ (all_upward 3 5 2 (omega arith) (entry_rules Outbound own) (entries_enter Outbound own))
+    (and_from _ _ (all_upward 4 0 3 (omega arith) (host_rules Inbound site p s h) (host_rules_stay 4 Inbound site p s h is.services))
+    (and_from _ _ (all_upward 5 0 4 (omega arith) (host_rules Outbound site p s h) (host_rules_stay 5 Outbound site p s h is.services)) refl))))
 
 -- There is no cause to refuse them.
 pub local_accepted : (site : Site) (p s : List Flow) (h : ℕ) → IsSite site → refusal_of (local_layout site p s h) ≡ None
@@ -140,8 +140,8 @@ local_accepted site p s h is =
     let rules : nat_lt 1000000 (rule_count (local_layout site p s h)) ≡ false = grind (arith, nat_tests, few_local_rules site p s h is) in
     rw (
       rules,
-      none_nowhere 3 5 5 (omega arith) (omega arith) 0 (entry_rules Receiving own) (entries_enter Receiving own),
-      none_nowhere 3 5 5 (omega arith) (omega arith) 0 (entry_rules Sending own) (entries_enter Sending own),
-      none_nowhere 3 0 5 (omega arith) (omega arith) 0 (host_rules Receiving site p s h) (host_rules_stay 3 Receiving site p s h is.services),
-      none_nowhere 3 0 5 (omega arith) (omega arith) 0 (host_rules Sending site p s h) (host_rules_stay 3 Sending site p s h is.services),
+      none_nowhere 3 5 5 (omega arith) (omega arith) 0 (entry_rules Inbound own) (entries_enter Inbound own),
+      none_nowhere 3 5 5 (omega arith) (omega arith) 0 (entry_rules Outbound own) (entries_enter Outbound own),
+      none_nowhere 3 0 5 (omega arith) (omega arith) 0 (host_rules Inbound site p s h) (host_rules_stay 3 Inbound site p s h is.services),
+      none_nowhere 3 0 5 (omega arith) (omega arith) 0 (host_rules Outbound site p s h) (host_rules_stay 3 Outbound site p s h is.services),
     ) refl

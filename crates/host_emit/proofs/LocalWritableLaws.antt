@@ -20,8 +20,8 @@ use Rattle.ipt_rules.specs.inner.RuleParts.{is_rule, AreRules}
 use Rattle.ipt_rules.specs.Text.{text}
 use Rattle.ipt_rules.proofs.TextLaws.{text_short}
 use Rattle.ipt_rules.specs.inner.Writable.{IsWritable}
-use Rattle.emit_core.specs.declared.side.Side.{Side}
-use Rattle.emit_core.specs.declared.side.Side.TheVariants.{Sending, Receiving}
+use Rattle.emit_core.specs.declared.direction.Direction.{Direction}
+use Rattle.emit_core.specs.declared.direction.Direction.TheVariants.{Outbound, Inbound}
 use Rattle.emit_core.proofs.FewRulesLaws.{few_host_rules}
 use Rattle.emit_core.specs.Layout.{host_rules}
 use Rattle.emit_core.proofs.LayoutRulesLaws.{host_rules_are}
@@ -76,27 +76,27 @@ machine_passes test input output incoming outgoing first second third fourth =
     and_from _ _ first (and_from _ _ second (and_from _ _ third (and_from _ _ fourth refl)))
 
 -- The jumps match only on addresses.
-jumps_are : (side : Side) (qs : List Prefix) → list_all is_rule (flat_map (own_jump side) qs) ≡ true
+jumps_are : (side : Direction) (qs : List Prefix) → list_all is_rule (flat_map (own_jump side) qs) ≡ true
 jumps_are side [] = refl
 jumps_are side (q ∷ qs) = jumps_are side qs
 
-entries_are : (side : Side) (qs : List Prefix) → list_all is_rule (entry_rules side qs) ≡ true
+entries_are : (side : Direction) (qs : List Prefix) → list_all is_rule (entry_rules side qs) ≡ true
 entries_are side qs = jumps_are side qs
 
 -- Each chain has few rules, and their matches are valid.
-pub entries_few : (side : Side) (site : Site) (h : ℕ) → IsSite site → AreChainRules (entry_rules side (prefixes_of site.hosts h))
+pub entries_few : (side : Direction) (site : Site) (h : ℕ) → IsSite site → AreChainRules (entry_rules side (prefixes_of site.hosts h))
 entries_few side site h is =
     let few = few_entry_rules side site.hosts h is.hosts.few_prefixes in
     record { few = omega (arith, few); parts = entries_are side (prefixes_of site.hosts h) }
 
-pub users_few : (side : Side) (site : Site) (p s : List Flow) (h : ℕ) → IsSite site → AreChainRules (host_rules side site p s h)
+pub users_few : (side : Direction) (site : Site) (p s : List Flow) (h : ℕ) → IsSite site → AreChainRules (host_rules side site p s h)
 users_few side site p s h is = record { few = few_host_rules side site p s h is; parts = host_rules_are side site p s h is.services }
 
 pub local_rules_are : (site : Site) (p s : List Flow) (h : ℕ) → IsSite site → AreRules (local_layout site p s h)
 local_rules_are site p s h is =
     let own = prefixes_of site.hosts h in
-    machine_passes is_rule (entry_rules Receiving own) (entry_rules Sending own) (host_rules Receiving site p s h) (host_rules Sending site p s h)
-    (entries_are Receiving own) (entries_are Sending own) (host_rules_are Receiving site p s h is.services) (host_rules_are Sending site p s h is.services)
+    machine_passes is_rule (entry_rules Inbound own) (entry_rules Outbound own) (host_rules Inbound site p s h) (host_rules Outbound site p s h)
+    (entries_are Inbound own) (entries_are Outbound own) (host_rules_are Inbound site p s h is.services) (host_rules_are Outbound site p s h is.services)
 
 -- The addresses of a host have 32 bits, since they are among those of all hosts.
 own_fit : (hosts : List Host) (h : ℕ) → list_all prefix_fits (all_prefixes hosts) ≡ true → list_all prefix_fits (prefixes_of hosts h) ≡ true
@@ -104,37 +104,37 @@ own_fit [] h all = refl
 own_fit (x ∷ xs) zero all = (and_parts (list_all prefix_fits x.prefixes) (list_all prefix_fits (all_prefixes xs)) (sym (list_all-append prefix_fits x.prefixes (all_prefixes xs)) ∙ all)).0
 own_fit (x ∷ xs) (suc h) all = own_fit xs h (and_parts (list_all prefix_fits x.prefixes) (list_all prefix_fits (all_prefixes xs)) (sym (list_all-append prefix_fits x.prefixes (all_prefixes xs)) ∙ all)).1
 
-jumps_fit : (side : Side) (qs : List Prefix) → list_all prefix_fits qs ≡ true → list_all addresses_fit (flat_map (own_jump side) qs) ≡ true
+jumps_fit : (side : Direction) (qs : List Prefix) → list_all prefix_fits qs ≡ true → list_all addresses_fit (flat_map (own_jump side) qs) ≡ true
 jumps_fit side [] all = refl
-jumps_fit Sending (q ∷ qs) all =
+jumps_fit Outbound (q ∷ qs) all =
     let parts = and_parts (prefix_fits q) (list_all prefix_fits qs) all in
-    and_from _ _ (and_from _ _ parts.0 refl) (jumps_fit Sending qs parts.1)
-jumps_fit Receiving (q ∷ qs) all =
+    and_from _ _ (and_from _ _ parts.0 refl) (jumps_fit Outbound qs parts.1)
+jumps_fit Inbound (q ∷ qs) all =
     let parts = and_parts (prefix_fits q) (list_all prefix_fits qs) all in
-    and_from _ _ parts.0 (jumps_fit Receiving qs parts.1)
+    and_from _ _ parts.0 (jumps_fit Inbound qs parts.1)
 
-entries_fit : (side : Side) (qs : List Prefix) → list_all prefix_fits qs ≡ true → list_all addresses_fit (entry_rules side qs) ≡ true
+entries_fit : (side : Direction) (qs : List Prefix) → list_all prefix_fits qs ≡ true → list_all addresses_fit (entry_rules side qs) ≡ true
 entries_fit side qs all = jumps_fit side qs all
 
 local_addresses : (site : Site) (p s : List Flow) (h : ℕ) → IsSite site → AddressesFit (local_layout site p s h)
 local_addresses site p s h is =
     let own = prefixes_of site.hosts h in
     let all = own_fit site.hosts h (network_fits (all_prefixes site.hosts) is.hosts.networks) in
-    machine_passes addresses_fit (entry_rules Receiving own) (entry_rules Sending own) (host_rules Receiving site p s h) (host_rules Sending site p s h)
-    (entries_fit Receiving own all) (entries_fit Sending own all) (host_rules_addresses Receiving site p s h is) (host_rules_addresses Sending site p s h is)
+    machine_passes addresses_fit (entry_rules Inbound own) (entry_rules Outbound own) (host_rules Inbound site p s h) (host_rules Outbound site p s h)
+    (entries_fit Inbound own all) (entries_fit Outbound own all) (host_rules_addresses Inbound site p s h is) (host_rules_addresses Outbound site p s h is)
 
 -- 3. Its text is parsed back, and it is within the size limit of the parser.
 
 local_table : (site : Site) (p s : List Flow) (h : ℕ) → IsTable (local_layout site p s h)
 local_table site p s h =
     let own = prefixes_of site.hosts h in
-    machine_table (entry_rules Receiving own) (entry_rules Sending own) (host_rules Receiving site p s h) (host_rules Sending site p s h)
+    machine_table (entry_rules Inbound own) (entry_rules Outbound own) (host_rules Inbound site p s h) (host_rules Outbound site p s h)
 
 pub local_writable : (site : Site) (p s : List Flow) (h : ℕ) → IsSite site → IsWritable (local_layout site p s h)
 local_writable site p s h is = record {
   table = local_table site p s h;
   accepted = local_accepted site p s h is;
-  no_loop = local_no_loop site p s h is;
+  acyclic = local_no_loop site p s h is;
   addresses = local_addresses site p s h is;
   parts = local_rules_are site p s h is;
 }

@@ -10,15 +10,15 @@ use Rattle.host_net.specs.Prefix.{covers, prefix_with}
 use Rattle.host_net.specs.Site.{site_with}
 use Rattle.flow_set.specs.declared.flow.Flow.{Flow}
 use Rattle.ipt_rules.specs.Chain.{Chain}
-use Rattle.ipt_rules.specs.Meaning.{goes_on, ends, decides}
+use Rattle.ipt_rules.specs.Semantics.{goes_on, ends, decides}
 use Rattle.pkt_core.specs.declared.event.Event.{Event}
 use Rattle.pkt_core.specs.declared.event.Event.TheVariants.{Seen, Forget}
 use Rattle.pkt_core.specs.Tracking.{after_forget}
-use Rattle.emit_core.specs.declared.side.Side.TheVariants.{Sending, Receiving}
-use Rattle.host_emit.specs.Guarding.{PassesOn}
+use Rattle.emit_core.specs.declared.direction.Direction.TheVariants.{Outbound, Inbound}
+use Rattle.host_emit.specs.HostEnforcement.{PassesOn}
 use Rattle.host_emit.specs.LocalEvents.{LocalRuns}
 use Rattle.host_emit.specs.LocalLayout.{is_specific, local_layout}
-use Rattle.host_emit.specs.Passing.{Goes, stays, arrives, Tables, after_taken, empty_tables}
+use Rattle.host_emit.specs.Delivery.{Goes, stays, reaches_receiver, Tables, after_taken, empty_tables}
 
 -- Host 0 at 10.0.0.1, and host 1 at 10.0.0.2.
 abbrev hosts : List Host
@@ -44,23 +44,23 @@ answer = swap_of request
 
 -- ---- the chains, by the state of the connection
 
-sends_no_answer : PassesOn (chains 1) Sending New answer false
+sends_no_answer : PassesOn (chains 1) Outbound New answer false
 unfolding covers
 sends_no_answer = record { outcome = Some Dropped; gives = goes_on refl (decides refl (goes_on refl (ends refl))); verdict = refl }
 
-sends_request : PassesOn (chains 0) Sending New request true
+sends_request : PassesOn (chains 0) Outbound New request true
 unfolding covers
 sends_request = record { outcome = Some Forwarded; gives = goes_on refl (decides refl (ends refl)); verdict = refl }
 
-receives_request : PassesOn (chains 1) Receiving New request true
+receives_request : PassesOn (chains 1) Inbound New request true
 unfolding covers
 receives_request = record { outcome = Some Forwarded; gives = goes_on refl (decides refl (ends refl)); verdict = refl }
 
-sends_answer : PassesOn (chains 1) Sending Established answer true
+sends_answer : PassesOn (chains 1) Outbound Established answer true
 unfolding covers
 sends_answer = record { outcome = Some Forwarded; gives = goes_on refl (decides refl (ends refl)); verdict = refl }
 
-receives_answer : PassesOn (chains 0) Receiving Established answer true
+receives_answer : PassesOn (chains 0) Inbound Established answer true
 unfolding covers
 receives_answer = record { outcome = Some Forwarded; gives = goes_on refl (decides refl (ends refl)); verdict = refl }
 
@@ -93,14 +93,14 @@ no_answer_goes = stays refl (record { by_firewall = λ _. sends_no_answer; by_no
 request_goes : GoesTo dropped request true asked
 unfolding owner_of covers
 request_goes =
-    arrives refl
+    reaches_receiver refl
     (record { by_firewall = λ _. sends_request; by_none = λ _. refl })
     (record { by_firewall = λ _. receives_request; by_none = λ _. refl })
 
 answer_goes : GoesTo asked answer true answered
 unfolding owner_of covers
 answer_goes =
-    arrives refl
+    reaches_receiver refl
     (record { by_firewall = λ _. sends_answer; by_none = λ _. refl })
     (record { by_firewall = λ _. receives_answer; by_none = λ _. refl })
 

@@ -1,5 +1,5 @@
-pub mod Guarding
+pub mod HostEnforcement
 pub mod LocalEvents
 pub mod LocalLayout
-pub mod Passing
+pub mod Delivery
 pub mod inner

@@ -9,9 +9,9 @@ use Rattle.pkt_core.specs.declared.event.Event.{Event}
 use Rattle.pkt_core.specs.Events.{SeenAt}
 use Rattle.pkt_core.specs.Expected.{AreExpected}
 use Rattle.pkt_core.specs.FlowPolicy.{is_of}
-use Rattle.host_emit.specs.Guarding.{IsExternal, PassesOn}
+use Rattle.host_emit.specs.HostEnforcement.{IsExternal, PassesOn}
 use Rattle.host_emit.specs.LocalLayout.{is_specific}
-use Rattle.host_emit.specs.Passing.{AllKeepFirst, PassRuns, PassRunsTo, Tables, empty_tables, or_unguarded}
+use Rattle.host_emit.specs.Delivery.{AllKeepFirst, PassRuns, PassRunsTo, Tables, empty_tables, or_unenforced}
 
 -- Every packet that is seen in the events has valid fields and is not internal to a machine.
 abbrev pub AreExternal : List Event → Type 0
@@ -35,13 +35,13 @@ AreSpecific hosts enforces = (h : ℕ) → IsTrue (enforces h) → IsTrue (is_sp
 
 -- For every list of events with external packets a run exists and its results are unique: a packet passes if and only if the policy and its
 -- answers expect it.
-pub record PassesExpected (chains : ℕ → List Chain) (site : Site) (p s : List Flow) : Type 0 where
+pub record DeliversAsExpected (chains : ℕ → List Chain) (site : Site) (p s : List Flow) : Type 0 where
   pub expected : (events : List Event) (answers : List (Option Bool)) → AreExternal events → LocalRuns chains site.hosts events answers
       → AreExpected (is_of site p) (is_of site s) events answers
   -- If only some hosts enforce, the packets between two hosts that do not enforce pass as well, and nothing else changes: a packet with an
   -- enforcing end passes if and only if it is expected.
-  pub partly : (enforces : ℕ → Bool) → AreSpecific site.hosts enforces → (events : List Event) (answers : List (Option Bool)) → AreExternal events
-      → RunsWith enforces chains site.hosts events answers → AreExpected (or_unguarded site.hosts enforces (is_of site p)) (is_of site s) events answers
+  pub partial_deployment : (enforces : ℕ → Bool) → AreSpecific site.hosts enforces → (events : List Event) (answers : List (Option Bool)) → AreExternal events
+      → RunsWith enforces chains site.hosts events answers → AreExpected (or_unenforced site.hosts enforces (is_of site p)) (is_of site s) events answers
   -- Each specific host tracks exactly the first packets of the connections that it is an end of.
   pub first : (events : List Event) (answers : List (Option Bool)) (behind : Tables) → AreExternal events
       → LocalRunsTo chains site.hosts events answers behind → AllKeepFirst site.hosts (is_specific site.hosts) (is_of site p) events behind

@@ -13,10 +13,10 @@ use Rattle.ipt_rules.specs.declared.rule.Rule.{Rule}
 use Rattle.ipt_rules.specs.declared.rule.Target.TheVariants.{Accept, Jump}
 use Rattle.ipt_rules.specs.declared.rule.Policy.TheVariants.{Drop as Dropping}
 use Rattle.ipt_rules.specs.Chain.{Chain}
-use Rattle.emit_core.specs.declared.side.Side.{Side}
-use Rattle.emit_core.specs.declared.side.Side.TheVariants.{Sending, Receiving}
-use Rattle.emit_core.specs.Layout.{at_other, host_rules, in_prefix}
-use Rattle.emit_core.specs.Sides.{other_side}
+use Rattle.emit_core.specs.declared.direction.Direction.{Direction}
+use Rattle.emit_core.specs.declared.direction.Direction.TheVariants.{Outbound, Inbound}
+use Rattle.emit_core.specs.Layout.{match_peer, host_rules, match_prefix}
+use Rattle.emit_core.specs.Directions.{other_direction}
 
 -- Every host except the rest host is specific.
 abbrev pub is_specific : List Host → ℕ → Bool
@@ -33,8 +33,8 @@ loopback = prefix_with 2130706432 8
 -- The rule that accepts loopback packets.
 abbrev pub loopback_rule : Rule
 loopback_rule = record {
-  src = in_prefix (Some loopback);
-  dst = in_prefix (Some loopback);
+  src = match_prefix (Some loopback);
+  dst = match_prefix (Some loopback);
   proto = None;
   sport = None;
   dport = None;
@@ -43,21 +43,21 @@ loopback_rule = record {
 }
 
 -- A machine sends through OUTPUT, and receives through INPUT.
-abbrev pub entry_of : Side → ℕ
-entry_of Sending = 2
-entry_of Receiving = 0
+abbrev pub entry_of : Direction → ℕ
+entry_of Outbound = 2
+entry_of Inbound = 0
 
 -- OUT is the user chain for outbound packets, and IN the one for inbound packets.
-abbrev pub chain_for : Side → ℕ
-chain_for Sending = 4
-chain_for Receiving = 3
+abbrev pub chain_for : Direction → ℕ
+chain_for Outbound = 4
+chain_for Inbound = 3
 
 -- A jump to the user chain for an address of the host itself.
-abbrev pub own_jump : Side → Prefix → List Rule
-own_jump side q = at_other (other_side side) (Some q) None (Jump (chain_for side)) ∷ []
+abbrev pub own_jump : Direction → Prefix → List Rule
+own_jump side q = match_peer (other_direction side) (Some q) None (Jump (chain_for side)) ∷ []
 
 -- The rules of INPUT or OUTPUT: for loopback packets, and for packets with an address of the host itself.
-abbrev pub entry_rules : Side → List Prefix → List Rule
+abbrev pub entry_rules : Direction → List Prefix → List Rule
 entry_rules side prefixes = loopback_rule ∷ flat_map (own_jump side) prefixes
 
 -- The chains of a machine, given their rules: the policy of the built-in chains is DROP, and FORWARD is empty.
@@ -74,5 +74,5 @@ machine_chains input output incoming outgoing =
 -- reverse direction.
 abbrev pub local_layout : Site → List Flow → List Flow → ℕ → List Chain
 local_layout site p s h =
-    machine_chains (entry_rules Receiving (prefixes_of site.hosts h)) (entry_rules Sending (prefixes_of site.hosts h))
-    (host_rules Receiving site p s h) (host_rules Sending site p s h)
+    machine_chains (entry_rules Inbound (prefixes_of site.hosts h)) (entry_rules Outbound (prefixes_of site.hosts h))
+    (host_rules Inbound site p s h) (host_rules Outbound site p s h)

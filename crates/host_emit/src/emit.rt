@@ -4,8 +4,8 @@
 ghost use Rattle.std.specs.Prelude.{◌≡◌, ◌<◌, length, IfOk, OnOk, IsTrue};
 ghost use Rattle.host_net.specs.Site.{site_with};
 ghost use Rattle.flow_set.specs.FlowSet.{IsSubset};
-ghost use Rattle.host_emit.specs.Guarding.{Guards};
-ghost use Rattle.host_emit.specs.LocalEvents.{PassesExpected};
+ghost use Rattle.host_emit.specs.HostEnforcement.{EnforcesAtHost};
+ghost use Rattle.host_emit.specs.LocalEvents.{DeliversAsExpected};
 ghost use Rattle.host_emit.specs.LocalLayout.{is_specific, local_layout};
 
 use crate::local::local_rules;
@@ -35,11 +35,11 @@ pub fn emit_local(
 
     // In each direction a packet of the host passes if and only if the policy allows it. No other
     // packet passes, except loopback packets.
-    ensures guards { IfOk result (λ rules. Guards rules (site_with hosts.now services.now) p.now.flows s.now.flows host) }
+    ensures enforces_at_host { IfOk result (λ rules. EnforcesAtHost rules (site_with hosts.now services.now) p.now.flows s.now.flows host) }
 
     // If the machines of every specific host have its rules, a packet passes if and only if it is
     // expected to, for every list of events.
-    ensures passes { OnOk result (PassesExpected (local_layout (site_with hosts.now services.now) p.now.flows s.now.flows)
+    ensures passes { OnOk result (DeliversAsExpected (local_layout (site_with hosts.now services.now) p.now.flows s.now.flows)
         (site_with hosts.now services.now) p.now.flows s.now.flows) }
 {
     local_rules(alloc, &FlowPolicy::new(hosts, services, p, s), host)

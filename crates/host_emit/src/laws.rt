@@ -5,9 +5,9 @@ ghost use Rattle.host_net.specs.inner.Hosts.{IsHosts};
 ghost use Rattle.host_net.specs.Site.{Site};
 ghost use Rattle.flow_set.specs.declared.flow.Flow.{Flow};
 ghost use Rattle.flow_set.specs.FlowSet.{IsSubset};
-ghost use Rattle.ipt_rules.specs.Meaning.{Passes};
+ghost use Rattle.ipt_rules.specs.Semantics.{Passes};
 ghost use Rattle.pkt_core.specs.declared.event.Event.{Event};
-ghost use Rattle.pkt_core.specs.Filter.{RunsFromNothing};
+ghost use Rattle.pkt_core.specs.Filter.{RunsFromNoConnections};
 ghost use Rattle.emit_core.specs.Layout.{layout};
 ghost use Rattle.host_emit.specs.LocalEvents.{AreExternal, LocalRuns};
 ghost use Rattle.host_emit.specs.LocalLayout.{local_layout};
@@ -17,5 +17,5 @@ ghost use Rattle.host_emit.specs.LocalLayout.{local_layout};
 pub fn firewalls_pass_as_one()
     ensures { (site : Site) (p s : List Flow) → IsHosts site.hosts → IsSubset s p → (events : List Event) → AreExternal events →
         (passes forwards : List (Option Bool)) → LocalRuns (local_layout site p s) site.hosts events passes →
-        RunsFromNothing (Passes (layout site p s)) events forwards → passes ≡ forwards }
+        RunsFromNoConnections (Passes (layout site p s)) events forwards → passes ≡ forwards }
 {}

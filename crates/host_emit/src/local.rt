@@ -3,12 +3,12 @@
 ghost use Rattle.std.specs.Prelude.{◌≡◌, ◌<◌, ◌++◌, [], length, IfOk, OnOk, IsTrue};
 ghost use Rattle.std.specs.List.{flat_map};
 ghost use Rattle.pkt_core.specs.inner.FlowPolicy.{IsFlowPolicy};
-ghost use Rattle.host_emit.specs.Guarding.{Guards};
-ghost use Rattle.host_emit.specs.LocalEvents.{PassesExpected};
+ghost use Rattle.host_emit.specs.HostEnforcement.{EnforcesAtHost};
+ghost use Rattle.host_emit.specs.LocalEvents.{DeliversAsExpected};
 ghost use Rattle.host_emit.specs.inner.LocalFilling.{AreChainRules, dropping_chains};
 ghost use Rattle.host_emit.specs.LocalLayout.{chain_for, entry_rules, is_specific, local_layout, loopback, loopback_rule, machine_chains, own_jump};
 
-use emit_core::{Side, at_other, build_accepted, fill, host_rules, in_prefix};
+use emit_core::{Direction, build_accepted, fill, host_rules, match_peer, match_prefix};
 use host_net::{Hosts, Prefix};
 use ipt_rules::{ChainName, Chains, FORWARD, INPUT, OUTPUT, Policy, Rule, Ruleset, Target};
 use pkt_core::FlowPolicy;
@@ -26,11 +26,11 @@ pub fn local_rules(alloc: Global, policy: &FlowPolicy<'_>, host: u16) -> Result<
 
     // In each direction a packet of the host passes if and only if the policy allows it. No other
     // packet passes, except loopback packets.
-    ensures guards { IfOk result (λ rules. Guards rules policy.now.site policy.now.permitted policy.now.stateful host) }
+    ensures enforces_at_host { IfOk result (λ rules. EnforcesAtHost rules policy.now.site policy.now.permitted policy.now.stateful host) }
 
     // If the machines of every specific host have its rules, a packet passes if and only if the
     // policy and its answers expect it, for every list of events.
-    ensures passes { OnOk result (PassesExpected (local_layout policy.now.site policy.now.permitted policy.now.stateful)
+    ensures passes { OnOk result (DeliversAsExpected (local_layout policy.now.site policy.now.permitted policy.now.stateful)
         policy.now.site policy.now.permitted policy.now.stateful) }
 {
     let chains = local_chains(alloc, policy, host)?;
@@ -54,10 +54,10 @@ fn local_chains(alloc: Global, policy: &FlowPolicy<'_>, host: u16) -> Result<Cha
 {
     // The call establishes the invariants of policies.
     let _count = policy.count();
-    let input = entry_rules(alloc, Side::Receiving, policy.prefixes(host))?;
-    let output = entry_rules(alloc, Side::Sending, policy.prefixes(host))?;
-    let incoming = host_rules(alloc, policy, Side::Receiving, host)?;
-    let outgoing = host_rules(alloc, policy, Side::Sending, host)?;
+    let input = entry_rules(alloc, Direction::Inbound, policy.prefixes(host))?;
+    let output = entry_rules(alloc, Direction::Outbound, policy.prefixes(host))?;
+    let incoming = host_rules(alloc, policy, Direction::Inbound, host)?;
+    let outgoing = host_rules(alloc, policy, Direction::Outbound, host)?;
     filled(alloc, &input, &output, &incoming, &outgoing)
 }
 
@@ -76,8 +76,8 @@ fn filled(
     ensures { IfOk result (λ chains. chains ≡ machine_chains input.now output.now incoming.now outgoing.now) }
 {
     let mut chains = entered(alloc, input, output)?;
-    fill(&mut chains, chain_for(Side::Receiving), incoming)?;
-    fill(&mut chains, chain_for(Side::Sending), outgoing)?;
+    fill(&mut chains, chain_for(Direction::Inbound), incoming)?;
+    fill(&mut chains, chain_for(Direction::Outbound), outgoing)?;
     Ok(chains)
 }
 
@@ -114,17 +114,17 @@ fn dropping_chains(alloc: Global) -> Result<Chains, AllocError>
 }
 
 /// Returns the number of the user chain for outbound or inbound packets.
-fn chain_for(side: Side) -> u16
+fn chain_for(side: Direction) -> u16
     ensures { result ≡ chain_for side }
 {
     match side {
-        Side::Sending => 4,
-        Side::Receiving => 3,
+        Direction::Outbound => 4,
+        Direction::Inbound => 3,
     }
 }
 
 /// Returns the rules of INPUT or OUTPUT for a host with these prefixes.
-fn entry_rules(alloc: Global, side: Side, prefixes: &[Prefix]) -> Result<Vec<Rule>, AllocError>
+fn entry_rules(alloc: Global, side: Direction, prefixes: &[Prefix]) -> Result<Vec<Rule>, AllocError>
     ensures { IfOk result (λ rules. rules.items ≡ entry_rules side prefixes.now) }
 {
     let mut rules = Vec::new(alloc);
@@ -133,12 +133,12 @@ fn entry_rules(alloc: Global, side: Side, prefixes: &[Prefix]) -> Result<Vec<Rul
     Ok(rules)
 }
 
-fn push_jumps(rules: &mut Vec<Rule>, side: Side, prefixes: &[Prefix]) -> Result<(), AllocError>
+fn push_jumps(rules: &mut Vec<Rule>, side: Direction, prefixes: &[Prefix]) -> Result<(), AllocError>
     ensures { OnOk result (rules.new.items ≡ rules.old.items ++ flat_map (own_jump side) prefixes.now) }
 {
     for prefix in prefixes {
         let target = Target::Jump(chain_for(side));
-        rules.push(at_other(side.other(), Some(*prefix), target))?;
+        rules.push(match_peer(side.other(), Some(*prefix), target))?;
     }
     Ok(())
 }
@@ -147,7 +147,7 @@ fn push_jumps(rules: &mut Vec<Rule>, side: Side, prefixes: &[Prefix]) -> Result<
 fn loopback_rule() -> Rule
     ensures { result ≡ loopback_rule }
 {
-    let part = in_prefix(Some(loopback()));
+    let part = match_prefix(Some(loopback()));
     Rule {
         src: part,
         dst: part,

@@ -9,13 +9,13 @@ use Rattle.std.specs.List.{list_all, list_any, flat_map, position_from}
 use Rattle.std.specs.Option.{option_map}
 use Rattle.std.specs.Str.{bytes_eq}
 use Rattle.text_core.specs.Name.{is_name}
-use Rattle.text_core.specs.Firsts.{first_of, where_holds}
+use Rattle.text_core.specs.FirstMatch.{first_of, some_if}
 use Rattle.text_core.specs.inner.Pairs.{no_pair}
-use Rattle.host_net.specs.Host.{Host, host_named, lacks_address}
+use Rattle.host_net.specs.Host.{Host, host_named, has_no_address}
 use Rattle.host_net.specs.Hosts.{all_prefixes}
 use Rattle.host_net.specs.inner.Hosts.{prefix_count, prefix_lists, IsHosts, is_network}
 use Rattle.host_net.specs.Limits.{host_limit, prefix_limit}
-use Rattle.text_core.proofs.PairLaws.{all_here, alone_behind, no_pair-front}
+use Rattle.text_core.proofs.ConflictLaws.{all_here, alone_behind, no_pair-front}
 use Rattle.host_net.specs.Prefix.{meets}
 use Rattle.host_net.specs.inner.Refusal.{is_full, overlap, overlap_from, refusal_of, two_rests}
 use Rattle.host_net.specs.declared.prefix.Prefix.{Prefix}
@@ -99,8 +99,8 @@ unfolding refusal_of
 accepted before h after known =
     let no_room = room before h after known in
     let named : is_name h.name ≡ true = all_here (λ (g : Host). is_name g.name) before h after known.named in
-    let addressed : lacks_address h.prefixes h.rest ≡ false = not-true (lacks_address h.prefixes h.rest) (all_here (λ (g : Host). not (lacks_address g.prefixes g.rest)) before h after known.addressed) in
+    let addressed : has_no_address h.prefixes h.rest ≡ false = not-true (has_no_address h.prefixes h.rest) (all_here (λ (g : Host). not (has_no_address g.prefixes g.rest)) before h after known.addressed) in
     let fresh : host_named before h.name ≡ None = none_placed (λ (g : Host). bytes_eq h.name g.name) 0 before (alone_behind (λ (x y : Host). bytes_eq x.name y.name) before h after known.distinct) in
     let one_rest = rest_alone before h.rest (alone_behind (λ (x y : Host). x.rest && y.rest) before h after known.one_rest) in
     let disjoint = apart before h after known.apart in
-    λ i. first_of (where_holds (no_room i) TooMany ∷ where_holds (not (named i)) BadName ∷ option_map Duplicate (fresh i) ∷ where_holds (addressed i) NoAddress ∷ one_rest i ∷ disjoint i ∷ [])
+    λ i. first_of (some_if (no_room i) TooMany ∷ some_if (not (named i)) BadName ∷ option_map Duplicate (fresh i) ∷ some_if (addressed i) NoAddress ∷ one_rest i ∷ disjoint i ∷ [])

@@ -12,10 +12,10 @@ use Rattle.std.proofs.lemmas.List.Folds.{list_any-append}
 use Rattle.std.proofs.lemmas.List.Sorted.{Contains-permutation, IsNonDecreasingBy-insert, IsPermutation-insert, IsPermutation-refl, IsPermutation-sym, length_permutation}
 use Rattle.std.proofs.lemmas.Option.{same_Some, slice_get-get_or, slice_get_within, get_or_from_slice_get}
 use Rattle.text_core.proofs.GetLaws.{get_front, get_last, get_pushed}
-use Rattle.host_net.specs.declared.cover.Ends.{Ends}
-use Rattle.host_net.specs.declared.cover.Group.{Group}
-use Rattle.host_net.specs.declared.cover.Key.{Key}
-use Rattle.host_net.specs.declared.cover.Lengths.{Lengths}
+use Rattle.host_net.specs.declared.tuple_space.Ends.{Ends}
+use Rattle.host_net.specs.declared.tuple_space.Group.{Group}
+use Rattle.host_net.specs.declared.tuple_space.Key.{Key}
+use Rattle.host_net.specs.declared.tuple_space.Lengths.{Lengths}
 use Rattle.host_net.specs.declared.prefix.Prefix.{Prefix}
 use Rattle.host_net.specs.inner.Cover.{IsFirstFrom, covers_both, part_covers}
 use Rattle.host_net.specs.inner.CoverView.{AreFirst, AreInOrder, AreIndexOf, AreListed, Begins, IsFirstKey, IsFirstOf, IsSmall, SameBits, comes_before, earlier, has_lengths, key_at, key_of, keys_from, length_of, noted, own_address, rank}

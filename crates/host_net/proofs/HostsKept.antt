@@ -13,17 +13,17 @@ use Rattle.std.proofs.lemmas.List.Sums.{sum_by-append}
 use Rattle.indexmap.specs.IndexMap.{insert_entry}
 use Rattle.host_net.proofs.HostsLemmas.{all_parts}
 use Rattle.host_net.proofs.AcceptedLaws.{joined_lists}
-use Rattle.text_core.specs.Firsts.{first_of, where_holds}
+use Rattle.text_core.specs.FirstMatch.{first_of, some_if}
 use Rattle.text_core.specs.inner.Pairs.{no_pair}
 use Rattle.text_core.proofs.FirstsLaws.{holds_not, neither, none_mapped}
 use Rattle.host_net.specs.inner.HostsView.{host_view, hosts_view}
 use Rattle.host_net.specs.declared.addresses.Addresses.{Addresses}
-use Rattle.host_net.specs.Host.{Host, host_named, rest_of, lacks_address}
+use Rattle.host_net.specs.Host.{Host, host_named, rest_of, has_no_address}
 use Rattle.host_net.specs.Hosts.{all_prefixes}
 use Rattle.host_net.specs.inner.Hosts.{prefix_lists, prefix_count, IsHosts, is_network}
 use Rattle.host_net.specs.Limits.{host_limit, prefix_limit}
 use Rattle.text_core.specs.Name.{is_name}
-use Rattle.text_core.proofs.PairLaws.{list_all-push, no_pair-push}
+use Rattle.text_core.proofs.ConflictLaws.{list_all-push, no_pair-push}
 use Rattle.host_net.specs.Prefix.{meets}
 use Rattle.host_net.specs.inner.Refusal.{bad_name, duplicate, is_full, no_address, meeting, overlap_from, overlap, two_rests, refusal_of}
 use Rattle.host_net.specs.declared.prefix.Prefix.{Prefix}
@@ -35,24 +35,24 @@ pub record IsWelcome (hs : List Host) (name : List ℕ) (at : List Prefix) (rest
   pub room : is_full hs (length at) ≡ false
   pub named : is_name name ≡ true
   pub fresh : host_named hs name ≡ None
-  pub addressed : lacks_address at rest ≡ false
+  pub addressed : has_no_address at rest ≡ false
   pub one_rest : two_rests hs rest ≡ None
   pub apart : overlap hs at ≡ None
 
 pub welcome : (hs : List Host) (name : List ℕ) (at : List Prefix) (rest : Bool) → refusal_of hs name at rest ≡ None → IsWelcome hs name at rest
 unfolding refusal_of
 welcome hs name at rest none =
-    let one = neither (where_holds (is_full hs (length at)) TooMany) _ none in
-    let two = neither (where_holds (not (is_name name)) BadName) _ one.1 in
+    let one = neither (some_if (is_full hs (length at)) TooMany) _ none in
+    let two = neither (some_if (not (is_name name)) BadName) _ one.1 in
     let three = neither (option_map Duplicate (host_named hs name)) _ two.1 in
-    let four = neither (where_holds (lacks_address at rest) NoAddress) _ three.1 in
+    let four = neither (some_if (has_no_address at rest) NoAddress) _ three.1 in
     let five = neither (two_rests hs rest) _ four.1 in
     let six = neither (overlap hs at) _ five.1 in
     record {
       room = holds_not (is_full hs (length at)) TooMany one.0;
       named = not-false (is_name name) (holds_not (not (is_name name)) BadName two.0);
       fresh = none_mapped Duplicate (host_named hs name) three.0;
-      addressed = holds_not (lacks_address at rest) NoAddress four.0;
+      addressed = holds_not (has_no_address at rest) NoAddress four.0;
       one_rest = five.0;
       apart = six.0;
     }
@@ -135,7 +135,7 @@ kept hs name at rest known none networks =
       few_prefixes = omega (arith, sum_by-append (λ (h : Host). length h.prefixes) hs (new ∷ []), room.1);
       named = list_all-push (λ (h : Host). is_name h.name) hs new known.named ok.named;
       distinct = no_pair-push (λ (h g : Host). bytes_eq h.name g.name) hs new known.distinct (no_place (λ (h : Host). bytes_eq name h.name) 0 hs ok.fresh);
-      addressed = list_all-push (λ (h : Host). not (lacks_address h.prefixes h.rest)) hs new known.addressed (ap not ok.addressed);
+      addressed = list_all-push (λ (h : Host). not (has_no_address h.prefixes h.rest)) hs new known.addressed (ap not ok.addressed);
       one_rest = no_pair-push (λ (h g : Host). h.rest && g.rest) hs new known.one_rest (no_rest_pair hs rest ok.one_rest);
       networks = ap (list_all is_network) joined ∙ list_all-append is_network (all_prefixes hs) at ∙ and_from (list_all is_network (all_prefixes hs)) (list_all is_network at) known.networks networks;
       apart = ap (no_pair meets) joined ∙ still_apart hs at ok.apart known.apart;
@@ -175,7 +175,7 @@ pub causes_behind_room : (hs : List Host) (name : List ℕ) (at : List Prefix) (
 unfolding refusal_of
 causes_behind_room hs name at rest room =
     causes_joined (bad_name name) (duplicate hs name) (no_address at rest) (two_rests hs rest) (overlap hs at)
-    ∙ ap (λ b. option_or (where_holds b TooMany) (first_of (bad_name name ∷ duplicate hs name ∷ no_address at rest ∷ two_rests hs rest ∷ overlap hs at ∷ []))) (sym room)
+    ∙ ap (λ b. option_or (some_if b TooMany) (first_of (bad_name name ∷ duplicate hs name ∷ no_address at rest ∷ two_rests hs rest ∷ overlap hs at ∷ []))) (sym room)
 
 -- The values' prefixes are the hosts'.
 pub values_lists : (es : List (List ℕ × Addresses)) → map (λ h. h.prefixes.items) (values_of es) ≡ prefix_lists (hosts_view es)

@@ -5,11 +5,11 @@ use Rattle.std.proofs.lemmas.Bool.{cases_lt}
 use Rattle.std.specs.List.{position_from}
 use Rattle.std.specs.Option.{option_map, option_or}
 use Rattle.std.specs.Prelude.{if◌then◌else◌, not}
-use Rattle.text_core.specs.Firsts.{where_holds}
+use Rattle.text_core.specs.FirstMatch.{some_if}
 use Rattle.text_core.proofs.FirstsLaws.{some_same}
 use Rattle.text_core.proofs.GetLaws.{get_seam}
 use Rattle.text_core.specs.Name.{is_name}
-use Rattle.host_net.specs.Host.{Host, host_named, rest_of, lacks_address}
+use Rattle.host_net.specs.Host.{Host, host_named, rest_of, has_no_address}
 use Rattle.host_net.specs.inner.Hosts.{meets_any, prefix_lists}
 use Rattle.host_net.specs.inner.Overlaps.{HasPartner, IsFirstOverlap, earlier}
 use Rattle.host_net.specs.inner.Refusal.{is_full, meeting, overlap, overlap_from, refusal_of, two_rests}
@@ -137,11 +137,11 @@ past : (o rest : Option HostRefusal) (item other : ℕ) → (o ≡ Some (Overlap
 past None rest item other not_this is = is
 past (Some why) rest item other not_this is = absurd (not_this is)
 
-too_many_apart : (b : Bool) (item other : ℕ) → where_holds b TooMany ≡ Some (Overlap item other) → ⊥
+too_many_apart : (b : Bool) (item other : ℕ) → some_if b TooMany ≡ Some (Overlap item other) → ⊥
 too_many_apart true item other h = cc
 too_many_apart false item other h = cc
 
-bad_name_apart : (b : Bool) (item other : ℕ) → where_holds b BadName ≡ Some (Overlap item other) → ⊥
+bad_name_apart : (b : Bool) (item other : ℕ) → some_if b BadName ≡ Some (Overlap item other) → ⊥
 bad_name_apart true item other h = cc
 bad_name_apart false item other h = cc
 
@@ -149,7 +149,7 @@ duplicate_apart : (o : Option ℕ) (item other : ℕ) → option_map Duplicate o
 duplicate_apart None item other h = cc
 duplicate_apart (Some n) item other h = cc
 
-no_address_apart : (b : Bool) (item other : ℕ) → where_holds b NoAddress ≡ Some (Overlap item other) → ⊥
+no_address_apart : (b : Bool) (item other : ℕ) → some_if b NoAddress ≡ Some (Overlap item other) → ⊥
 no_address_apart true item other h = cc
 no_address_apart false item other h = cc
 
@@ -167,9 +167,9 @@ pub overlap_told : (hs : List Host) (name : List ℕ) (at : List Prefix) (rest :
     → refusal_of hs name at rest ≡ Some (Overlap item other) → IsFirstOverlap hs at item other
 unfolding refusal_of
 overlap_told hs name at rest item other is =
-    let second = past (where_holds (is_full hs (length at)) TooMany) _ item other (too_many_apart (is_full hs (length at)) item other) is in
-    let third = past (where_holds (not (is_name name)) BadName) _ item other (bad_name_apart (not (is_name name)) item other) second in
+    let second = past (some_if (is_full hs (length at)) TooMany) _ item other (too_many_apart (is_full hs (length at)) item other) is in
+    let third = past (some_if (not (is_name name)) BadName) _ item other (bad_name_apart (not (is_name name)) item other) second in
     let fourth = past (option_map Duplicate (host_named hs name)) _ item other (duplicate_apart (host_named hs name) item other) third in
-    let fifth = past (where_holds (lacks_address at rest) NoAddress) _ item other (no_address_apart (lacks_address at rest) item other) fourth in
+    let fifth = past (some_if (has_no_address at rest) NoAddress) _ item other (no_address_apart (has_no_address at rest) item other) fourth in
     let last = past (two_rests hs rest) _ item other (two_rests_apart rest (rest_of hs) item other) fifth in
     overlap_first hs at item other (sym (whole_first (overlap hs at)) ∙ last)

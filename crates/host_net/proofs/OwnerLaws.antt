@@ -9,7 +9,7 @@ use Rattle.host_net.specs.Host.{Host, covers_any, owner_of, rest_of}
 use Rattle.host_net.specs.Hosts.{all_prefixes}
 use Rattle.host_net.specs.inner.Hosts.{IsHosts}
 use Rattle.text_core.specs.inner.Pairs.{no_pair}
-use Rattle.text_core.proofs.PairLaws.{no_pair-behind}
+use Rattle.text_core.proofs.ConflictLaws.{no_pair-behind}
 use Rattle.host_net.specs.Prefix.{covers, meets}
 use Rattle.host_net.proofs.PrefixLaws.{covered_by_both}
 use Rattle.host_net.specs.declared.prefix.Prefix.{Prefix}

@@ -12,7 +12,7 @@ use Rattle.text_core.specs.inner.Decimal.{number}
 use Rattle.text_core.specs.Decimal.{numbers_in}
 use Rattle.text_core.proofs.DecimalLaws.{number-decimal, decimal_of_number, decimal_lacks}
 use Rattle.text_core.proofs.NumbersLaws.{numbers_in-decimal, numbers_in-append}
-use Rattle.text_core.specs.Firsts.{where_holds}
+use Rattle.text_core.specs.FirstMatch.{some_if}
 use Rattle.text_core.proofs.FirstsLaws.{some_same, where_parts}
 use Rattle.text_core.specs.inner.Pieces.{split_once}
 use Rattle.text_core.proofs.PiecesLaws.{lacks, lacks-append, split_once-append, split_once_joined}
@@ -175,7 +175,7 @@ octets_with a behind fits = omega (arith, octets_joined a fits)
 -- Every notation of a prefix is parsed.
 found : (text : List ℕ) (p : Prefix) → prefix_in (numbers_in text) ≡ p → spells text p ≡ true → prefix_of text ≡ Some p
 unfolding prefix_of
-found text p is holds = ap (λ q. where_holds (spells text q) q) is ∙ rw holds refl
+found text p is holds = ap (λ q. some_if (spells text q) q) is ∙ rw holds refl
 
 read_with_length : (p : Prefix) → p.addr < 2 ^ 32 → prefix_of (prefix_text p) ≡ Some p
 read_with_length p fits =

@@ -8,7 +8,7 @@ use Rattle.text_core.proofs.FirstsLaws.{some_same}
 use Rattle.text_core.proofs.NumbersLaws.{numbers_in-decimal, numbers_in-append}
 use Rattle.text_core.proofs.StepsLaws.{bytes_same, bytes_own, same_options}
 use Rattle.host_net.specs.declared.service.Service.{Service}
-use Rattle.host_net.specs.Service.{icmp, tcp, udp, last_port, has_ports, has_all_ports}
+use Rattle.host_net.specs.Service.{icmp, tcp, udp, max_port, has_ports, has_all_ports}
 use Rattle.host_net.specs.inner.Service.{is_service}
 use Rattle.host_net.specs.ServiceText.{protocol_text, ports_text, service_of, service_with, spells_service}
 use Rattle.host_net.specs.inner.ServiceSteps.{service_by_parts}
@@ -35,7 +35,7 @@ with_ports_spells : (text : List ℕ) (s : Service) → IsTrue (is_service s) �
 with_ports_spells text s valid counts written =
     let bounds = service_bounds s valid in
     let order : nat_le s.low s.high ≡ true = grind (arith, nat_tests) in
-    let fits : nat_le s.high last_port ≡ true = grind (arith, nat_tests) in
+    let fits : nat_le s.high max_port ≡ true = grind (arith, nat_tests) in
     let same : bytes_eq text (protocol_text s.proto ++ (47 ∷ ports_text s.low s.high)) ≡ true =
     ap (bytes_eq text) (sym written) ∙ bytes_own text in
     or_right (has_all_ports s && bytes_eq text (protocol_text s.proto)) _ (rw (counts, order, fits) same)
@@ -56,7 +56,7 @@ spelling_tested text s spelling = elim spelling.written [
 whole_is_service : (s : Service) → IsNamed s → has_all_ports s ≡ true → is_service s ≡ true
 whole_is_service s named all = grind (arith, nat_tests)
 
-some_is_service : (s : Service) → has_ports s.proto ≡ true → nat_le s.low s.high ≡ true → nat_le s.high last_port ≡ true → is_service s ≡ true
+some_is_service : (s : Service) → has_ports s.proto ≡ true → nat_le s.low s.high ≡ true → nat_le s.high max_port ≡ true → is_service s ≡ true
 some_is_service s counts order fits = rw (order, fits, counts) refl
 
 in_order : (low high : ℕ) → nat_le low high ≡ true → (low ≡ high) ⊎ (low < high)
@@ -70,7 +70,7 @@ test_told text s named holds = elim (or_cases (has_all_ports s && bytes_eq text 
   | inr behind ↦
       let (counts, behind) = and_parts (has_ports s.proto) _ behind in
       let (order, behind) = and_parts (nat_le s.low s.high) _ behind in
-      let (fits, same) = and_parts (nat_le s.high last_port) _ behind in
+      let (fits, same) = and_parts (nat_le s.high max_port) _ behind in
       let written = bytes_same text (protocol_text s.proto ++ (47 ∷ ports_text s.low s.high)) same in
       let valid = some_is_service s counts order fits in
       elim (in_order s.low s.high order) [

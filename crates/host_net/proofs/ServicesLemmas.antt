@@ -8,7 +8,7 @@ use Rattle.std.specs.declared.vec.Vec.{Vec}
 use Rattle.indexmap.specs.IndexMap.{insert_entry}
 use Rattle.text_core.proofs.StepsLaws.{split_bool}
 use Rattle.host_net.specs.declared.service.Service.{Service}
-use Rattle.host_net.specs.Services.{NarrowedFlow, services_of}
+use Rattle.host_net.specs.Services.{RestrictedFlow, services_of}
 use Rattle.host_net.specs.inner.Services.{with_service}
 use Rattle.host_net.specs.inner.ServicesView.{narrowed_view, services_view}
 
@@ -39,7 +39,7 @@ services_inserted (e ∷ es) from to v s grown =
     let behind : v.items ≡ services_of (services_view es) from to ++ s ∷ [] = grown ∙ rw other refl in
     rw other (ap (λ ns. narrowed_view e ∷ ns) (services_inserted es from to v s behind)))
 
-pub services_added : (ns : List NarrowedFlow) (es fs : List ((ℕ × ℕ) × Vec Service Global)) (from to : ℕ) (v : Vec Service Global) (s : Service)
+pub services_added : (ns : List RestrictedFlow) (es fs : List ((ℕ × ℕ) × Vec Service Global)) (from to : ℕ) (v : Vec Service Global) (s : Service)
     → services_view es ≡ ns → fs ≡ insert_entry same_ends es (from, to) v → v.items ≡ services_of ns from to ++ s ∷ []
     → services_view fs ≡ with_service ns from to s
 services_added ns es fs from to v s seen inserted grown =

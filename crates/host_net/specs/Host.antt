@@ -21,8 +21,8 @@ abbrev pub host_named : List Host → List ℕ → Option ℕ
 host_named hs name = position_from (λ h. bytes_eq name h.name) 0 hs
 
 -- The number of the first host that has a prefix which covers the address.
-abbrev pub holder_of : List Host → ℕ → Option ℕ
-holder_of hs a = position_from (λ h. covers_any h.prefixes a) 0 hs
+abbrev pub prefix_owner_of : List Host → ℕ → Option ℕ
+prefix_owner_of hs a = position_from (λ h. covers_any h.prefixes a) 0 hs
 
 -- The number of the first host that is marked as the rest host.
 abbrev pub rest_of : List Host → Option ℕ
@@ -30,10 +30,10 @@ rest_of hs = position_from (λ h. h.rest) 0 hs
 
 -- The owner of an address: the host with a prefix that covers it, otherwise the rest host, otherwise `None`.
 unfoldable pub owner_of : List Host → ℕ → Option ℕ
-owner_of hs a = option_or (holder_of hs a) (rest_of hs)
+owner_of hs a = option_or (prefix_owner_of hs a) (rest_of hs)
 
 -- A host lacks an address specification if it has neither a prefix entry (valid or not) nor the rest mark, or if it has
 -- both.
-abbrev pub lacks_address : {A : Type 0} → List A → Bool → Bool
-lacks_address [] rest = not rest
-lacks_address (entry ∷ entries) rest = rest
+abbrev pub has_no_address : {A : Type 0} → List A → Bool → Bool
+has_no_address [] rest = not rest
+has_no_address (entry ∷ entries) rest = rest

@@ -2,7 +2,7 @@
 use Rattle.std.specs.Prelude.{ℕ, ◌+◌, ◌*◌, ◌/◌, ◌%◌, ◌^◌, ◌-◌, min, Bool, ◌==◌, ◌&&◌, ◌||◌, List, ◌++◌, take, slice_index_or, fold, decimal, codes, bytes_eq, Option}
 use Rattle.std.proofs.Math.Nat.{min-le_right}
 use Rattle.text_core.specs.Decimal.{numbers_in}
-use Rattle.text_core.specs.Firsts.{where_holds}
+use Rattle.text_core.specs.FirstMatch.{some_if}
 use Rattle.host_net.specs.declared.prefix.Prefix.{Prefix}
 
 -- The first `len` bits of an address.
@@ -51,4 +51,4 @@ unfoldable pub prefix_of : List ℕ → Option Prefix
 prefix_of text =
     let ns = numbers_in text in
     let p = prefix_with (address_with (take 4 ns)) (slice_index_or ns 4 32) in
-    where_holds (spells text p) p
+    some_if (spells text p) p

@@ -15,8 +15,8 @@ abbrev pub udp : ℕ
 udp = 17
 
 -- The greatest port number.
-abbrev pub last_port : ℕ
-last_port = 65535
+abbrev pub max_port : ℕ
+max_port = 65535
 
 -- A service matches a packet of its protocol whose destination port is in its range.
 abbrev pub serves : Service → Packet → Bool
@@ -32,7 +32,7 @@ has_name proto = (proto == icmp) || has_ports proto
 
 -- The service matches every packet of its protocol.
 abbrev pub has_all_ports : Service → Bool
-has_all_ports s = (s.low == 0) && (s.high == last_port)
+has_all_ports s = (s.low == 0) && (s.high == max_port)
 
 -- The services of a flow match the packet: one of them matches, or the list is empty and the flow is unrestricted.
 abbrev pub is_served : List Service → Packet → Bool
@@ -46,6 +46,6 @@ is_whole (s ∷ ss) = false
 
 -- The restrictions of a flow with these services, one for each service. An unrestricted flow has the single restriction
 -- `None`.
-abbrev pub narrowings : List Service → List (Option Service)
-narrowings [] = None ∷ []
-narrowings (s ∷ ss) = map (λ t. Some t) (s ∷ ss)
+abbrev pub service_matches : List Service → List (Option Service)
+service_matches [] = None ∷ []
+service_matches (s ∷ ss) = map (λ t. Some t) (s ∷ ss)

@@ -2,7 +2,7 @@
 use Rattle.std.specs.Prelude.{ℕ, Bool, ◌&&◌, ◌||◌, ◌==◌, nat_le, if◌then◌else◌, List, [], ◌∷◌, ◌++◌, map, find, slice_index_or, decimal, codes, bytes_eq, Option}
 use Rattle.text_core.specs.Decimal.{numbers_in}
 use Rattle.host_net.specs.declared.service.Service.{Service}
-use Rattle.host_net.specs.Service.{icmp, tcp, udp, last_port, has_ports, has_all_ports}
+use Rattle.host_net.specs.Service.{icmp, tcp, udp, max_port, has_ports, has_all_ports}
 
 -- A protocol by its name, or by its number.
 abbrev pub protocol_text : ℕ → List ℕ
@@ -17,13 +17,13 @@ ports_text low high = if low == high then decimal low else decimal low ++ (codes
 abbrev pub spells_service : List ℕ → Service → Bool
 spells_service text s =
     (has_all_ports s && bytes_eq text (protocol_text s.proto))
-    || (has_ports s.proto && (nat_le s.low s.high && (nat_le s.high last_port
+    || (has_ports s.proto && (nat_le s.low s.high && (nat_le s.high max_port
     && bytes_eq text (protocol_text s.proto ++ (codes "/" ++ ports_text s.low s.high)))))
 
 -- A protocol with the ports that the numbers specify: all ports, one port, or the range from the first number to the
 -- second.
 abbrev pub service_with : List ℕ → ℕ → Service
-service_with ns proto = record { proto = proto; low = slice_index_or ns 0 0; high = slice_index_or ns 1 (slice_index_or ns 0 last_port) }
+service_with ns proto = record { proto = proto; low = slice_index_or ns 0 0; high = slice_index_or ns 1 (slice_index_or ns 0 max_port) }
 
 -- The service that a string denotes. The only candidates are the services of the three named protocols with the numbers
 -- in the string.

@@ -14,7 +14,7 @@ use crate::addresses::{Addresses, prefix_count, rest_host};
 use crate::name::Name;
 use crate::overlap::overlap;
 use crate::prefix::Prefix;
-use crate::ranges::{Held, Range, boundary_between, holder, holder_until, with_host};
+use crate::ranges::{Held, Range, boundary_between, holder_until, prefix_owner, with_host};
 use crate::refusal::{HOST_LIMIT, HostRefusal, PREFIX_LIMIT};
 use indexmap::IndexMap;
 use std::alloc::{AllocError, Global};
@@ -194,9 +194,9 @@ impl Hosts {
         ensures sole { (host : ℕ) (h : Host) → slice_get self.now host ≡ Some h → IsTrue (covers_any h.prefixes addr) → result ≡ Some host }
 
         // If no prefix covers the address, the rest host owns it, or no host.
-        ensures uncovered { IsFalse (covers_any (all_prefixes self.now) addr) → result ≡ rest_of self.now }
+        ensures unowned { IsFalse (covers_any (all_prefixes self.now) addr) → result ≡ rest_of self.now }
     {
-        holder(&self.ranges, addr).or(self.rest())
+        prefix_owner(&self.ranges, addr).or(self.rest())
     }
 
     /// Returns the owner of an address, if it has one, and the last address, at most `last`, up to

@@ -4,7 +4,6 @@
 #![tactic(auto)]
 
 mod addresses;
-mod cover;
 mod hosts;
 mod name;
 mod overlap;
@@ -14,8 +13,8 @@ mod ranges;
 mod refusal;
 mod service;
 mod services;
+mod tuple_space;
 
-pub use cover::{Covers, Ends};
 pub use hosts::Hosts;
 pub use name::Name;
 pub use packet::{CtState, Packet, Verdict};
@@ -24,3 +23,4 @@ pub use ranges::Held;
 pub use refusal::{HOST_LIMIT, HostRefusal, INVARIANT_LIMIT, PREFIX_LIMIT};
 pub use service::{LAST_PORT, Service, read_port, read_protocol, read_service};
 pub use services::{SERVICE_LIMIT, Services};
+pub use tuple_space::{Ends, TupleSpaceIndex};

@@ -84,7 +84,7 @@ pub fn boundary_between(ranges: &[Range], first: u32, last: u32) -> Option<u32>
 }
 
 /// Returns the host of the range that contains the address.
-pub fn holder(ranges: &[Range], addr: u32) -> Option<u16>
+pub fn prefix_owner(ranges: &[Range], addr: u32) -> Option<u16>
     requires { IsTrue (is_ordered ranges.now) }
     ensures { result ≡ holder_among ranges.now addr }
 {

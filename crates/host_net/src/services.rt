@@ -21,11 +21,11 @@ pub struct Services {
 
 impl Model for Services {
     ghost use Rattle.std.specs.Prelude.{List};
-    ghost use Rattle.host_net.specs.Services.{NarrowedFlow};
+    ghost use Rattle.host_net.specs.Services.{RestrictedFlow};
     ghost use Rattle.host_net.specs.inner.Services.{AreServices};
     ghost use Rattle.host_net.specs.inner.ServicesView.{services_view};
 
-    ghost Value = { List NarrowedFlow };
+    ghost Value = { List RestrictedFlow };
 
     ghost view = { λ s. services_view s.narrowed.entries };
 

@@ -50,7 +50,7 @@ one_offends : (Holds : List Flow → Type 0) (f : Flow) → Holds [] → (Holds 
 one_offends Holds f none fails = record {
   within = record { ordered = (λ g none. absurd (false≢true none), tt); within = λ g there. there };
   fails = fails;
-  mended = subst Holds (sym (none_left f)) none;
+  holds_without = subst Holds (sym (none_left f)) none;
   minimal = λ g there back.
       elim (or_cases (same_flow f g) false there) [
         | inl same ↦ fails (subst (λ (h : Flow). Holds (h ∷ [])) (sym (same_flow-true f g same)) (subst (λ (e : List Flow). Holds (with_flow e g)) (none_left f) back))
@@ -148,7 +148,7 @@ sender_lets_off t access d Passes judges x y z may_y may_z denies takes n host t
           (subst (λ (w : t.Attribute). Passes host (get_or hosts host d) w) (at_other n host o y z d is_host)
           (passes_alone (λ i j. Passes i (slice_index_or hosts i d) (slice_index_or hosts j d)) f ((judges hosts (f ∷ [])).1 holds)))));
       blamed = record { flow = f; offends = has_first f []; blamed = ap (λ s. blamed_host s f) access };
-      mended = (judges (set hosts host x) (f ∷ [])).0
+      holds_without = (judges (set hosts host x) (f ∷ [])).0
           (AllFlowsPass-one (λ i j. Passes i (slice_index_or (set hosts host x) i d) (slice_index_or (set hosts host x) j d)) f
           (subst (λ (v : t.Attribute). Passes host v (get_or (set hosts host x) o.other d)) (sym (given_at_host n host o y z d is_host x))
           (subst (λ (w : t.Attribute). Passes host x w) (sym (other_stays n host o y z d is_host x)) (takes host))));
@@ -176,7 +176,7 @@ receiver_lets_off t information d Passes judges x y z may_y may_z denies takes n
           (subst (λ (w : t.Attribute). Passes o.other (get_or hosts o.other d) w) (at_host n host o y z d is_host)
           (passes_alone (λ i j. Passes i (slice_index_or hosts i d) (slice_index_or hosts j d)) f ((judges hosts (f ∷ [])).1 holds)))));
       blamed = record { flow = f; offends = has_first f []; blamed = ap (λ s. blamed_host s f) information };
-      mended = (judges (set hosts host x) (f ∷ [])).0
+      holds_without = (judges (set hosts host x) (f ∷ [])).0
           (AllFlowsPass-one (λ i j. Passes i (slice_index_or (set hosts host x) i d) (slice_index_or (set hosts host x) j d)) f
           (subst (λ (v : t.Attribute). Passes o.other v (get_or (set hosts host x) host d)) (sym (other_stays n host o y z d is_host x))
           (subst (λ (w : t.Attribute). Passes o.other y w) (sym (given_at_host n host o y z d is_host x)) (takes o.other))));
@@ -316,7 +316,7 @@ dependability_only n host x two is_host may other =
           let none : slice_index hosts host ≡ 0 = get_or-replicate n host 0 0 is_host in
           omega arith);
       blamed = record { flow = f; offends = has_first f []; blamed = refl };
-      mended = (IsDependable-one (set hosts host x) f (omega (arith, after), omega (arith, after), apart)).0
+      holds_without = (IsDependable-one (set hosts host x) f (omega (arith, after), omega (arith, after), apart)).0
           (let now : slice_index (set hosts host x) host ≡ x = get_or-set_same hosts host x 0 (omega (arith, sized)) in
           omega (arith, now));
     }
@@ -340,7 +340,7 @@ interference_only n host Unrelated two is_host may other =
           (IsNonInterfering-one hosts f (omega (arith, sized), omega (arith, sized), o.apart)).1 holds
           (get_or-replicate n o.other Interfering Unrelated o.within) (get_or-replicate n host Interfering Unrelated is_host));
       blamed = record { flow = f; offends = has_first f []; blamed = refl };
-      mended = (IsNonInterfering-one (set hosts host Unrelated) f (omega (arith, after), omega (arith, after), o.apart)).0
+      holds_without = (IsNonInterfering-one (set hosts host Unrelated) f (omega (arith, after), omega (arith, after), o.apart)).0
           (λ first second. unrelated (sym (get_or-set_same hosts host Unrelated Unrelated (omega (arith, sized))) ∙ second));
     }
   where
@@ -404,6 +404,6 @@ no_reach_only n host x two is_host may other =
               (ap (λ s. fin.contains s j) (get_or-set_same none host (others n host) fin.empty at_none)
               ∙ contains-others n host j ∙ and_from _ _ (lt-ltb j n within) (not_from_false _ (ne_eqb j host apart))));
           blamed = record { flow = f; offends = has_first f []; blamed = refl };
-          mended = (ReachesNoDenied-one (set hosts host x) f (omega (arith, after), omega (arith, after), away)).0
+          holds_without = (ReachesNoDenied-one (set hosts host x) f (omega (arith, after), omega (arith, after), away)).0
               (λ denies. false≢true (sym passes ∙ (sym (ap (λ s. fin.contains s j) (get_or-set_same hosts host x fin.empty (omega (arith, sized)))) ∙ denies)));
         }

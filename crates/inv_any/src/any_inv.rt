@@ -117,7 +117,7 @@ impl Invariant for AnyInv {
 
     ghost holds_on_none = { λ any. (lawful any).holds_on_none };
 
-    ghost reset_mends_nothing = { λ any. (lawful any).reset_mends_nothing };
+    ghost reset_preserves_violation = { λ any. (lawful any).reset_preserves_violation };
 
     ghost mark_is_right = { λ any. (lawful any).mark_is_right };
 }

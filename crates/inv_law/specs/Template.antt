@@ -32,8 +32,8 @@ abbrev pub reset_at : (t : Template) → List t.Attribute → ℕ → List t.Att
 reset_at t hosts host = slice_set hosts host (t.default (length hosts) host)
 
 -- Every host may have every attribute.
-abbrev pub Anything : {A : Type 0} → A → Type 0
-Anything x = Unit {0}
+abbrev pub AnyAttribute : {A : Type 0} → A → Type 0
+AnyAttribute x = Unit {0}
 
 -- The meaning of the invariant with these attributes.
 abbrev pub meaning : (t : Template) → List t.Attribute → Meaning

@@ -6,20 +6,20 @@ use crate::edge_rule::EdgeRule;
 use crate::edge_wise::EdgeWise;
 use crate::invariant::Invariant;
 use crate::stepwise::{Stepwise, Trial};
-use flow_set::{Flow, FlowSet, FlowSteps};
+use flow_set::{Flow, FlowSet, UndoableFlowSet};
 use std::alloc::{AllocError, Global};
 use std::marker::Model;
 
 /// An undoable set of flows for an edge-wise invariant.
 #[derive(Drop)]
 pub struct EdgeTrial {
-    steps: FlowSteps,
+    steps: UndoableFlowSet,
 }
 
 impl Model for EdgeTrial {
-    ghost use Rattle.flow_set.specs.inner.Steps.{TriedFlows};
+    ghost use Rattle.flow_set.specs.inner.Steps.{UndoableFlows};
 
-    ghost Value = { TriedFlows };
+    ghost Value = { UndoableFlows };
 
     ghost view = { λ t. t.steps };
 }
@@ -39,7 +39,7 @@ impl<R: EdgeRule> Stepwise for EdgeWise<R> {
 
     fn trial(&self, alloc: Global, e: &FlowSet) -> Result<EdgeTrial, AllocError> {
         Ok(EdgeTrial {
-            steps: FlowSteps::new(alloc, e)?,
+            steps: UndoableFlowSet::new(alloc, e)?,
         })
     }
 

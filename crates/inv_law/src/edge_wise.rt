@@ -81,7 +81,7 @@ impl<R: EdgeRule> Invariant for EdgeWise<R> {
 
     ghost holds_on_none = { λ x. AllFlowsPass-none (R.passes_from x) };
 
-    ghost reset_mends_nothing = { λ x. AllFlowsPass-reset (R.size_of x) (R.strategy_of x) (R.passes_from x) (R.passes_after_reset x) (R.reset_passes_no_more x) };
+    ghost reset_preserves_violation = { λ x. AllFlowsPass-reset (R.size_of x) (R.strategy_of x) (R.passes_from x) (R.passes_after_reset x) (R.reset_passes_no_more x) };
 
     ghost mark_is_right = { λ x _. AllFlowsPass-edge_wise (R.size_of x) (R.passes_from x) };
 }

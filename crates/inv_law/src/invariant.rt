@@ -3,11 +3,11 @@
 //! workspace.
 
 ghost use Rattle.std.specs.Prelude.{◌≡◌, ℕ, ◌<◌, ◌↔◌, ⊤, Bool, List, [], ◌∷◌, IsTrue, IfOk};
-ghost use Rattle.flow_set.specs.inner.Downward.{IsDownward, IsEdgeWise};
+ghost use Rattle.flow_set.specs.inner.Downward.{IsDownwardClosed, IsEdgeWise};
 ghost use Rattle.flow_set.specs.Flow.{IsFlow};
 ghost use Rattle.flow_set.specs.inner.FlowSetView.{IsFlowSet};
 ghost use Rattle.flow_set.specs.declared.flow.Flow.{Flow};
-ghost use Rattle.inv_law.specs.inner.Invariants.{ResetMendsNothing};
+ghost use Rattle.inv_law.specs.inner.Invariants.{ResetPreservesViolation};
 ghost use Rattle.inv_law.specs.declared.strategy.Strategy.{Strategy};
 
 use crate::strategy::Strategy;
@@ -67,14 +67,14 @@ pub trait Invariant: Sized {
         ensures given { IfOk result (λ new. reset_gives self.now host new) };
 
     // The predicate is downward closed.
-    ghost downward: { (x : Self) → IsDownward (size_of x) (holds_on x) };
+    ghost downward: { (x : Self) → IsDownwardClosed (size_of x) (holds_on x) };
 
     // The predicate holds for the empty set.
     ghost holds_on_none: { (x : Self) → holds_on x [] };
 
     // The reset of an offending host cannot hide a violation.
-    ghost reset_mends_nothing: { (x : Self)
-        → ResetMendsNothing (size_of x) (strategy_of x) (holds_on x) (holds_after_reset x) };
+    ghost reset_preserves_violation: { (x : Self)
+        → ResetPreservesViolation (size_of x) (strategy_of x) (holds_on x) (holds_after_reset x) };
 
     // If the mark is set, the predicate holds for a set if and only if it holds for each of its
     // flows individually.

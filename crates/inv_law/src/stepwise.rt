@@ -5,7 +5,7 @@ ghost use Rattle.std.specs.Prelude.{◌≡◌, ◌↔◌, IsTrue, IfOk, IsSome, 
 ghost use Rattle.flow_set.specs.Flow.{IsFlow};
 ghost use Rattle.flow_set.specs.FlowSet.{with_flow};
 ghost use Rattle.flow_set.specs.inner.FlowSetView.{IsFlowSet};
-ghost use Rattle.flow_set.specs.inner.Steps.{TriedFlows, untried, stepped, taken_back};
+ghost use Rattle.flow_set.specs.inner.Steps.{UndoableFlows, untried, stepped, undone};
 
 use crate::invariant::Invariant;
 use flow_set::{Flow, FlowSet};
@@ -14,7 +14,7 @@ use std::alloc::{AllocError, Global};
 /// An undoable set of flows. It stores one step.
 pub trait Trial: Drop {
     // The number of hosts, the flows, and the flows before the last step unless it was undone.
-    ghost tried: { Self → TriedFlows };
+    ghost tried: { Self → UndoableFlows };
 
     /// Returns the number of hosts.
     fn size(&self) -> u16
@@ -50,7 +50,7 @@ pub trait Stepwise: Invariant {
         requires fits { fits self.now tried.old }
         requires step { IsSome (Self.Tried.tried tried.old).before_step }
         ensures fits { fits self.now tried.new }
-        ensures back { Self.Tried.tried tried.new ≡ taken_back (Self.Tried.tried tried.old) };
+        ensures back { Self.Tried.tried tried.new ≡ undone (Self.Tried.tried tried.old) };
 
     /// Whether the invariant, which holds for the flows of the trial, holds for them with one more
     /// flow. The flows of the trial are unchanged, and it has no step to undo.

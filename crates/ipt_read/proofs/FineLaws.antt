@@ -4,7 +4,7 @@ use Rattle.std.proofs.Common.{◌≡◌, ℕ, ◌∙◌, sym, refl, subst, List,
 use Rattle.std.specs.Prelude.{Ok}
 use Rattle.ipt_rules.specs.Chain.{with_policy, with_rule, user_chain}
 use Rattle.ipt_rules.proofs.ChainLaws.{length_with_policy, length_with_rule, rule_count_with_rule, rule_count_with_policy, length_added, rule_count_added}
-use Rattle.ipt_read.specs.Said.{SaidSoFar, nothing_said}
+use Rattle.ipt_read.specs.ParserStates.{ParserState, initial_state}
 use Rattle.ipt_read.specs.inner.LineStep.{line_step}
 use Rattle.ipt_read.specs.Grammar.{IsLine, table, built_in, user, rule, commit}
 use Rattle.ipt_read.proofs.LineLaws.{line_of_read}
@@ -14,10 +14,10 @@ use Rattle.ipt_rules.specs.inner.Build.{refusal_of}
 use Rattle.ipt_read.specs.inner.State.{IsFine}
 use Rattle.ipt_read.proofs.WithinLaws.{number_of_within}
 
-pub fine_at_first : IsFine nothing_said
+pub fine_at_first : IsFine initial_state
 fine_at_first = record { few_chains = omega arith; few_rules = omega arith; counted = refl; numbered = refl; goes = (tt, (tt, (tt, tt))) }
 
-fine_behind : (n : ℕ) (s t : SaidSoFar) (ws : List (List ℕ)) → IsLine n s ws t → IsFine s → IsFine t
+fine_behind : (n : ℕ) (s t : ParserState) (ws : List (List ℕ)) → IsLine n s ws t → IsFine s → IsFine t
 fine_behind n s t ws (table stage) fine = record { few_chains = fine.few_chains; few_rules = fine.few_rules; counted = fine.counted; numbered = fine.numbered; goes = fine.goes }
 fine_behind n s t ws (commit stage) fine = record { few_chains = fine.few_chains; few_rules = fine.few_rules; counted = fine.counted; numbered = fine.numbered; goes = fine.goes }
 fine_behind n s t ws (built_in {c = c} p stage line number low free) fine =
@@ -45,9 +45,9 @@ fine_behind n s t ws (rule {c = c} {r = r} stage line few) fine =
       goes = subst (λ (m : ℕ). EachGoes m (with_rule s.chains c r)) (sym (length_with_rule s.chains c r)) (each_with_rule (length s.chains) s.chains c r (line_goes s.chains ws c r line) fine.goes);
     }
 
-pub fine_kept : (n : ℕ) (s t : SaidSoFar) (l : List ℕ) → IsFine s → line_step n s l ≡ Ok t → IsFine t
+pub fine_kept : (n : ℕ) (s t : ParserState) (l : List ℕ) → IsFine s → line_step n s l ≡ Ok t → IsFine t
 fine_kept n s t l fine read = fine_behind n s t (words l) (line_of_read n s t l read) fine
 
 -- Chains that were parsed are rejected only for a cycle or an allocation failure.
-pub fine_not_refused : (s : SaidSoFar) → IsFine s → refusal_of s.chains ≡ None
+pub fine_not_refused : (s : ParserState) → IsFine s → refusal_of s.chains ≡ None
 fine_not_refused s fine = not_refused s.chains fine.few_chains (omega (arith, fine.few_rules, fine.counted)) fine.goes

@@ -8,11 +8,11 @@ use Rattle.ipt_rules.specs.declared.rule.AddrMatch.{AddrMatch}
 use Rattle.ipt_rules.specs.declared.rule.Rule.{Rule}
 use Rattle.ipt_rules.specs.declared.rule.Target.{Target}
 use Rattle.ipt_rules.specs.declared.rule.Target.TheVariants.{Accept, Drop, Reject, Return, Count, Jump}
-use Rattle.ipt_rules.specs.inner.Build.{jumps_nowhere, place_of_unknown, first_unknown, refusal_of}
+use Rattle.ipt_rules.specs.inner.Build.{has_unknown_target, place_of_unknown, first_unknown, refusal_of}
 use Rattle.ipt_rules.specs.Chain.{Chain}
 use Rattle.ipt_rules.specs.ChainTable.{rule_count}
 use Rattle.ipt_rules.specs.inner.ChainTable.{IsTable}
-use Rattle.ipt_rules.specs.Loops.{HasNoLoop}
+use Rattle.ipt_rules.specs.Loops.{IsAcyclic}
 use Rattle.ipt_rules.specs.inner.Addresses.{address_fits, addresses_fit}
 use Rattle.ipt_rules.specs.inner.RuleParts.{is_rule, AreRules}
 use Rattle.ipt_rules.specs.inner.Writable.{IsWritable}
@@ -37,13 +37,13 @@ pub record HasFineRules (all : List Chain) : Type 0 where
   pub few_chains : length all ≤ 4096
   pub few_rules : rule_count all ≤ 1000000
   pub fine : ChainsAreFine (length all) all
-  pub no_loop : HasNoLoop all
+  pub acyclic : IsAcyclic all
 
 fits_by : (o : Option AddrMatch) → address_fits o ≡ true → AddressFits o
 fits_by None h = tt
 fits_by (Some part) h = grind (arith, nat_tests)
 
-goes_by : (count : ℕ) (t : Target) → jumps_nowhere count t ≡ false → Goes count t
+goes_by : (count : ℕ) (t : Target) → has_unknown_target count t ≡ false → Goes count t
 goes_by count Accept h = tt
 goes_by count Drop h = tt
 goes_by count Reject h = tt
@@ -57,11 +57,11 @@ goes_by count (Jump c) h = (high, there)
     there : c < count
     there = grind (arith, nat_tests)
 
-rules_fine : (count i : ℕ) (rs : List Rule) → position_from (λ r. jumps_nowhere count r.target) i rs ≡ None → list_all addresses_fit rs ≡ true → list_all is_rule rs ≡ true → RulesAreFine count rs
+rules_fine : (count i : ℕ) (rs : List Rule) → position_from (λ r. has_unknown_target count r.target) i rs ≡ None → list_all addresses_fit rs ≡ true → list_all is_rule rs ≡ true → RulesAreFine count rs
 rules_fine count i [] known fit parts = tt
 rules_fine count i (r ∷ rs) known fit parts =
     let are = and_parts (is_rule r) (list_all is_rule rs) parts in
-    let here = known_first (jumps_nowhere count r.target) i (position_from (λ s. jumps_nowhere count s.target) (i + 1) rs) known in
+    let here = known_first (has_unknown_target count r.target) i (position_from (λ s. has_unknown_target count s.target) (i + 1) rs) known in
     let fits = and_parts (addresses_fit r) (list_all addresses_fit rs) fit in
     let both = and_parts (address_fits r.src) (address_fits r.dst) fits.0 in
     (fits_by r.src both.0, fits_by r.dst both.1, goes_by count r.target here.0, are.0, rules_fine count (i + 1) rs here.1 fits.1 are.1)
@@ -92,5 +92,5 @@ has_fine_rules all writable =
       few_chains = parts.few_chains;
       few_rules = parts.few_rules;
       fine = chains_fine (length all) 0 all parts.known writable.addresses writable.parts;
-      no_loop = writable.no_loop;
+      acyclic = writable.acyclic;
     }

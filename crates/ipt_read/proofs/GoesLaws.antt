@@ -8,11 +8,11 @@ use Rattle.ipt_rules.specs.declared.rule.Policy.{Policy}
 use Rattle.ipt_rules.specs.declared.rule.Rule.{Rule}
 use Rattle.ipt_rules.specs.declared.rule.Target.{Target}
 use Rattle.ipt_rules.specs.declared.rule.Target.TheVariants.{Accept, Drop, Reject, Return, Count, Jump}
-use Rattle.ipt_rules.specs.inner.Build.{jumps_nowhere, first_unknown, refusal_of}
+use Rattle.ipt_rules.specs.inner.Build.{has_unknown_target, first_unknown, refusal_of}
 use Rattle.ipt_rules.specs.Chain.{Chain, user_chain, changed_at, with_policy, with_rule}
 use Rattle.ipt_rules.specs.ChainTable.{rule_count}
-use Rattle.ipt_read.specs.Options.{Given, nothing_given, named_target}
-use Rattle.ipt_read.specs.Grammar.{IsValue, source, destination, protocol, source_port, destination_port, states, conntrack_module, state_module, comment_module, own_module, target, jump, a_text, a_word, IsPiece, plain, turned, ArePieces, none_left, one_more, IsRuleLine}
+use Rattle.ipt_read.specs.Options.{PartialRule, empty_rule, named_target}
+use Rattle.ipt_read.specs.Grammar.{IsValue, source, destination, protocol, source_port, destination_port, states, conntrack_module, state_module, comment_module, own_module, target, jump, a_text, a_word, IsPiece, plain, turned, AreOptionWords, none_left, one_more, IsRuleLine}
 use Rattle.ipt_read.specs.inner.Goes.{Goes, AllGo, EachGoes}
 use Rattle.ipt_read.proofs.WithinLaws.{number_of_within}
 
@@ -79,7 +79,7 @@ named_goes n word t h = elim (if_parts (bytes_eq word (codes "ACCEPT")) (Some Ac
   ]
 ]
 
-value_goes : (chains : List Chain) (given now : Given) (negated : Bool) (name : List ℕ) (ws : List (List ℕ)) → IsValue chains given negated name ws now → TargetGoes (length chains) given.target → TargetGoes (length chains) now.target
+value_goes : (chains : List Chain) (given now : PartialRule) (negated : Bool) (name : List ℕ) (ws : List (List ℕ)) → IsValue chains given negated name ws now → TargetGoes (length chains) given.target → TargetGoes (length chains) now.target
 value_goes chains given now negated name ws (source p fits spelled) goes = goes
 value_goes chains given now negated name ws (destination p fits spelled) goes = goes
 value_goes chains given now negated name ws (protocol proto is) goes = goes
@@ -95,11 +95,11 @@ value_goes chains given now negated name ws (jump {w = w} c none number up) goes
 value_goes chains given now negated name ws (a_text its is) goes = goes
 value_goes chains given now negated name ws (a_word its) goes = goes
 
-piece_goes : (chains : List Chain) (given now : Given) (ws : List (List ℕ)) → IsPiece chains given ws now → TargetGoes (length chains) given.target → TargetGoes (length chains) now.target
+piece_goes : (chains : List Chain) (given now : PartialRule) (ws : List (List ℕ)) → IsPiece chains given ws now → TargetGoes (length chains) given.target → TargetGoes (length chains) now.target
 piece_goes chains given now ws (plain {name = name} {value = value} stands is) goes = value_goes chains given now false name value is goes
 piece_goes chains given now ws (turned {name = name} {value = value} free stands is) goes = value_goes chains given now true name value is goes
 
-pieces_go : (chains : List Chain) (given last : Given) (ws : List (List ℕ)) → ArePieces chains given ws last → TargetGoes (length chains) given.target → TargetGoes (length chains) last.target
+pieces_go : (chains : List Chain) (given last : PartialRule) (ws : List (List ℕ)) → AreOptionWords chains given ws last → TargetGoes (length chains) given.target → TargetGoes (length chains) last.target
 pieces_go chains given last ws none_left goes = goes
 pieces_go chains given last ws (one_more {now = now} {ws = front} {vs = rest} piece others) goes =
     pieces_go chains now last rest others (piece_goes chains given now front piece goes)
@@ -110,11 +110,11 @@ by_target n (Some t) goes = goes
 
 pub line_goes : (chains : List Chain) (ws : List (List ℕ)) (c : ℕ) (r : Rule) → IsRuleLine chains ws c r → Goes (length chains) r.target
 line_goes chains ws c r line =
-    subst (λ (q : Rule). Goes (length chains) q.target) (sym line.same) (by_target (length chains) line.given.target (pieces_go chains nothing_given line.given line.pieces line.fit tt))
+    subst (λ (q : Rule). Goes (length chains) q.target) (sym line.same) (by_target (length chains) line.given.target (pieces_go chains empty_rule line.given line.pieces line.fit tt))
 
 -- 3. So no jump has an unknown target.
 
-goes_somewhere : (n : ℕ) (t : Target) → Goes n t → jumps_nowhere n t ≡ false
+goes_somewhere : (n : ℕ) (t : Target) → Goes n t → has_unknown_target n t ≡ false
 goes_somewhere n (Jump c) goes = let low : 3 ≤ c = goes.0 in let high : c < n = goes.1 in grind (arith, nat_tests)
 goes_somewhere n Accept goes = refl
 goes_somewhere n Drop goes = refl
@@ -122,7 +122,7 @@ goes_somewhere n Reject goes = refl
 goes_somewhere n Return goes = refl
 goes_somewhere n Count goes = refl
 
-no_place : (n i : ℕ) (rs : List Rule) → AllGo n rs → position_from (λ r. jumps_nowhere n r.target) i rs ≡ None
+no_place : (n i : ℕ) (rs : List Rule) → AllGo n rs → position_from (λ r. has_unknown_target n r.target) i rs ≡ None
 no_place n i [] go = refl
 no_place n i (r ∷ rs) go = rw (goes_somewhere n r.target go.0) (no_place n (i + 1) rs go.1)
 

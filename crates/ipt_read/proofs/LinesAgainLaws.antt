@@ -15,9 +15,9 @@ use Rattle.ipt_rules.specs.Chain.{Chain, name_of, number_of, user_chain, with_ru
 use Rattle.ipt_rules.specs.ChainTable.{rule_count}
 use Rattle.ipt_rules.specs.Name.{is_user_name}
 use Rattle.ipt_rules.specs.Text.{newline, policy_text, chain_line, rule_line, rule_lines, commit_line}
-use Rattle.ipt_read.specs.Values.{IsCount}
+use Rattle.ipt_read.specs.Values.{IsCounter}
 use Rattle.ipt_read.proofs.LineLaws.{IsTextLine}
-use Rattle.ipt_read.specs.Said.{Table, After, SaidSoFar}
+use Rattle.ipt_read.specs.ParserStates.{Table, After, ParserState}
 use Rattle.ipt_read.specs.Grammar.{IsLine, user, rule, commit}
 use Rattle.ipt_read.specs.inner.WrittenWords.{rule_words}
 use Rattle.ipt_read.proofs.FineRulesLaws.{AddressFits}
@@ -27,12 +27,12 @@ use Rattle.ipt_read.proofs.WrittenTextLaws.{rule_line_spaced}
 
 -- 1. Lines from a position within the table up to COMMIT.
 
-abbrev pub within : List Chain → List ℕ → ℕ → SaidSoFar
+abbrev pub within : List Chain → List ℕ → ℕ → ParserState
 within chains declared rules = record { stage = Table; chains = chains; declared = declared; rules = rules }
 
 -- From these chains and this number of rules the lines lead to the end of a text with the chains `all`.
 abbrev pub Reaches : List (List ℕ) → List Chain → ℕ → List Chain → Type 0
-Reaches ls chains rules all = (n : ℕ) (declared : List ℕ) → (u : SaidSoFar) × Follows IsTextLine n (within chains declared rules) ls u × (u.stage ≡ After) × (u.chains ≡ all)
+Reaches ls chains rules all = (n : ℕ) (declared : List ℕ) → (u : ParserState) × Follows IsTextLine n (within chains declared rules) ls u × (u.stage ≡ After) × (u.chains ≡ all)
 
 -- A line that is no comment.
 pub record IsWritten (l : List ℕ) (ws : List (List ℕ)) : Type 0 where
@@ -71,7 +71,7 @@ says_commit chains rules = λ n d.
 abbrev pub user_words : List ℕ → List (List ℕ)
 user_words name = (58 ∷ name) ∷ codes "-" ∷ codes "[0:0]" ∷ []
 
-pub zero_count : IsCount (codes "[0:0]")
+pub zero_count : IsCounter (codes "[0:0]")
 zero_count = record { packets = codes "0"; bytes = codes "0"; are_figures = (refl, refl); written = refl }
 
 -- Each user chain has a new and legal name, and the limit is not reached.

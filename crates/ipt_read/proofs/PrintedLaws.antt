@@ -13,7 +13,7 @@ use Rattle.text_core.proofs.PiecesLaws.{lacks}
 use Rattle.text_core.proofs.SpacedLaws.{spaced, is_word, words_spaced, lacks_spaced, prints, prints_no_blank, prints_lacks}
 use Rattle.host_net.specs.declared.prefix.Prefix.{Prefix}
 use Rattle.host_net.specs.Prefix.{prefix_text, address_text, octet}
-use Rattle.host_net.specs.Service.{icmp, tcp, udp, last_port}
+use Rattle.host_net.specs.Service.{icmp, tcp, udp, max_port}
 use Rattle.host_net.specs.ServiceText.{protocol_text}
 use Rattle.ipt_rules.specs.declared.rule.AddrMatch.{AddrMatch}
 use Rattle.ipt_rules.specs.declared.rule.PortMatch.{PortMatch}
@@ -188,7 +188,7 @@ ports_small named part are = (omega (arith, order, small), omega (arith, small))
     order : part.low ≤ part.high
     order = grind (arith, nat_tests)
 
-    small : part.high ≤ last_port
+    small : part.high ≤ max_port
     small = grind (arith, nat_tests)
 
 protocol_words_printed : (o : Option ProtoMatch) → is_protocol o ≡ true → list_all is_printed (protocol_words o) ≡ true

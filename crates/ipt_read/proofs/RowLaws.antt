@@ -9,10 +9,10 @@ use Rattle.text_core.proofs.StepsLaws.{if_parts, map_parts, bytes_same}
 use Rattle.ipt_rules.specs.Chain.{Chain}
 use Rattle.ipt_read.specs.declared.option.RuleOption.{RuleOption}
 use Rattle.ipt_read.specs.declared.option.RuleOption.TheVariants.{Source, Destination, Protocol, SourcePort, DestinationPort, Interface, Module, CtState, State, Comment, Jump, RejectWith, LogPrefix, LogLevel}
-use Rattle.ipt_read.specs.Options.{Given, Row, row_of}
+use Rattle.ipt_read.specs.Options.{PartialRule, Row, row_of}
 use Rattle.ipt_read.specs.Grammar.{Stands, IsValue, IsPiece, plain, turned}
 use Rattle.ipt_read.specs.LineFault.{IsInterface}
-use Rattle.ipt_read.specs.inner.OptionSteps.{named_options, option_of, written, row, may_stand, bars, is_interface}
+use Rattle.ipt_read.specs.inner.OptionSteps.{named_options, option_of, written, row, is_allowed_here, bars, is_interface}
 
 -- 1. The names of options.
 
@@ -112,50 +112,50 @@ interface_is name (inr second) = ap option_of second
 
 -- 3. Where they are allowed, and their values.
 
-pub record StandsBy (given : Given) (negated : Bool) (o : RuleOption) : Type 0 where
-  pub here : may_stand given o ≡ true
+pub record StandsBy (given : PartialRule) (negated : Bool) (o : RuleOption) : Type 0 where
+  pub here : is_allowed_here given o ≡ true
   pub address : is_interface o ≡ false
   pub free : bars given negated o ≡ false
 
-pub stands_by : (given : Given) (negated : Bool) (name : List ℕ) (o : RuleOption) → option_of name ≡ Some o → StandsBy given negated o → Stands given negated name (row o)
+pub stands_by : (given : PartialRule) (negated : Bool) (name : List ℕ) (o : RuleOption) → option_of name ≡ Some o → StandsBy given negated o → Stands given negated name (row o)
 stands_by given negated name o named stands = record { named = row_by name o named stands.address; here = stands.here; free = stands.free }
 
-pub by_stands : (given : Given) (negated : Bool) (name : List ℕ) (r : Row) → Stands given negated name r
+pub by_stands : (given : PartialRule) (negated : Bool) (name : List ℕ) (r : Row) → Stands given negated name r
     → (o : RuleOption) × (option_of name ≡ Some o) × StandsBy given negated o × (r ≡ row o)
 by_stands given negated name r stands =
     let at = row_found name r stands.named in
     let its = subst (λ (q : Row). Stands given negated name q) at.3 stands in
     (at.0, at.1, record { here = its.here; address = at.2; free = its.free }, at.3)
 
-abbrev pub IsValueOf : List Chain → Given → RuleOption → Bool → List (List ℕ) → Given → Type 0
+abbrev pub IsValueOf : List Chain → PartialRule → RuleOption → Bool → List (List ℕ) → PartialRule → Type 0
 IsValueOf chains given o negated value now = IsValue chains given negated (written o) value now
 
-pub value_named : {chains : List Chain} {given now : Given} {negated : Bool} {name : List ℕ} {o : RuleOption} {value : List (List ℕ)} → option_of name ≡ Some o → is_interface o ≡ false
+pub value_named : {chains : List Chain} {given now : PartialRule} {negated : Bool} {name : List ℕ} {o : RuleOption} {value : List (List ℕ)} → option_of name ≡ Some o → is_interface o ≡ false
     → IsValueOf chains given o negated value now → IsValue chains given negated name value now
 value_named {chains = chains} {given = given} {now = now} {negated = negated} {name = name} {o = o} {value = value} named address is =
     subst (λ (v : List ℕ). IsValue chains given negated v value now) (sym (name_by name o named address)) is
 
-pub named_value : {chains : List Chain} {given now : Given} {negated : Bool} {name : List ℕ} {o : RuleOption} {value : List (List ℕ)} → option_of name ≡ Some o → is_interface o ≡ false
+pub named_value : {chains : List Chain} {given now : PartialRule} {negated : Bool} {name : List ℕ} {o : RuleOption} {value : List (List ℕ)} → option_of name ≡ Some o → is_interface o ≡ false
     → IsValue chains given negated name value now → IsValueOf chains given o negated value now
 named_value {chains = chains} {given = given} {now = now} {negated = negated} {name = name} {o = o} {value = value} named address is =
     subst (λ (v : List ℕ). IsValue chains given negated v value now) (name_by name o named address) is
 
-pub plain_by : {chains : List Chain} {given now : Given} {name : List ℕ} {o : RuleOption} {value : List (List ℕ)} → option_of name ≡ Some o → StandsBy given false o
+pub plain_by : {chains : List Chain} {given now : PartialRule} {name : List ℕ} {o : RuleOption} {value : List (List ℕ)} → option_of name ≡ Some o → StandsBy given false o
     → IsValueOf chains given o false value now → IsPiece chains given (name ∷ value) now
 plain_by {given = given} {name = name} {o = o} named stands is = plain (stands_by given false name o named stands) (value_named named stands.address is)
 
-pub turned_by : {chains : List Chain} {given now : Given} {name : List ℕ} {o : RuleOption} {value : List (List ℕ)} → given.target ≡ None → option_of name ≡ Some o → StandsBy given true o
+pub turned_by : {chains : List Chain} {given now : PartialRule} {name : List ℕ} {o : RuleOption} {value : List (List ℕ)} → given.target ≡ None → option_of name ≡ Some o → StandsBy given true o
     → IsValueOf chains given o true value now → IsPiece chains given (codes "!" ∷ name ∷ value) now
 turned_by {given = given} {name = name} {o = o} free named stands is = turned free (stands_by given true name o named stands) (value_named named stands.address is)
 
 -- An option with its value, by the option that the parser takes it for.
-pub data IsPieceBy (chains : List Chain) (given : Given) : List (List ℕ) → Given → Type 0 where
-  bare_piece : {name : List ℕ} {o : RuleOption} {value : List (List ℕ)} {now : Given} → option_of name ≡ Some o → StandsBy given false o
+pub data IsPieceBy (chains : List Chain) (given : PartialRule) : List (List ℕ) → PartialRule → Type 0 where
+  bare_piece : {name : List ℕ} {o : RuleOption} {value : List (List ℕ)} {now : PartialRule} → option_of name ≡ Some o → StandsBy given false o
       → IsValueOf chains given o false value now → IsPieceBy chains given (name ∷ value) now
-  bang_piece : {name : List ℕ} {o : RuleOption} {value : List (List ℕ)} {now : Given} → given.target ≡ None → option_of name ≡ Some o → StandsBy given true o
+  bang_piece : {name : List ℕ} {o : RuleOption} {value : List (List ℕ)} {now : PartialRule} → given.target ≡ None → option_of name ≡ Some o → StandsBy given true o
       → IsValueOf chains given o true value now → IsPieceBy chains given (codes "!" ∷ name ∷ value) now
 
-pub piece_by : (chains : List Chain) (given now : Given) (ws : List (List ℕ)) → IsPiece chains given ws now → IsPieceBy chains given ws now
+pub piece_by : (chains : List Chain) (given now : PartialRule) (ws : List (List ℕ)) → IsPiece chains given ws now → IsPieceBy chains given ws now
 piece_by chains given now ws (plain {name = name} {row = r} stands is) =
     let at = by_stands given false name r stands in
     bare_piece at.1 at.2 (named_value at.1 at.2.address is)

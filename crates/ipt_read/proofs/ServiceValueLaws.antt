@@ -11,7 +11,7 @@ use Rattle.text_core.proofs.FirstsLaws.{some_same}
 use Rattle.text_core.specs.inner.Pieces.{split_once}
 use Rattle.text_core.proofs.PiecesLaws.{split_once-append, split_once_none, split_once_joined}
 use Rattle.text_core.proofs.StepsLaws.{bind_some, if_parts, bytes_same, bytes_apart}
-use Rattle.host_net.specs.Service.{icmp, tcp, udp, last_port}
+use Rattle.host_net.specs.Service.{icmp, tcp, udp, max_port}
 use Rattle.host_net.specs.ServiceText.{protocol_text}
 use Rattle.host_net.specs.inner.ServiceSteps.{protocol_of}
 use Rattle.ipt_read.specs.inner.Counts.{is_nothing}
@@ -139,17 +139,17 @@ protocol_read word proto is = elim is.written [
 -- 2. Ports.
 
 abbrev TellsPort : ℕ → List ℕ → ℕ → Type 0
-TellsPort other word port = ((word ≡ []) × (port ≡ other)) ⊎ ((word ≡ decimal port) × (port ≤ last_port))
+TellsPort other word port = ((word ≡ []) × (port ≡ other)) ⊎ ((word ≡ decimal port) × (port ≤ max_port))
 
 port_told : (other : ℕ) (word : List ℕ) (port : ℕ) → port_or other word ≡ Some port → TellsPort other word port
 port_told other [] port h = inl (refl, sym (some_same other port h))
-port_told other (b ∷ bs) port h = inr (decimal_of_number last_port (b ∷ bs) port (omega arith) h)
+port_told other (b ∷ bs) port h = inr (decimal_of_number max_port (b ∷ bs) port (omega arith) h)
 
 nothing_before : (first last : List ℕ) → (is_nothing first && is_nothing last) ≡ false → first ≡ [] → last ≡ [] → ⊥
 nothing_before first last some none other = let e : (is_nothing first && is_nothing last) ≡ true = rw (none, other) refl in cc
 
 between_said : (word first last : List ℕ) (low high : ℕ) → word ≡ first ++ (58 ∷ last) → (is_nothing first && is_nothing last) ≡ false
-    → TellsPort 0 first low → TellsPort last_port last high → low ≤ high → ArePortsWord word low high
+    → TellsPort 0 first low → TellsPort max_port last high → low ≤ high → ArePortsWord word low high
 between_said word first last low high cut some (inl a) (inl b) order = absurd (nothing_before first last some a.0 b.0)
 between_said word first last low high cut some (inl a) (inr b) order = record {
   order = order;
@@ -176,19 +176,19 @@ in_order low high h = grind (arith, nat_tests)
 ports_by : (word : List ℕ) (o : Option (List ℕ × List ℕ)) (ports : ℕ × ℕ) → split_once 58 word ≡ o → ports_of_parts word o ≡ Some ports
     → AreAsked word ports
 ports_by word None ports cut h =
-    let port = bind_some (number last_port word) _ ports h in
-    let told = decimal_of_number last_port word port.0 (omega arith) port.1 in
+    let port = bind_some (number max_port word) _ ports h in
+    let told = decimal_of_number max_port word port.0 (omega arith) port.1 in
     subst (AreAsked word) (some_same (port.0, port.0) ports port.2) (record { order = omega arith; fits = told.1; written = inl (told.0, refl) })
 ports_by word (Some parts) ports cut h = elim (if_parts (is_nothing parts.0 && is_nothing parts.1) None (ports_between parts.0 parts.1) (Some ports) h) [
   | inl none ↦ cc
   | inr some ↦
       let low = bind_some (port_or 0 parts.0) _ ports some.1 in
-      let high = bind_some (port_or last_port parts.1) _ ports low.2 in
+      let high = bind_some (port_or max_port parts.1) _ ports low.2 in
       elim (if_parts (nat_le low.0 high.0) (Some (low.0, high.0)) None (Some ports) high.2) [
         | inl order ↦
             subst (AreAsked word) (some_same (low.0, high.0) ports order.1)
             (between_said word parts.0 parts.1 low.0 high.0 (split_once_joined 58 word parts.0 parts.1 cut) some.0
-            (port_told 0 parts.0 low.0 low.1) (port_told last_port parts.1 high.0 high.1) (in_order low.0 high.0 order.0))
+            (port_told 0 parts.0 low.0 low.1) (port_told max_port parts.1 high.0 high.1) (in_order low.0 high.0 order.0))
         | inr turned ↦ cc
       ]
 ]
@@ -198,42 +198,42 @@ pub ports_said : (word : List ℕ) (ports : ℕ × ℕ) → asked_ports word ≡
 unfolding asked_ports
 ports_said word ports h = ports_by word (split_once 58 word) ports refl h
 
-port_there : (other port : ℕ) (word : List ℕ) → number last_port word ≡ Some port → (port_or other word ≡ Some port) × (is_nothing word ≡ false)
+port_there : (other port : ℕ) (word : List ℕ) → number max_port word ≡ Some port → (port_or other word ≡ Some port) × (is_nothing word ≡ false)
 unfolding number digits
 port_there other port [] h = cc
 port_there other port (b ∷ bs) h = (h, refl)
 
-decimal_there : (other port : ℕ) → port ≤ last_port → (port_or other (decimal port) ≡ Some port) × (is_nothing (decimal port) ≡ false)
-decimal_there other port fits = port_there other port (decimal port) (number-decimal last_port port fits (omega arith))
+decimal_there : (other port : ℕ) → port ≤ max_port → (port_or other (decimal port) ≡ Some port) × (is_nothing (decimal port) ≡ false)
+decimal_there other port fits = port_there other port (decimal port) (number-decimal max_port port fits (omega arith))
 
-cut_at : (port : ℕ) (rest : List ℕ) → port ≤ last_port → split_once 58 (decimal port ++ (58 ∷ rest)) ≡ Some (decimal port, rest)
+cut_at : (port : ℕ) (rest : List ℕ) → port ≤ max_port → split_once 58 (decimal port ++ (58 ∷ rest)) ≡ Some (decimal port, rest)
 cut_at port rest fits = split_once-append 58 (decimal port) rest (decimal_lacks 58 port refl (omega arith))
 
 less : (low high : ℕ) → low ≤ high → nat_le low high ≡ true
 less low high h = grind (arith, nat_tests)
 
-one_read : (port : ℕ) → port ≤ last_port → asked_ports (decimal port) ≡ Some (port, port)
+one_read : (port : ℕ) → port ≤ max_port → asked_ports (decimal port) ≡ Some (port, port)
 unfolding asked_ports
 one_read port fits =
-    rw (split_once_none 58 (decimal port) (decimal_lacks 58 port refl (omega arith)), number-decimal last_port port fits (omega arith)) refl
+    rw (split_once_none 58 (decimal port) (decimal_lacks 58 port refl (omega arith)), number-decimal max_port port fits (omega arith)) refl
 
-two_read : (low high : ℕ) → low ≤ high → high ≤ last_port → asked_ports (decimal low ++ (58 ∷ decimal high)) ≡ Some (low, high)
+two_read : (low high : ℕ) → low ≤ high → high ≤ max_port → asked_ports (decimal low ++ (58 ∷ decimal high)) ≡ Some (low, high)
 unfolding asked_ports
 two_read low high order fits =
     let first = decimal_there 0 low (omega arith) in
-    let last = decimal_there last_port high fits in
+    let last = decimal_there max_port high fits in
     rw (cut_at low (decimal high) (omega arith), first.1, first.0, last.0, less low high order) refl
 
-from_read : (low : ℕ) → low ≤ last_port → asked_ports (decimal low ++ (58 ∷ [])) ≡ Some (low, last_port)
+from_read : (low : ℕ) → low ≤ max_port → asked_ports (decimal low ++ (58 ∷ [])) ≡ Some (low, max_port)
 unfolding asked_ports
 from_read low fits =
     let first = decimal_there 0 low fits in
-    rw (cut_at low [] fits, first.1, first.0, less low last_port fits) refl
+    rw (cut_at low [] fits, first.1, first.0, less low max_port fits) refl
 
-up_to_read : (high : ℕ) → high ≤ last_port → asked_ports (58 ∷ decimal high) ≡ Some (0, high)
+up_to_read : (high : ℕ) → high ≤ max_port → asked_ports (58 ∷ decimal high) ≡ Some (0, high)
 unfolding asked_ports
 up_to_read high fits =
-    let last = decimal_there last_port high fits in
+    let last = decimal_there max_port high fits in
     rw (last.1, last.0, less 0 high (omega arith)) refl
 
 pub ports_read : (word : List ℕ) (low high : ℕ) → ArePortsWord word low high → asked_ports word ≡ Some (low, high)

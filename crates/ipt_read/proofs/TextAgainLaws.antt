@@ -17,7 +17,7 @@ use Rattle.ipt_rules.specs.inner.ChainTable.{IsTable}
 use Rattle.ipt_rules.specs.Name.{is_user_name}
 use Rattle.ipt_rules.specs.Text.{newline, policy_text, chain_line, rule_lines, table_line, commit_line, text}
 use Rattle.ipt_read.proofs.LineLaws.{IsTextLine}
-use Rattle.ipt_read.specs.Said.{Table, After, SaidSoFar, nothing_said}
+use Rattle.ipt_read.specs.ParserStates.{Table, After, ParserState, initial_state}
 use Rattle.ipt_read.specs.Grammar.{IsLine, table, built_in, IsChainLine}
 use Rattle.ipt_read.specs.inner.Goes.{Goes}
 use Rattle.ipt_read.proofs.FineRulesLaws.{RulesAreFine, ChainsAreFine, HasFineRules}
@@ -153,7 +153,7 @@ built_written name Accept printed = spaced_written (58 ∷ name) (codes "ACCEPT"
 built_written name Drop printed = spaced_written (58 ∷ name) (codes "DROP" ∷ codes "[0:0]" ∷ []) (rw printed refl) refl
 
 -- One line of a text before others.
-off_line : (n : ℕ) (s t u : SaidSoFar) (line l : List ℕ) (ws : List (List ℕ)) (ts : List (List ℕ)) → line ≡ l ++ newline → IsWritten l ws → IsLine n s ws t → Follows IsTextLine (n + 1) t (lines (concat ts)) u → Follows IsTextLine n s (lines (concat (line ∷ ts))) u
+off_line : (n : ℕ) (s t u : ParserState) (line l : List ℕ) (ws : List (List ℕ)) (ts : List (List ℕ)) → line ≡ l ++ newline → IsWritten l ws → IsLine n s ws t → Follows IsTextLine (n + 1) t (lines (concat ts)) u → Follows IsTextLine n s (lines (concat (line ∷ ts))) u
 off_line n s t u line l ws ts is written step others =
     subst (λ (ls : List (List ℕ)). Follows IsTextLine n s ls u) (sym (ap (λ v. lines (v ++ concat ts)) is ∙ ap lines (append_assoc l newline (concat ts)) ∙ lines_ended l (concat ts) written.ends))
     (inr (t, written.counts, subst (λ (vs : List (List ℕ)). IsLine n s vs t) (sym written.read) step, others))
@@ -166,11 +166,11 @@ built_text : (x : Chain) (name : List ℕ) (p : Policy) → x.name ≡ name → 
 unfolding chain_line
 built_text x name p e f = ap (λ (o : Option Policy). 58 ∷ (x.name ++ (32 ∷ (policy_text o ++ (codes " [0:0]" ++ newline))))) f ∙ ap (λ v. 58 ∷ (v ++ (32 ∷ (policy_text (Some p) ++ (codes " [0:0]" ++ newline))))) e ∙ built_text_of name p
 
-head_follows : (a b c : Chain) (p q r : Policy) (ts : List (List ℕ)) (all : List Chain) → a.name ≡ codes "INPUT" → a.policy ≡ Some p → b.name ≡ codes "FORWARD" → b.policy ≡ Some q → c.name ≡ codes "OUTPUT" → c.policy ≡ Some r → Says ts (three p q r) 0 all → (u : SaidSoFar) × Follows IsTextLine 1 nothing_said (lines (concat (table_line ∷ chain_line a ∷ chain_line b ∷ chain_line c ∷ ts))) u × (u.stage ≡ After) × (u.chains ≡ all)
+head_follows : (a b c : Chain) (p q r : Policy) (ts : List (List ℕ)) (all : List Chain) → a.name ≡ codes "INPUT" → a.policy ≡ Some p → b.name ≡ codes "FORWARD" → b.policy ≡ Some q → c.name ≡ codes "OUTPUT" → c.policy ≡ Some r → Says ts (three p q r) 0 all → (u : ParserState) × Follows IsTextLine 1 initial_state (lines (concat (table_line ∷ chain_line a ∷ chain_line b ∷ chain_line c ∷ ts))) u × (u.stage ≡ After) × (u.chains ≡ all)
 head_follows a b c p q r ts all an ap' bn bp cn cp says =
     let rest = says 5 (2 ∷ 3 ∷ 4 ∷ []) in (
       rest.0,
-      off_line 1 nothing_said (record { stage = Table; chains = built_in_chains; declared = 0 ∷ 0 ∷ 0 ∷ []; rules = 0 }) rest.0 table_line (codes "*filter") (codes "*filter" ∷ []) (chain_line a ∷ chain_line b ∷ chain_line c ∷ ts) refl table_written (table refl)
+      off_line 1 initial_state (record { stage = Table; chains = built_in_chains; declared = 0 ∷ 0 ∷ 0 ∷ []; rules = 0 }) rest.0 table_line (codes "*filter") (codes "*filter" ∷ []) (chain_line a ∷ chain_line b ∷ chain_line c ∷ ts) refl table_written (table refl)
           (off_line 2 (record { stage = Table; chains = built_in_chains; declared = 0 ∷ 0 ∷ 0 ∷ []; rules = 0 }) (record { stage = Table; chains = three p Accept Accept; declared = 2 ∷ 0 ∷ 0 ∷ []; rules = 0 }) rest.0 (chain_line a) (spaced (built_words (codes "INPUT") p)) (built_words (codes "INPUT") p) (chain_line b ∷ chain_line c ∷ ts) (built_text a (codes "INPUT") p an ap') (built_written (codes "INPUT") p refl) (input_line p)
           (off_line 3 (record { stage = Table; chains = three p Accept Accept; declared = 2 ∷ 0 ∷ 0 ∷ []; rules = 0 }) (record { stage = Table; chains = three p q Accept; declared = 2 ∷ 3 ∷ 0 ∷ []; rules = 0 }) rest.0 (chain_line b) (spaced (built_words (codes "FORWARD") q)) (built_words (codes "FORWARD") q) (chain_line c ∷ ts) (built_text b (codes "FORWARD") q bn bp) (built_written (codes "FORWARD") q refl) (forward_line p q)
           (off_line 4 (record { stage = Table; chains = three p q Accept; declared = 2 ∷ 3 ∷ 0 ∷ []; rules = 0 }) (record { stage = Table; chains = three p q r; declared = 2 ∷ 3 ∷ 4 ∷ []; rules = 0 }) rest.0 (chain_line c) (spaced (built_words (codes "OUTPUT") r)) (built_words (codes "OUTPUT") r) ts (built_text c (codes "OUTPUT") r cn cp) (built_written (codes "OUTPUT") r refl) (output_line p q r) rest.1))),
@@ -201,7 +201,7 @@ three_names a b c p q r an bn cn = λ i. sym an i ∷ sym bn i ∷ sym cn i ∷ 
 none_some : IsSome {T = Policy} None → ⊥
 none_some h = cc
 
-again_with : (a b c : Chain) (users : List Chain) (p q r : Policy) → HasFineRules (a ∷ b ∷ c ∷ users) → a.policy ≡ Some p → b.policy ≡ Some q → c.policy ≡ Some r → (u : SaidSoFar) × Follows IsTextLine 1 nothing_said (lines (text (a ∷ b ∷ c ∷ users))) u × (u.stage ≡ After) × (u.chains ≡ a ∷ b ∷ c ∷ users)
+again_with : (a b c : Chain) (users : List Chain) (p q r : Policy) → HasFineRules (a ∷ b ∷ c ∷ users) → a.policy ≡ Some p → b.policy ≡ Some q → c.policy ≡ Some r → (u : ParserState) × Follows IsTextLine 1 initial_state (lines (text (a ∷ b ∷ c ∷ users))) u × (u.stage ≡ After) × (u.chains ≡ a ∷ b ∷ c ∷ users)
 again_with a b c users p q r fine pa pb pc =
     let named : IsTable (a ∷ b ∷ c ∷ users) = fine.named in
     let an : a.name ≡ codes "INPUT" = named.input in
@@ -223,7 +223,7 @@ again_with a b c users p q r fine pa pb pc =
     (users_reach (three p q r) users (flat_map (rule_lines (a ∷ b ∷ c ∷ users)) (a ∷ b ∷ c ∷ users) ++ (commit_line ∷ [])) (a ∷ b ∷ c ∷ users) new
     (subst (λ (cs : List Chain). Says (flat_map (rule_lines (a ∷ b ∷ c ∷ users)) (a ∷ b ∷ c ∷ users) ++ (commit_line ∷ [])) cs 0 (a ∷ b ∷ c ∷ users)) start from_empty))
 
-pub again : (all : List Chain) → HasFineRules all → (u : SaidSoFar) × Follows IsTextLine 1 nothing_said (lines (text all)) u × (u.stage ≡ After) × (u.chains ≡ all)
+pub again : (all : List Chain) → HasFineRules all → (u : ParserState) × Follows IsTextLine 1 initial_state (lines (text all)) u × (u.stage ≡ After) × (u.chains ≡ all)
 again [] fine = absurd (none_some (fine.named.built_in 0 (omega arith)))
 again (a ∷ []) fine = absurd (none_some (fine.named.built_in 1 (omega arith)))
 again (a ∷ b ∷ []) fine = absurd (none_some (fine.named.built_in 2 (omega arith)))

@@ -22,20 +22,20 @@ use Rattle.ipt_read.specs.inner.RuleLine.{is_bang, word_step, rule_line_of}
 use Rattle.ipt_read.specs.inner.LineStep.{chain_line_of, body_line_of, line_of_words}
 use Rattle.ipt_read.specs.declared.fault.IptWhy.{IptWhy}
 use Rattle.ipt_read.specs.inner.LineStep.{line_step}
-use Rattle.ipt_read.specs.Said.{Stage, After, SaidSoFar, nothing_said}
+use Rattle.ipt_read.specs.ParserStates.{Stage, After, ParserState, initial_state}
 
 -- The parse result of the lines of a file by steps, from line n on.
-abbrev ended : ℕ → Stage → SaidSoFar → Result SaidSoFar (ℕ × IptWhy)
+abbrev ended : ℕ → Stage → ParserState → Result ParserState (ℕ × IptWhy)
 ended n After s = Ok s
 ended n _ s = Err (n, NoCommit)
 
-abbrev by_lines : ℕ → Result SaidSoFar IptWhy → List (List ℕ) → Result SaidSoFar (ℕ × IptWhy)
+abbrev by_lines : ℕ → Result ParserState IptWhy → List (List ℕ) → Result ParserState (ℕ × IptWhy)
 by_lines n (Err why) ls = Err (n, why)
 by_lines n (Ok s) [] = ended (n + 1) s.stage s
 by_lines n (Ok s) (l ∷ ls) = by_lines (n + 1) (if is_comment l then Ok s else line_step (n + 1) s l) ls
 
-unfoldable text_said : List ℕ → Result SaidSoFar (ℕ × IptWhy)
-text_said bytes = by_lines 0 (Ok nothing_said) (lines bytes)
+unfoldable text_said : List ℕ → Result ParserState (ℕ × IptWhy)
+text_said bytes = by_lines 0 (Ok initial_state) (lines bytes)
 
 -- A rule that jumps unconditionally.
 abbrev jumps : ℕ → Rule

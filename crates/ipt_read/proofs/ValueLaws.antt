@@ -11,8 +11,8 @@ use Rattle.text_core.proofs.StepsLaws.{if_parts}
 use Rattle.ipt_read.specs.declared.option.Place.TheVariants.{AtOption, InText}
 use Rattle.ipt_read.specs.inner.ValueSteps.{closes, quoted}
 use Rattle.ipt_read.specs.inner.Counts.{is_nothing, is_bytes_part, is_packets_part, is_count}
-use Rattle.ipt_read.specs.Values.{is_figure}
-use Rattle.ipt_read.specs.Values.{IsCount, IsInside, nothing, taken, plain, IsRestOfText, closing}
+use Rattle.ipt_read.specs.Values.{is_counter_number}
+use Rattle.ipt_read.specs.Values.{IsCounter, IsInside, nothing, taken, plain, IsRestOfText, closing}
 
 -- 1. Counters.
 
@@ -25,7 +25,7 @@ digits_lack mark (b ∷ bs) past digits =
     apart : (b : ℕ) → is_ascii_digit b ≡ true → not (nat_eq b mark) ≡ true
     apart b digit = grind (arith, nat_tests)
 
-figure_lacks : (mark : ℕ) (bs : List ℕ) → 57 < mark → is_figure bs ≡ true → lacks mark bs ≡ true
+figure_lacks : (mark : ℕ) (bs : List ℕ) → 57 < mark → is_counter_number bs ≡ true → lacks mark bs ≡ true
 figure_lacks mark bs past figure = digits_lack mark bs past (and_parts (list_all is_ascii_digit bs) _ figure).0
 
 nothing_left : (bs : List ℕ) → is_nothing bs ≡ true → bs ≡ []
@@ -33,17 +33,17 @@ nothing_left [] h = refl
 nothing_left (b ∷ bs) h = cc
 
 bytes_said : (rest : List ℕ) (o : Option (List ℕ × List ℕ)) → split_once 93 rest ≡ o → is_bytes_part o ≡ true
-    → (bytes : List ℕ) × IsTrue (is_figure bytes) × (rest ≡ bytes ++ (93 ∷ []))
+    → (bytes : List ℕ) × IsTrue (is_counter_number bytes) × (rest ≡ bytes ++ (93 ∷ []))
 bytes_said rest None cut h = cc
 bytes_said rest (Some (bytes, left)) cut h =
-    let parts = and_parts (is_figure bytes) (is_nothing left) h in
+    let parts = and_parts (is_counter_number bytes) (is_nothing left) h in
     (bytes, parts.0, split_once_joined 93 rest bytes left cut ∙ ap (λ (v : List ℕ). bytes ++ (93 ∷ v)) (nothing_left left parts.1))
 
 packets_said : (b : ℕ) (bs : List ℕ) (o : Option (List ℕ × List ℕ)) → b ≡ 91 → split_once 58 bs ≡ o → is_packets_part o ≡ true
-    → IsCount (b ∷ bs)
+    → IsCounter (b ∷ bs)
 packets_said b bs None first cut h = cc
 packets_said b bs (Some (packets, rest)) first cut h =
-    let parts = and_parts (is_figure packets) (is_bytes_part (split_once 93 rest)) h in
+    let parts = and_parts (is_counter_number packets) (is_bytes_part (split_once 93 rest)) h in
     let said = bytes_said rest (split_once 93 rest) refl parts.1 in
     record {
       packets = packets;
@@ -55,14 +55,14 @@ packets_said b bs (Some (packets, rest)) first cut h =
 bracket : (b : ℕ) → (b == 91) ≡ true → b ≡ 91
 bracket b h = grind (arith, nat_tests)
 
-pub count_said : (word : List ℕ) → is_count word ≡ true → IsCount word
+pub count_said : (word : List ℕ) → is_count word ≡ true → IsCounter word
 unfolding is_count
 count_said [] h = cc
 count_said (b ∷ bs) h =
     let parts = and_parts (b == 91) (is_packets_part (split_once 58 bs)) h in
     packets_said b bs (split_once 58 bs) (bracket b parts.0) refl parts.1
 
-pub said_count : (word : List ℕ) → IsCount word → is_count word ≡ true
+pub said_count : (word : List ℕ) → IsCounter word → is_count word ≡ true
 unfolding is_count
 said_count word count =
     let packets = count.packets in

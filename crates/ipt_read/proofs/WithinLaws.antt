@@ -12,7 +12,7 @@ use Rattle.ipt_read.specs.declared.option.Place.TheVariants.{AtOption}
 use Rattle.ipt_rules.specs.inner.RuleParts.{is_rule}
 use Rattle.ipt_read.specs.inner.Counts.{is_count}
 use Rattle.ipt_read.proofs.LineLaws.{rule_line_of_read}
-use Rattle.ipt_read.specs.Options.{Given, nothing_given}
+use Rattle.ipt_read.specs.Options.{PartialRule, empty_rule}
 use Rattle.ipt_read.specs.inner.OptionSteps.{rule_of}
 use Rattle.ipt_read.proofs.PartLaws.{line_is_rule}
 use Rattle.ipt_read.specs.inner.RuleLine.{goes_on, word_by_word, rule_in, append_of, rule_line_of}
@@ -28,7 +28,7 @@ within_from p i c (x ∷ xs) h = let e : c < i + (length xs + 1) = within_first 
 pub number_of_within : (xs : List Chain) (name : List ℕ) (c : ℕ) → number_of xs name ≡ Some c → c < length xs
 number_of_within xs name c h = let e : c < 0 + length xs = within_from (λ x. bytes_eq x.name name) 0 c xs h in omega arith
 
-rule_within : (chains : List Chain) (c k : ℕ) (rule : Rule) (o : Result Given IptWhy)
+rule_within : (chains : List Chain) (c k : ℕ) (rule : Rule) (o : Result PartialRule IptWhy)
     → goes_on {B = ℕ × Rule} o (λ given. Ok (c, rule_of given)) ≡ Ok (k, rule) → c ≡ k
 rule_within chains c k rule (Err why) h = cc
 rule_within chains c k rule (Ok given) h = let e : ◌≡◌ {A = ℕ × Rule} (c, rule_of given) (k, rule) = cc in λ i. (e i).0
@@ -37,7 +37,7 @@ in_within : (chains : List Chain) (name : List ℕ) (ws : List (List ℕ)) (k : 
     → rule_in chains o ws ≡ Ok (k, rule) → k < length chains
 in_within chains name ws k rule None found h = cc
 in_within chains name ws k rule (Some c) found h =
-    subst (λ (n : ℕ). n < length chains) (rule_within chains c k rule (word_by_word chains nothing_given AtOption ws) h) (number_of_within chains name c found)
+    subst (λ (n : ℕ). n < length chains) (rule_within chains c k rule (word_by_word chains empty_rule AtOption ws) h) (number_of_within chains name c found)
 
 append_within : (chains : List Chain) (ws : List (List ℕ)) (k : ℕ) (rule : Rule) → append_of chains ws ≡ Ok (k, rule) → k < length chains
 append_within chains [] k rule h = cc

@@ -14,19 +14,19 @@ use Rattle.ipt_rules.specs.ChainTable.{chain_limit, rule_limit}
 use Rattle.ipt_rules.specs.Name.{is_user_name}
 use Rattle.ipt_rules.specs.RuleParts.{names_ports}
 use Rattle.ipt_rules.specs.Text.{policy_text}
-use Rattle.ipt_read.specs.Options.{Given, nothing_given, Row, row_of, is_barred, named_target}
-use Rattle.ipt_read.specs.Said.{Front, Table, After, SaidSoFar, line_of}
+use Rattle.ipt_read.specs.Options.{PartialRule, empty_rule, Row, row_of, is_repeated_or_negated, named_target}
+use Rattle.ipt_read.specs.ParserStates.{Front, Table, After, ParserState, line_of}
 use Rattle.ipt_read.specs.ServiceValues.{IsProtocolWord, ArePortsWord}
-use Rattle.ipt_read.specs.Values.{IsCount, IsText, IsStateList}
+use Rattle.ipt_read.specs.Values.{IsCounter, IsText, IsStateList}
 
 -- An option of that name, negated by `!` or not, is allowed after the partial rule.
-pub record Stands (given : Given) (negated : Bool) (name : List ℕ) (row : Row) : Type 0 where
+pub record Stands (given : PartialRule) (negated : Bool) (name : List ℕ) (row : Row) : Type 0 where
   pub named : row_of name ≡ Some row
   pub here : IsTrue (row.stands given)
-  pub free : IsFalse (is_barred given negated row)
+  pub free : IsFalse (is_repeated_or_negated given negated row)
 
 -- The value of an option of that name, negated by `!` or not, and the partial rule after it.
-pub data IsValue (chains : List Chain) (given : Given) (negated : Bool) : List ℕ → List (List ℕ) → Given → Type 0 where
+pub data IsValue (chains : List Chain) (given : PartialRule) (negated : Bool) : List ℕ → List (List ℕ) → PartialRule → Type 0 where
   source : {w : List ℕ} (p : Prefix) → p.addr < 2 ^ 32 → IsSpelling w p → IsValue chains given negated (codes "-s") (w ∷ [])
       (record given { rule = record given.rule { src = Some (record { prefix = p; negated = negated }) } })
   destination : {w : List ℕ} (p : Prefix) → p.addr < 2 ^ 32 → IsSpelling w p → IsValue chains given negated (codes "-d") (w ∷ [])
@@ -54,42 +54,42 @@ pub data IsValue (chains : List Chain) (given : Given) (negated : Bool) : List �
   a_word : {name w : List ℕ} → (name ≡ codes "--reject-with") ⊎ (name ≡ codes "--log-level") → IsValue chains given negated name (w ∷ []) given
 
 -- An option with its value, optionally after `!`.
-pub data IsPiece (chains : List Chain) (given : Given) : List (List ℕ) → Given → Type 0 where
-  plain : {name : List ℕ} {row : Row} {value : List (List ℕ)} {now : Given} → Stands given false name row
+pub data IsPiece (chains : List Chain) (given : PartialRule) : List (List ℕ) → PartialRule → Type 0 where
+  plain : {name : List ℕ} {row : Row} {value : List (List ℕ)} {now : PartialRule} → Stands given false name row
       → IsValue chains given false name value now → IsPiece chains given (name ∷ value) now
-  turned : {name : List ℕ} {row : Row} {value : List (List ℕ)} {now : Given} → given.target ≡ None → Stands given true name row
+  turned : {name : List ℕ} {row : Row} {value : List (List ℕ)} {now : PartialRule} → given.target ≡ None → Stands given true name row
       → IsValue chains given true name value now → IsPiece chains given (codes "!" ∷ name ∷ value) now
 
 -- A sequence of options, each of which is allowed after those before it.
-pub data ArePieces (chains : List Chain) : Given → List (List ℕ) → Given → Type 0 where
-  none_left : {given : Given} → ArePieces chains given [] given
-  one_more : {given now then_given : Given} {ws vs : List (List ℕ)} → IsPiece chains given ws now
-      → ArePieces chains now vs then_given → ArePieces chains given (ws ++ vs) then_given
+pub data AreOptionWords (chains : List Chain) : PartialRule → List (List ℕ) → PartialRule → Type 0 where
+  none_left : {given : PartialRule} → AreOptionWords chains given [] given
+  one_more : {given now then_given : PartialRule} {ws vs : List (List ℕ)} → IsPiece chains given ws now
+      → AreOptionWords chains now vs then_given → AreOptionWords chains given (ws ++ vs) then_given
 
 -- Packet and byte counters at the front of the line, or nothing.
-abbrev pub IsFront : List (List ℕ) → Type 0
-IsFront front = (front ≡ []) ⊎ ((count : List ℕ) × IsCount count × (front ≡ count ∷ []))
+abbrev pub IsOptionalCounter : List (List ℕ) → Type 0
+IsOptionalCounter front = (front ≡ []) ⊎ ((count : List ℕ) × IsCounter count × (front ≡ count ∷ []))
 
 -- The tokens of a rule line: optional counters, then `-A`, the name of a chain, and options.
 abbrev pub IsAppend : List (List ℕ) → (name : List ℕ) → (pieces : List (List ℕ)) → Type 0
-IsAppend ws name pieces = (front : List (List ℕ)) × IsFront front × (ws ≡ front ++ (codes "-A" ∷ name ∷ pieces))
+IsAppend ws name pieces = (front : List (List ℕ)) × IsOptionalCounter front × (ws ≡ front ++ (codes "-A" ∷ name ∷ pieces))
 
 -- A rule line: its chain exists, and its options yield the rule. Without a target the rule only counts packets.
 pub record IsRuleLine (chains : List Chain) (ws : List (List ℕ)) (c : ℕ) (rule : Rule) : Type 0 where
   pub name : List ℕ
   pub pieces : List (List ℕ)
-  pub given : Given
+  pub given : PartialRule
   pub written : IsAppend ws name pieces
   pub number : number_of chains name ≡ Some c
-  pub fit : ArePieces chains nothing_given pieces given
+  pub fit : AreOptionWords chains empty_rule pieces given
   pub same : rule ≡ record given.rule { target = unwrap_or given.target Count }
 
 -- The tokens of a chain line: `:` (58) and the name in one token, the policy, optional counters.
 abbrev pub IsChainLine : List (List ℕ) → (name policy : List ℕ) → Type 0
-IsChainLine ws name policy = (behind : List (List ℕ)) × IsFront behind × (ws ≡ (58 ∷ name) ∷ policy ∷ behind)
+IsChainLine ws name policy = (behind : List (List ℕ)) × IsOptionalCounter behind × (ws ≡ (58 ∷ name) ∷ policy ∷ behind)
 
 -- Line n, by its tokens: a transition from the parser state before the line to the parser state after it.
-pub data IsLine (n : ℕ) (s : SaidSoFar) : List (List ℕ) → SaidSoFar → Type 0 where
+pub data IsLine (n : ℕ) (s : ParserState) : List (List ℕ) → ParserState → Type 0 where
   table : s.stage ≡ Front → IsLine n s (codes "*filter" ∷ []) (record s { stage = Table })
   built_in : {ws : List (List ℕ)} {name : List ℕ} {c : ℕ} (policy : Policy) → s.stage ≡ Table
       → IsChainLine ws name (policy_text (Some policy)) → number_of s.chains name ≡ Some c → c < 3 → line_of s.declared c ≡ 0

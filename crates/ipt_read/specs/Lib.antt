@@ -1,7 +1,7 @@
 pub mod Grammar
 pub mod LineFault
 pub mod Options
-pub mod Said
+pub mod ParserStates
 pub mod ServiceValues
 pub mod TextLines
 pub mod Values

@@ -12,7 +12,7 @@ use Rattle.ipt_read.specs.declared.fault.IptWhy.TheVariants.{UnknownOption, BadV
 
 -- A partial rule: the rule so far without its target, the target, and the modules that were loaded; `ports` is set if the module of the
 -- protocol was loaded.
-pub record Given : Type 0 where
+pub record PartialRule : Type 0 where
   pub rule : Rule
   pub target : Option Target
   pub ports : Bool
@@ -21,8 +21,8 @@ pub record Given : Type 0 where
   pub comments : Bool
 
 -- A rule without matches and without a target.
-abbrev pub nothing_given : Given
-nothing_given = record {
+abbrev pub empty_rule : PartialRule
+empty_rule = record {
   rule = record { src = None; dst = None; proto = None; sport = None; dport = None; state = None; target = Count };
   target = None;
   ports = false;
@@ -36,12 +36,12 @@ nothing_given = record {
 -- A row of the table of options: where the option is allowed; for a match, which is allowed once and may be negated, whether a rule has
 -- this match; and the reason to reject a value.
 pub record Row : Type 0 where
-  pub stands : Given → Bool
+  pub stands : PartialRule → Bool
   pub part : Option (Rule → Bool)
   pub refusal : IptWhy
 
 -- The partial rule has no target yet.
-abbrev pub in_front : Given → Bool
+abbrev pub in_front : PartialRule → Bool
 in_front given = is_none given.target
 
 -- The target is REJECT.
@@ -77,8 +77,8 @@ row_of name = lookup (bytes_eq name) options
 
 -- The option is repeated or must not be negated: the rule already has this match, or `!` precedes an option that is no
 -- match.
-abbrev pub is_barred : Given → Bool → Row → Bool
-is_barred given negated row = option_map_or (λ has_part. has_part given.rule) row.part negated
+abbrev pub is_repeated_or_negated : PartialRule → Bool → Row → Bool
+is_repeated_or_negated given negated row = option_map_or (λ has_part. has_part given.rule) row.part negated
 
 -- The target with this name, except user chains.
 abbrev pub named_target : List ℕ → Option Target

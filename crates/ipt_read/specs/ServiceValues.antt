@@ -1,7 +1,7 @@
 -- Notation of the values of `-p`, `--sport` and `--dport` (iptables(8), "PARAMETERS"; iptables-extensions(8), "tcp" and "udp").
 use Rattle.std.specs.Prelude.{◌≡◌, ◌⊎◌, ◌<◌, ◌≤◌, ◌^◌, ℕ, List, [], ◌∷◌, ◌++◌, Option, Some, bytes_eq, codes, decimal}
 use Rattle.std.specs.Map.{lookup}
-use Rattle.host_net.specs.Service.{last_port}
+use Rattle.host_net.specs.Service.{max_port}
 use Rattle.host_net.specs.ServiceText.{protocol_text}
 
 -- The protocol with a name other than `icmp`, `tcp` and `udp` (IANA, Assigned Internet Protocol Numbers).
@@ -17,8 +17,8 @@ pub record IsProtocolWord (word : List ℕ) (proto : ℕ) : Type 0 where
 -- Ports: one port, or a range with a colon (58) between the first and the last port, one of which may be omitted.
 pub record ArePortsWord (word : List ℕ) (low high : ℕ) : Type 0 where
   pub order : low ≤ high
-  pub fits : high ≤ last_port
+  pub fits : high ≤ max_port
   pub written : ((word ≡ decimal low) × (low ≡ high))
       ⊎ ((word ≡ decimal low ++ (58 ∷ decimal high))
-      ⊎ (((word ≡ decimal low ++ (58 ∷ [])) × (high ≡ last_port))
+      ⊎ (((word ≡ decimal low ++ (58 ∷ [])) × (high ≡ max_port))
       ⊎ ((word ≡ 58 ∷ decimal high) × (low ≡ 0))))

@@ -1,36 +1,36 @@
 -- The format of a ruleset file: the chains that it defines, and the reasons why a file is rejected.
 use Rattle.std.specs.Prelude.{◌≡◌, ◌≢◌, ℕ, List, ◌∷◌}
 use Rattle.text_core.specs.Lines.{words}
-use Rattle.text_core.specs.TextByLines.{TextByLines, IsReading as IsReadingOf, HasFault as HasFaultOf}
+use Rattle.text_core.specs.LineFormat.{LineFormat, IsReading as IsReadingOf, HasFault as HasFaultOf}
 use Rattle.ipt_rules.specs.Chain.{Chain}
-use Rattle.ipt_rules.specs.Loops.{HasNoLoop, IsLeastLoop}
+use Rattle.ipt_rules.specs.Loops.{IsAcyclic, IsFirstOnCycle}
 use Rattle.ipt_read.specs.declared.fault.IptWhy.{IptWhy}
 use Rattle.ipt_read.specs.declared.fault.IptWhy.TheVariants.{TooLong, Loop, NoCommit}
 use Rattle.ipt_read.specs.Grammar.{IsLine}
 use Rattle.ipt_read.specs.LineFault.{IsBad}
-use Rattle.ipt_read.specs.Said.{After, SaidSoFar, nothing_said, line_of}
+use Rattle.ipt_read.specs.ParserStates.{After, ParserState, initial_state, line_of}
 
 -- The reason why a file ends badly: it ends without COMMIT, reported at the line after its last; or jumps form a cycle, reported at the
 -- chain line of the first chain on a cycle.
-pub data EndsBadly (next : ℕ) (s : SaidSoFar) : ℕ → IptWhy → Type 0 where
-  no_commit : s.stage ≢ After → EndsBadly next s next NoCommit
-  loops : (c : ℕ) → s.stage ≡ After → IsLeastLoop s.chains c → EndsBadly next s (line_of s.declared c) Loop
+pub data HasEndFault (next : ℕ) (s : ParserState) : ℕ → IptWhy → Type 0 where
+  no_commit : s.stage ≢ After → HasEndFault next s next NoCommit
+  loops : (c : ℕ) → s.stage ≡ After → IsFirstOnCycle s.chains c → HasEndFault next s (line_of s.declared c) Loop
 
 -- A ruleset as a line-oriented format: it ends with COMMIT, and its jumps are acyclic.
-abbrev pub rules_text : TextByLines SaidSoFar IptWhy
+abbrev pub rules_text : LineFormat ParserState IptWhy
 rules_text = record {
   byte_limit = 67108864;
-  when_longer = TooLong;
-  start = nothing_said;
+  too_long_reason = TooLong;
+  start = initial_state;
   IsLine = λ n s line t. IsLine n s (words line) t;
   IsBadLine = λ n s line why. (w : List ℕ) × (ws : List (List ℕ)) × (words line ≡ w ∷ ws) × IsBad s w ws why;
-  MayEnd = λ s. (s.stage ≡ After) × HasNoLoop s.chains;
-  EndsBadly = EndsBadly;
+  MayEndIn = λ s. (s.stage ≡ After) × IsAcyclic s.chains;
+  HasEndFault = HasEndFault;
 }
 
 -- The parse result of a file.
 abbrev pub IsReading : List ℕ → List Chain → Type 0
-IsReading bytes chains = (s : SaidSoFar) × IsReadingOf rules_text bytes s × (chains ≡ s.chains)
+IsReading bytes chains = (s : ParserState) × IsReadingOf rules_text bytes s × (chains ≡ s.chains)
 
 -- The first error of a file.
 abbrev pub HasFault : List ℕ → ℕ → IptWhy → Type 0

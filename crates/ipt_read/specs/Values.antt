@@ -5,15 +5,15 @@ use Rattle.std.specs.List.{list_all, list_any, slice_split}
 use Rattle.text_core.specs.Lines.{begins_with}
 
 -- A number of 1 to 20 decimal digits.
-abbrev pub is_figure : List ℕ → Bool
-is_figure bs = list_all is_ascii_digit bs && (nat_le 1 (length bs) && nat_le (length bs) 20)
+abbrev pub is_counter_number : List ℕ → Bool
+is_counter_number bs = list_all is_ascii_digit bs && (nat_le 1 (length bs) && nat_le (length bs) 20)
 
 -- Packet and byte counters, in the format of iptables-save(8) with --counters: `[` (91), packets, `:` (58), bytes, `]` (93); each number
 -- has 1 to 20 digits.
-pub record IsCount (word : List ℕ) : Type 0 where
+pub record IsCounter (word : List ℕ) : Type 0 where
   pub packets : List ℕ
   pub bytes : List ℕ
-  pub are_figures : IsTrue (is_figure packets) × IsTrue (is_figure bytes)
+  pub are_figures : IsTrue (is_counter_number packets) × IsTrue (is_counter_number bytes)
   pub written : word ≡ 91 ∷ (packets ++ (58 ∷ (bytes ++ (93 ∷ []))))
 
 -- Bytes inside a quoted string, without a terminating `"` (34). A backslash (92) escapes the byte after it, regardless

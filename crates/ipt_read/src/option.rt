@@ -24,7 +24,7 @@ pub(crate) enum RuleOption {
 /// The partial rule that the options so far yield: the rule without its target, the target, and the
 /// modules that were loaded; `ports` is set if the module of the protocol was loaded.
 #[derive(Clone, Copy)]
-pub(crate) struct Given {
+pub(crate) struct PartialRule {
     pub(crate) rule: Rule,
     pub(crate) target: Option<Target>,
     pub(crate) ports: bool,

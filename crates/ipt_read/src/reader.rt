@@ -6,7 +6,7 @@ ghost use Rattle.text_core.specs.Lines.{words};
 ghost use Rattle.ipt_rules.specs.Chain.{number_of, user_chain};
 ghost use Rattle.ipt_rules.specs.ChainTable.{rule_count};
 ghost use Rattle.ipt_rules.specs.inner.RuleParts.{is_rule};
-ghost use Rattle.ipt_read.specs.Said.{SaidSoFar, nothing_said, line_of};
+ghost use Rattle.ipt_read.specs.ParserStates.{ParserState, initial_state, line_of};
 ghost use Rattle.ipt_read.specs.inner.LineStep.{table_line_of, policy_word, built_in_policy, with_built_in, declare, declare_by, chain_line_of, with_read_rule, commit_line_of, body_line_of, line_at, line_of_words, line_step};
 ghost use Rattle.ipt_read.specs.inner.RuleLine.{rule_line_of};
 ghost use Rattle.ipt_read.specs.inner.State.{said_of, AnswersTo, IsFine};
@@ -247,7 +247,7 @@ fn words_line(state: Reader, number: u32, line: &[u8]) -> Result<Reader, LineFau
 impl LineReader for Reader {
     type Why = IptWhy;
 
-    ghost Said = { SaidSoFar };
+    ghost Said = { ParserState };
 
     ghost text = { rules_text };
 
@@ -265,8 +265,8 @@ impl LineReader for Reader {
 }
 
 /// Returns the state before the first line.
-pub(crate) fn nothing_said(alloc: Global) -> Result<Reader, AllocError>
-    ensures { IfOk result (λ t. said_of t ≡ nothing_said) }
+pub(crate) fn initial_state(alloc: Global) -> Result<Reader, AllocError>
+    ensures { IfOk result (λ t. said_of t ≡ initial_state) }
 {
     let mut declared = Vec::new(alloc);
     declared.push(0)?;

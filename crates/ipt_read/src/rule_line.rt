@@ -6,44 +6,45 @@ ghost use Rattle.std.specs.List.{list_all};
 ghost use Rattle.text_core.specs.inner.Pieces.{split_once};
 ghost use Rattle.ipt_read.specs.declared.option.Place.TheVariants.{AtOption};
 ghost use Rattle.ipt_read.specs.inner.Counts.{is_nothing, is_bytes_part, is_packets_part, is_count};
-ghost use Rattle.ipt_read.specs.Values.{is_figure};
-ghost use Rattle.ipt_read.specs.Options.{nothing_given};
+ghost use Rattle.ipt_read.specs.Values.{is_counter_number};
+ghost use Rattle.ipt_read.specs.Options.{empty_rule};
 ghost use Rattle.ipt_read.specs.inner.OptionSteps.{rule_of};
 ghost use Rattle.ipt_read.specs.inner.ReaderView.{AnswersAs, given_of, next_of};
 ghost use Rattle.ipt_read.specs.inner.RuleLine.{at_option, is_bang, word_step, at_end, word_by_word, append_of, rule_line_of};
 
 use crate::fault::IptWhy;
-use crate::option::{Given, Place, RuleOption};
+use crate::option::{PartialRule, Place, RuleOption};
 use crate::table::{
-    is_barred, is_interface, may_stand, option_of, quoted, value_refusal, with_value,
+    is_allowed_here, is_interface, is_repeated_or_negated, option_of, quoted, value_refusal,
+    with_value,
 };
 use ipt_rules::{Chains, Rule, Target};
 use text_core::{Words, begins_with, split_once};
 
 fn at_option(
-    given: Given,
+    given: PartialRule,
     negated: bool,
     option: Option<RuleOption>,
-) -> Result<(Given, Place), IptWhy>
+) -> Result<(PartialRule, Place), IptWhy>
     ensures { AnswersAs next_of (at_option (given_of given) negated option) result }
 {
     let Some(option) = option else {
         return Err(IptWhy::UnknownOption);
     };
-    if !may_stand(given, option) {
+    if !is_allowed_here(given, option) {
         return Err(IptWhy::UnknownOption);
     }
     if is_interface(option) {
         return Err(IptWhy::Interface);
     }
-    if is_barred(given, negated, option) {
+    if is_repeated_or_negated(given, negated, option) {
         return Err(IptWhy::BadLine);
     }
     Ok((given, Place::AtValue(option, negated)))
 }
 
 #[tactic(auto, unfolding(crate::specs::inner::RuleLine::is_bang))]
-fn is_bang(given: Given, word: &[u8]) -> bool
+fn is_bang(given: PartialRule, word: &[u8]) -> bool
     ensures { result ≡ is_bang (given_of given) word.now }
 {
     given.target.is_none() && word == b"!".as_slice()
@@ -52,10 +53,10 @@ fn is_bang(given: Given, word: &[u8]) -> bool
 #[tactic(auto, unfolding(crate::specs::inner::RuleLine::word_step))]
 fn word_step(
     chains: &Chains,
-    given: Given,
+    given: PartialRule,
     place: Place,
     word: &[u8],
-) -> Result<(Given, Place), IptWhy>
+) -> Result<(PartialRule, Place), IptWhy>
     ensures { AnswersAs next_of (word_step chains.now (given_of given) place word.now) result }
 {
     match place {
@@ -77,7 +78,7 @@ fn word_step(
     }
 }
 
-fn at_end(given: Given, place: Place) -> Result<Given, IptWhy>
+fn at_end(given: PartialRule, place: Place) -> Result<PartialRule, IptWhy>
     ensures { AnswersAs given_of (at_end (given_of given) place) result }
 {
     match place {
@@ -87,8 +88,8 @@ fn at_end(given: Given, place: Place) -> Result<Given, IptWhy>
     }
 }
 
-fn nothing_given() -> Given
-    ensures { given_of result ≡ nothing_given }
+fn empty_rule() -> PartialRule
+    ensures { given_of result ≡ empty_rule }
 {
     let rule = Rule {
         src: None,
@@ -99,7 +100,7 @@ fn nothing_given() -> Given
         state: None,
         target: Target::Count,
     };
-    Given {
+    PartialRule {
         rule,
         target: None,
         ports: false,
@@ -109,10 +110,10 @@ fn nothing_given() -> Given
     }
 }
 
-fn read_options(chains: &Chains, mut line: Words) -> Result<Given, IptWhy>
-    ensures { AnswersAs given_of (word_by_word chains.now nothing_given AtOption line.entry) result }
+fn read_options(chains: &Chains, mut line: Words) -> Result<PartialRule, IptWhy>
+    ensures { AnswersAs given_of (word_by_word chains.now empty_rule AtOption line.entry) result }
 {
-    let mut given = nothing_given();
+    let mut given = empty_rule();
     let mut place = Place::AtOption;
     while let Some(word) = line.next_word() {
         let (next_given, next_place) = word_step(chains, given, place, word)?;
@@ -122,7 +123,7 @@ fn read_options(chains: &Chains, mut line: Words) -> Result<Given, IptWhy>
     at_end(given, place)
 }
 
-fn rule_of(given: Given) -> Rule
+fn rule_of(given: PartialRule) -> Rule
     ensures { result ≡ rule_of (given_of given) }
 {
     let target = given.target.unwrap_or(Target::Count);
@@ -132,8 +133,8 @@ fn rule_of(given: Given) -> Rule
     }
 }
 
-fn is_figure(text: &[u8]) -> bool
-    ensures { result ≡ is_figure text.now }
+fn is_counter_number(text: &[u8]) -> bool
+    ensures { result ≡ is_counter_number text.now }
 {
     are_digits(text) && text.len() >= 1 && text.len() <= 20
 }
@@ -149,7 +150,7 @@ fn is_bytes_part(text: &[u8]) -> bool
 {
     match split_once(text, b']') {
         None => false,
-        Some((figure, rest)) => is_figure(figure) && rest.is_empty(),
+        Some((figure, rest)) => is_counter_number(figure) && rest.is_empty(),
     }
 }
 
@@ -162,7 +163,7 @@ pub(crate) fn is_count(word: &[u8]) -> bool
     };
     match split_once(rest, b':') {
         None => false,
-        Some((figure, rest)) => is_figure(figure) && is_bytes_part(rest),
+        Some((figure, rest)) => is_counter_number(figure) && is_bytes_part(rest),
     }
 }
 

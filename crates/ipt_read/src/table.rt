@@ -7,12 +7,12 @@ ghost use Rattle.std.specs.Option.{option_map};
 ghost use Rattle.ipt_read.specs.declared.option.Place.TheVariants.{AtOption};
 ghost use Rattle.ipt_read.specs.Options.{rejects, logs, named_target};
 ghost use Rattle.ipt_read.specs.Values.{is_state, listed};
-ghost use Rattle.ipt_read.specs.inner.OptionSteps.{option_of, option_of_target, may_stand, is_interface, bars, jump_to, target_of, is_own_module, with_module, value_refusal};
+ghost use Rattle.ipt_read.specs.inner.OptionSteps.{option_of, option_of_target, is_allowed_here, is_interface, bars, jump_to, target_of, is_own_module, with_module, value_refusal};
 ghost use Rattle.ipt_read.specs.inner.ReaderView.{given_of, next_of};
 ghost use Rattle.ipt_read.specs.inner.ValueSteps.{closes, quoted, text_of, states_of, port_match, state_match, with_value};
 
 use crate::fault::IptWhy;
-use crate::option::{Given, Place, RuleOption};
+use crate::option::{PartialRule, Place, RuleOption};
 use crate::service::{asked_ports, asked_protocol};
 use host_net::read_prefix;
 use ipt_rules::{AddrMatch, Chains, PortMatch, ProtoMatch, Rule, StateMatch, Target};
@@ -87,8 +87,8 @@ fn logs(target: Option<Target>) -> bool
     matches!(target, Some(Target::Count))
 }
 
-pub(crate) fn may_stand(given: Given, option: RuleOption) -> bool
-    ensures { result ≡ may_stand (given_of given) option }
+pub(crate) fn is_allowed_here(given: PartialRule, option: RuleOption) -> bool
+    ensures { result ≡ is_allowed_here (given_of given) option }
 {
     match option {
         RuleOption::SourcePort | RuleOption::DestinationPort => given.target.is_none()
@@ -115,7 +115,7 @@ pub(crate) fn is_interface(option: RuleOption) -> bool
 
 /// Whether the option is repeated or must not be negated: the rule already has this match, or `!`
 /// precedes an option that is no match.
-pub(crate) fn is_barred(given: Given, negated: bool, option: RuleOption) -> bool
+pub(crate) fn is_repeated_or_negated(given: PartialRule, negated: bool, option: RuleOption) -> bool
     ensures { result ≡ bars (given_of given) negated option }
 {
     match option {
@@ -175,7 +175,7 @@ fn is_state(word: &[u8]) -> bool
         || word == b"DNAT".as_slice()
 }
 
-fn lists_states(word: &[u8]) -> bool
+fn is_state_list(word: &[u8]) -> bool
     ensures { result ≡ list_all is_state (listed word.now) }
 {
     word.split(|b| *b == b',').all(|part| is_state(part))
@@ -191,7 +191,7 @@ fn lists(word: &[u8], name: &[u8]) -> bool
 fn states_of(word: &[u8]) -> Option<(bool, bool)>
     ensures { result ≡ states_of word.now }
 {
-    if !lists_states(word) {
+    if !is_state_list(word) {
         return None;
     }
     Some((lists(word, b"NEW"), lists(word, b"ESTABLISHED")))
@@ -258,29 +258,29 @@ fn is_own_module(part: Option<ProtoMatch>, word: &[u8]) -> bool
 }
 
 #[tactic(auto, unfolding(crate::specs::inner::OptionSteps::with_module))]
-fn with_module(given: Given, word: &[u8]) -> Option<Given>
+fn with_module(given: PartialRule, word: &[u8]) -> Option<PartialRule>
     ensures { option_map given_of result ≡ with_module (given_of given) word.now }
 {
     if word == b"conntrack".as_slice() {
-        return Some(Given {
+        return Some(PartialRule {
             conntrack: true,
             ..given
         });
     }
     if word == b"state".as_slice() {
-        return Some(Given {
+        return Some(PartialRule {
             states: true,
             ..given
         });
     }
     if word == b"comment".as_slice() {
-        return Some(Given {
+        return Some(PartialRule {
             comments: true,
             ..given
         });
     }
     if is_own_module(given.rule.proto, word) {
-        return Some(Given {
+        return Some(PartialRule {
             ports: true,
             ..given
         });
@@ -306,21 +306,21 @@ fn state_match(flags: (bool, bool), negated: bool) -> StateMatch
     }
 }
 
-fn with_rule(given: Given, rule: Rule) -> (Given, Place)
+fn with_rule(given: PartialRule, rule: Rule) -> (PartialRule, Place)
     ensures { next_of result ≡ (record (given_of given) { rule = rule }, AtOption) }
 {
-    (Given { rule, ..given }, Place::AtOption)
+    (PartialRule { rule, ..given }, Place::AtOption)
 }
 
 /// Returns the partial rule after an option's value, and the position of the next token.
 #[tactic(auto, unfolding(crate::specs::inner::ValueSteps::with_value))]
 pub(crate) fn with_value(
     chains: &Chains,
-    given: Given,
+    given: PartialRule,
     option: RuleOption,
     negated: bool,
     word: &[u8],
-) -> Option<(Given, Place)>
+) -> Option<(PartialRule, Place)>
     ensures { option_map next_of result ≡ with_value chains.now (given_of given) option negated word.now }
 {
     let rule = given.rule;
@@ -357,7 +357,7 @@ pub(crate) fn with_value(
         RuleOption::Comment | RuleOption::LogPrefix => Some((given, text_of(word)?)),
         RuleOption::Jump => {
             let target = Some(target_of(chains, word)?);
-            Some((Given { target, ..given }, Place::AtOption))
+            Some((PartialRule { target, ..given }, Place::AtOption))
         }
         RuleOption::RejectWith | RuleOption::LogLevel => Some((given, Place::AtOption)),
     }

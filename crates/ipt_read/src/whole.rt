@@ -3,19 +3,19 @@
 ghost use Rattle.std.specs.Prelude.{◌≡◌, ◌≤◌, ◌^◌, ◌+◌, ℕ, List, Ok, Err, IfOk, IfErr, MatchResult, length};
 ghost use Rattle.text_core.specs.Lines.{lines};
 ghost use Rattle.text_core.specs.inner.TextAnswers.{HasCause, IsFault};
-ghost use Rattle.text_core.specs.TextByLines.{IsReadThrough};
+ghost use Rattle.text_core.specs.LineFormat.{IsReadToEnd};
 ghost use Rattle.ipt_rules.specs.Chain.{Chain};
-ghost use Rattle.ipt_rules.specs.inner.OneOutcome.{EachGivesOne};
+ghost use Rattle.ipt_rules.specs.inner.OneOutcome.{AreDeterministic};
 ghost use Rattle.ipt_rules.specs.Text.{text};
 ghost use Rattle.ipt_rules.specs.inner.Writable.{IsWritable};
 ghost use Rattle.ipt_read.specs.declared.fault.IptWhy.{IptWhy};
 ghost use Rattle.ipt_read.specs.inner.State.{said_of, IsFine};
-ghost use Rattle.ipt_read.specs.Said.{After, line_of};
+ghost use Rattle.ipt_read.specs.ParserStates.{After, line_of};
 ghost use Rattle.ipt_read.specs.inner.ReaderView.{stage_of};
 ghost use Rattle.ipt_read.specs.TextLines.{rules_text, HasFault, IsReading};
 
 use crate::fault::{IptFault, IptWhy};
-use crate::reader::{Reader, nothing_said};
+use crate::reader::{Reader, initial_state};
 use crate::stage::Stage;
 use ipt_rules::Ruleset;
 use std::alloc::Global;
@@ -38,9 +38,9 @@ pub fn read(alloc: Global, bytes: &[u8]) -> Result<Ruleset, IptFault>
     ensures again { (chains : List Chain) → IsWritable chains → bytes.now ≡ text chains → length bytes.now ≤ 67108864 →
         MatchResult result (λ rules. rules ≡ chains) (λ fault. fault ≡ TextFault.Memory) }
     // In the returned rule set each chain has one outcome for every packet.
-    ensures one_outcome { IfOk result EachGivesOne }
+    ensures deterministic { IfOk result AreDeterministic }
 {
-    let Ok(start) = nothing_said(alloc) else {
+    let Ok(start) = initial_state(alloc) else {
         return Err(TextFault::Memory);
     };
     match read_counted_lines(start, bytes) {
@@ -52,11 +52,11 @@ pub fn read(alloc: Global, bytes: &[u8]) -> Result<Ruleset, IptFault>
 /// Returns the rule set of a file that was parsed to its last line. `count` is the number of lines.
 fn end(alloc: Global, reader: Reader, bytes: &[u8], count: u32) -> Result<Ruleset, IptFault>
     requires fine { IsFine (said_of reader) }
-    requires through { IsReadThrough rules_text bytes.now (said_of reader) }
+    requires through { IsReadToEnd rules_text bytes.now (said_of reader) }
     requires counted { count ≡ length (lines bytes.now) }
     ensures found { IfOk result (IsReading bytes.now) }
     ensures refused { IfErr result (HasCause rules_text bytes.now) }
-    ensures one_outcome { IfOk result EachGivesOne }
+    ensures deterministic { IfOk result AreDeterministic }
 {
     let line = count + 1;
     match reader.stage {
@@ -70,11 +70,11 @@ fn end(alloc: Global, reader: Reader, bytes: &[u8], count: u32) -> Result<Rulese
 
 fn build(alloc: Global, reader: Reader, bytes: &[u8]) -> Result<Ruleset, IptFault>
     requires fine { IsFine (said_of reader) }
-    requires through { IsReadThrough rules_text bytes.now (said_of reader) }
+    requires through { IsReadToEnd rules_text bytes.now (said_of reader) }
     requires whole { stage_of reader.stage ≡ After }
     ensures found { IfOk result (IsReading bytes.now) }
     ensures refused { IfErr result (HasCause rules_text bytes.now) }
-    ensures one_outcome { IfOk result EachGivesOne }
+    ensures deterministic { IfOk result AreDeterministic }
 {
     let Ok(found) = reader.chains.first_loop(alloc) else {
         return Err(TextFault::Memory);

@@ -12,9 +12,9 @@ use Rattle.ipt_rules.specs.declared.ruleset.BuildRefusal.TheVariants.{UnknownCha
 use Rattle.ipt_rules.specs.Chain.{Chain, rules_of}
 use Rattle.ipt_rules.specs.ChainTable.{rule_count}
 use Rattle.ipt_rules.specs.inner.ChainTable.{IsChainList}
-use Rattle.ipt_rules.specs.inner.Build.{jumps_nowhere, place_of_unknown, unknown_at, first_unknown, refusal_of}
+use Rattle.ipt_rules.specs.inner.Build.{has_unknown_target, place_of_unknown, unknown_at, first_unknown, refusal_of}
 use Rattle.ipt_rules.specs.inner.Jumps.{JumpsAreKnown, IsRuleset}
-use Rattle.ipt_rules.specs.inner.Ranks.{HasRanking}
+use Rattle.ipt_rules.specs.inner.Ranks.{HasTopologicalOrder}
 use Rattle.ipt_rules.specs.inner.Starts.{starts_from}
 
 pub chains_at : (xs : List Chain) (i : ℕ) (x : Chain) → i < length xs → x ≡ get_or xs i x → drop i xs ≡ x ∷ drop (i + 1) xs
@@ -40,10 +40,10 @@ pub known_first : (b : Bool) (i : ℕ) (o : Option ℕ) → cond b (Some i) o �
 known_first true i o h = cc
 known_first false i o h = (refl, h)
 
-rules_known : (count i : ℕ) (rs : List Rule) → position_from (λ r. jumps_nowhere count r.target) i rs ≡ None → list_all (λ r. not (jumps_nowhere count r.target)) rs ≡ true
+rules_known : (count i : ℕ) (rs : List Rule) → position_from (λ r. has_unknown_target count r.target) i rs ≡ None → list_all (λ r. not (has_unknown_target count r.target)) rs ≡ true
 rules_known count i [] known = refl
 rules_known count i (r ∷ rs) known =
-    let here = known_first (jumps_nowhere count r.target) i (position_from (λ s. jumps_nowhere count s.target) (i + 1) rs) known in
+    let here = known_first (has_unknown_target count r.target) i (position_from (λ s. has_unknown_target count s.target) (i + 1) rs) known in
     and_from _ _ (ap not here.0) (rules_known count (i + 1) rs here.1)
 
 pub none_at : (n : ℕ) (o : Option ℕ) (others : Option BuildRefusal) → unknown_at n o others ≡ None → (o ≡ None) × (others ≡ None)
@@ -80,9 +80,9 @@ unfolding fine_parts
 few_rules_of xs fine = (fine_parts xs fine).few_rules
 
 pub built : (xs : List Chain) (n : ℕ) (starts : List ℕ) → IsChainList xs n → refusal_of xs ≡ None → starts ≡ starts_from 0 xs
-    → HasRanking xs → IsRuleset xs n starts
+    → HasTopologicalOrder xs → IsRuleset xs n starts
 unfolding fine_parts
-built xs n starts chains fine begin ranking =
+built xs n starts chains fine begin topological_order =
     let parts = fine_parts xs fine in
     record {
       list = chains;
@@ -91,5 +91,5 @@ built xs n starts chains fine begin ranking =
       few_rules = omega (arith, parts.few_rules, chains.counted);
       jumps = known_of xs fine;
       starts_are = begin;
-      ranking = ranking;
+      topological_order = topological_order;
     }

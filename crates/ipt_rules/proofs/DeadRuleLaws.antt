@@ -11,13 +11,13 @@ use Rattle.ipt_rules.specs.declared.rule.Target.{Target}
 use Rattle.ipt_rules.specs.Chain.{Chain, rules_of, policy_of}
 use Rattle.ipt_rules.specs.DeadRules.{MeetsNone, without_from, without_places, without_rules}
 use Rattle.ipt_rules.specs.Matching.{matches}
-use Rattle.ipt_rules.specs.Meaning.{GoesOn, Walks, step_of, Gives, at_end, goes_on, ends, decides, comes_back, verdict_by}
+use Rattle.ipt_rules.specs.Semantics.{Continues, JumpsTo, step_of, Gives, at_end, goes_on, ends, decides, comes_back, verdict_by}
 use Rattle.ipt_rules.specs.Meets.{MeetsFrom, meets_here, meets_later, meets_inside, meets_behind}
-use Rattle.ipt_rules.specs.inner.OneOutcome.{EachGivesOne, HasVerdict}
+use Rattle.ipt_rules.specs.inner.OneOutcome.{AreDeterministic, HasVerdict}
 use Rattle.ipt_rules.proofs.MeaningLaws.{verdict_once}
 use Rattle.ipt_rules.proofs.MeetsLaws.{ended_fits}
 
-walked_fits : (b : Bool) (t : Target) (d : ℕ) → step_of b t ≡ Walks d → b ≡ true
+walked_fits : (b : Bool) (t : Target) (d : ℕ) → step_of b t ≡ JumpsTo d → b ≡ true
 walked_fits false t d is = cc
 walked_fits true t d is = refl
 
@@ -39,7 +39,7 @@ policy_left places n (x ∷ xs) (suc c) = policy_left places (n + 1) xs c
 -- ---- the outcome of the remaining rules
 
 -- A rule that continues remains, or it is removed.
-passed_left : (fits : Rule → Bool) (chains : List Chain) (r : Rule) (rs : List Rule) (o : Option Verdict) (b : Bool) → step_of (fits r) r.target ≡ GoesOn → Gives fits chains rs o → Gives fits chains (if b then rs else r ∷ rs) o
+passed_left : (fits : Rule → Bool) (chains : List Chain) (r : Rule) (rs : List Rule) (o : Option Verdict) (b : Bool) → step_of (fits r) r.target ≡ Continues → Gives fits chains rs o → Gives fits chains (if b then rs else r ∷ rs) o
 passed_left fits chains r rs o true step g = g
 passed_left fits chains r rs o false step g = goes_on step g
 
@@ -81,7 +81,7 @@ verdict_left places chains p state v none has = record {
 }
 
 -- A packet has the same verdict without rules that it does not meet.
-pub same_verdicts : (places : Place → Bool) (chains : List Chain) (p : Packet) (state : CtState) → EachGivesOne chains → MeetsNone places chains p state
+pub same_verdicts : (places : Place → Bool) (chains : List Chain) (p : Packet) (state : CtState) → AreDeterministic chains → MeetsNone places chains p state
     → (v : Verdict) → (HasVerdict chains p state v ↔ HasVerdict (without_places places chains) p state v)
 same_verdicts places chains p state each none v = (
   verdict_left places chains p state v none,

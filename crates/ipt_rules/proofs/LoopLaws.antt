@@ -10,7 +10,7 @@ use Rattle.ipt_rules.specs.declared.rule.Rule.{Rule}
 use Rattle.ipt_rules.specs.declared.rule.Target.{Target}
 use Rattle.ipt_rules.specs.declared.rule.Target.TheVariants.{Accept, Drop, Reject, Return, Count, Jump}
 use Rattle.ipt_rules.specs.Chain.{Chain, rules_of}
-use Rattle.ipt_rules.specs.Loops.{jump_of, jumps_of, jumps_from, LeadsAlong, HasNoLoop}
+use Rattle.ipt_rules.specs.Loops.{jump_of, jumps_of, jumps_from, LeadsAlong, IsAcyclic}
 
 -- A jump of chain c goes to a greater number.
 abbrev pub goes_up : ℕ → Target → Bool
@@ -52,7 +52,7 @@ along_up next up low c [] d above here = subst (λ (e : ℕ). low < e) here abov
 along_up next up low c (x ∷ xs) d above (jump, walk) =
     let higher : c < x = up c x jump in along_up next up low x xs d (omega (arith, above, higher)) walk
 
-pub no_loop_upward : (chains : List Chain) → IsTrue (jumps_go_up 0 chains) → HasNoLoop chains
+pub no_loop_upward : (chains : List Chain) → IsTrue (jumps_go_up 0 chains) → IsAcyclic chains
 no_loop_upward chains up c (x, xs, (jump, walk)) =
     let above : c < c = along_up (jumps_from chains) one c x xs c (one c x jump) walk in omega (arith, above)
   where

@@ -5,9 +5,9 @@ use Rattle.host_net.specs.declared.packet.CtState.{CtState}
 use Rattle.ipt_rules.specs.declared.rule.Rule.{Rule}
 use Rattle.host_net.specs.declared.packet.Verdict.{Verdict}
 use Rattle.ipt_rules.specs.Chain.{Chain, rules_of, policy_of}
-use Rattle.ipt_rules.specs.Meaning.{RuleStep, Walks, Gives, at_end, goes_on, ends, decides, comes_back, verdict_by, HasVerdictIn}
+use Rattle.ipt_rules.specs.Semantics.{RuleEffect, JumpsTo, Gives, at_end, goes_on, ends, decides, comes_back, verdict_by, HasVerdictIn}
 
-same_walked : {s : RuleStep} {c d : ℕ} → s ≡ Walks c → s ≡ Walks d → c ≡ d
+same_walked : {s : RuleEffect} {c d : ℕ} → s ≡ JumpsTo c → s ≡ JumpsTo d → c ≡ d
 same_walked p q = cc
 
 pub gives_once : {fits : Rule → Bool} {chains : List Chain} {rs : List Rule} {o o' : Option Verdict} → Gives fits chains rs o → Gives fits chains rs o' → o ≡ o'

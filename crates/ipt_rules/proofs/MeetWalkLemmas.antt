@@ -8,11 +8,11 @@ use Rattle.ipt_rules.specs.declared.marks.Place.{Place}
 use Rattle.ipt_rules.specs.declared.rule.Rule.{Rule}
 use Rattle.ipt_rules.specs.Chain.{Chain, rules_of}
 use Rattle.ipt_rules.specs.Marks.{AreMarksOf, is_marked, marks_of}
-use Rattle.ipt_rules.specs.Meaning.{GoesOn, Ends, Walks, step_of, Gives}
+use Rattle.ipt_rules.specs.Semantics.{Continues, Ends, JumpsTo, step_of, Gives}
 use Rattle.ipt_rules.specs.Meets.{MeetsFrom, meets_here, meets_later, meets_inside, meets_behind, Meets, DecidesWalk}
 use Rattle.ipt_rules.specs.inner.Marking.{with_mark_if}
 use Rattle.ipt_rules.specs.inner.MeetWalking.{AllMarked, AsksToMark, IsMarkedTo, MarksOnly}
-use Rattle.ipt_rules.specs.inner.Walking.{GivesAlso, returns_at}
+use Rattle.ipt_rules.specs.inner.Walking.{EvaluatesAlso, is_known_to_return}
 use Rattle.ipt_rules.proofs.MarkLemmas.{kept_if, long_if, marked_if, only_if}
 use Rattle.ipt_rules.proofs.MeaningLaws.{gives_once}
 use Rattle.ipt_rules.proofs.MeetsLaws.{ended_by, ended_fits, is_some_by, same_walked, verdict_here}
@@ -20,7 +20,7 @@ use Rattle.ipt_rules.proofs.WalkLemmas.{comes_back_here, decides_here, end_gives
 
 -- ---- the rules that a traversal meets, by its first rule
 
-met_past : {fits : Rule → Bool} {chains : List Chain} {place : Place} {c n : ℕ} {r : Rule} {rs : List Rule} → step_of (fits r) r.target ≡ GoesOn → MeetsFrom fits chains place c n (r ∷ rs)
+met_past : {fits : Rule → Bool} {chains : List Chain} {place : Place} {c n : ℕ} {r : Rule} {rs : List Rule} → step_of (fits r) r.target ≡ Continues → MeetsFrom fits chains place c n (r ∷ rs)
     → ((place ≡ record { chain = c; rule = n }) × (fits r ≡ true)) ⊎ MeetsFrom fits chains place c (n + 1) rs
 met_past step (meets_here at on) = inl (at, on)
 met_past step (meets_later step' m) = inr m
@@ -34,7 +34,7 @@ met_last step (meets_later step' m) = cc
 met_last step (meets_inside step' m) = cc
 met_last step (meets_behind step' back m) = cc
 
-met_jump : {fits : Rule → Bool} {chains : List Chain} {place : Place} {c n d : ℕ} {r : Rule} {rs : List Rule} → step_of (fits r) r.target ≡ Walks d → MeetsFrom fits chains place c n (r ∷ rs)
+met_jump : {fits : Rule → Bool} {chains : List Chain} {place : Place} {c n d : ℕ} {r : Rule} {rs : List Rule} → step_of (fits r) r.target ≡ JumpsTo d → MeetsFrom fits chains place c n (r ∷ rs)
     → ((place ≡ record { chain = c; rule = n }) × (fits r ≡ true)) ⊎ (Meets fits chains d place ⊎ (Gives fits chains (rules_of chains d) None × MeetsFrom fits chains place c (n + 1) rs))
 met_jump step (meets_here at on) = inl (at, on)
 met_jump step (meets_later step' m) = cc
@@ -51,11 +51,11 @@ met_none (meets_behind step back m) none = cc
 
 -- The traversal of chain c reached rule n, and marked the rules that it met.
 pub record Along (fits : Rule → Bool) (chains : List Chain) (c n : ℕ) (start marks : List (List Bool)) : Type 0 where
-  pub also : GivesAlso fits chains (drop n (rules_of chains c)) (rules_of chains c)
+  pub also : EvaluatesAlso fits chains (drop n (rules_of chains c)) (rules_of chains c)
   pub walk : IsMarkedTo fits chains marks c n
   pub only : MarksOnly fits chains c start marks
 
-pub along_first : (fits : Rule → Bool) (chains : List Chain) (c n : ℕ) (marks : List (List Bool)) → GivesAlso fits chains (drop n (rules_of chains c)) (rules_of chains c) → IsMarkedTo fits chains marks c n → Along fits chains c n marks marks
+pub along_first : (fits : Rule → Bool) (chains : List Chain) (c n : ℕ) (marks : List (List Bool)) → EvaluatesAlso fits chains (drop n (rules_of chains c)) (rules_of chains c) → IsMarkedTo fits chains marks c n → Along fits chains c n marks marks
 along_first fits chains c n marks also walk = record { also = also; walk = walk; only = record { kept = λ place on. on; only = λ place on. inl on } }
 
 -- The rule at an index of the rules.
@@ -127,7 +127,7 @@ module _ (fits : Rule → Bool) (chains : List Chain) (c n : ℕ) (r : Rule) (st
   returns_at_rule step = ends_here fits chains (rules_of chains c) n r stands.0 stands.1 so_far.also None step
 
   -- The traversal continues.
-  pub along_past : GoesOn ≡ step_of (fits r) r.target → Along fits chains c (n + 1) start new
+  pub along_past : Continues ≡ step_of (fits r) r.target → Along fits chains c (n + 1) start new
   along_past step = record {
     also = goes_on_here fits chains (rules_of chains c) n r stands.0 stands.1 so_far.also step;
     walk = record {
@@ -141,7 +141,7 @@ module _ (fits : Rule → Bool) (chains : List Chain) (c n : ℕ) (r : Rule) (st
   }
 
   -- The rule jumps to a chain that is known to return, all of whose met rules are marked.
-  pub along_behind : (d : ℕ) → Walks d ≡ step_of (fits r) r.target → Gives fits chains (rules_of chains d) None → AllMarked fits chains start d → Along fits chains c (n + 1) start new
+  pub along_behind : (d : ℕ) → JumpsTo d ≡ step_of (fits r) r.target → Gives fits chains (rules_of chains d) None → AllMarked fits chains start d → Along fits chains c (n + 1) start new
   along_behind d step back all = record {
     also = comes_back_here fits chains (rules_of chains c) n r stands.0 stands.1 so_far.also d step back;
     walk = record {
@@ -161,8 +161,8 @@ module _ (fits : Rule → Bool) (chains : List Chain) (c n : ℕ) (r : Rule) (st
   }
 
   -- The rule jumps to a chain that has to be traversed first.
-  pub asks_to_mark : (returning : List Bool) (d : ℕ) → Walks d ≡ step_of (fits r) r.target → c < length chains → returns_at returning d ≡ false → AsksToMark fits chains returning new c d n
-  asks_to_mark returning d step there unknown = record {
+  pub asks_to_mark : (known_to_return : List Bool) (d : ℕ) → JumpsTo d ≡ step_of (fits r) r.target → c < length chains → is_known_to_return known_to_return d ≡ false → AsksToMark fits chains known_to_return new c d n
+  asks_to_mark known_to_return d step there unknown = record {
     asks = record {
       jumps = jump_at (rules_of chains c) n r d (slice_get_read (rules_of chains c) (length (rules_of chains c)) n r refl stands.0 stands.1) (walked_jump (fits r) r.target d step);
       unknown = unknown;

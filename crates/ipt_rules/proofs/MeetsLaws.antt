@@ -12,9 +12,9 @@ use Rattle.ipt_rules.specs.declared.rule.Target.{Target}
 use Rattle.ipt_rules.specs.declared.rule.Target.TheVariants.{Accept, Drop, Reject, Return, Count, Jump}
 use Rattle.ipt_rules.specs.Chain.{Chain, rules_of, policy_of}
 use Rattle.ipt_rules.specs.Matching.{matches}
-use Rattle.ipt_rules.specs.Meaning.{RuleStep, Ends, Walks, step_of, Gives, at_end, goes_on, ends, decides, comes_back, verdict_by}
+use Rattle.ipt_rules.specs.Semantics.{RuleEffect, Ends, JumpsTo, step_of, Gives, at_end, goes_on, ends, decides, comes_back, verdict_by}
 use Rattle.ipt_rules.specs.Meets.{MeetsFrom, meets_here, meets_later, meets_inside, meets_behind, Meets, DecidesWalk, IsDecider, decided, target_verdict, verdict_at}
-use Rattle.ipt_rules.specs.inner.OneOutcome.{EachGivesOne, HasVerdict}
+use Rattle.ipt_rules.specs.inner.OneOutcome.{AreDeterministic, HasVerdict}
 use Rattle.ipt_rules.proofs.MeaningLaws.{gives_once}
 
 -- ---- the first of the remaining rules
@@ -99,11 +99,11 @@ decider_met {fits} {chains} (comes_back {r} {rs} step back g) c n v some is =
 
 -- ---- one rule decides
 
-pub same_walked : {s : RuleStep} {c d : ℕ} → s ≡ Walks c → s ≡ Walks d → c ≡ d
+pub same_walked : {s : RuleEffect} {c d : ℕ} → s ≡ JumpsTo c → s ≡ JumpsTo d → c ≡ d
 same_walked p q = cc
 
 -- A chain that returns meets no rule that decides.
-returns_not : {fits : Rule → Bool} {chains : List Chain} {place : Place} {c d : ℕ} {s : RuleStep} {v : Verdict} → s ≡ Walks c → s ≡ Walks d → Meets fits chains c place → verdict_at chains place ≡ Some v
+returns_not : {fits : Rule → Bool} {chains : List Chain} {place : Place} {c d : ℕ} {s : RuleEffect} {v : Verdict} → s ≡ JumpsTo c → s ≡ JumpsTo d → Meets fits chains c place → verdict_at chains place ≡ Some v
     → Gives fits chains (rules_of chains d) None → ⊥
 returns_not {fits} {chains} step other m has back =
     let e = gives_once (meets_gives m refl has) (subst (λ (x : ℕ). Gives fits chains (rules_of chains x) None) (same_walked other step) back) in cc
@@ -163,7 +163,7 @@ module _ (fits : Rule → Bool) (chains : List Chain) (c : ℕ) where
   outcome_decided (Some v) (Some p) g (m, some) = let (w, has) = some_is some in gives_once g (meets_gives m refl has) ∙ sym has
 
 -- The verdict of a packet is the verdict of its decider.
-pub decider_verdict : (chains : List Chain) (p : Packet) (state : CtState) (d : Option Place) → EachGivesOne chains → IsDecider chains p state d → HasVerdict chains p state (decided chains d)
+pub decider_verdict : (chains : List Chain) (p : Packet) (state : CtState) (d : Option Place) → AreDeterministic chains → IsDecider chains p state d → HasVerdict chains p state (decided chains d)
 decider_verdict chains p state d each is =
     let one = each (matches p state) 1 0 in
     record {

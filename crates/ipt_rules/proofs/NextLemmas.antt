@@ -5,8 +5,8 @@ use Rattle.std.proofs.lemmas.List.{drop_more}
 use Rattle.std.specs.Prelude.{IfSome}
 use Rattle.std.proofs.lemmas.Option.{same_Some, slice_get_within, slice_get_cases, slice_get_read}
 use Rattle.std.specs.Option.{option_map_or}
-use Rattle.host_net.specs.declared.cover.Covers.{Covers}
-use Rattle.host_net.specs.declared.cover.Ends.{Ends}
+use Rattle.host_net.specs.declared.tuple_space.TupleSpaceIndex.{TupleSpaceIndex}
+use Rattle.host_net.specs.declared.tuple_space.Ends.{Ends}
 use Rattle.host_net.specs.declared.packet.Packet.{Packet}
 use Rattle.host_net.specs.declared.packet.CtState.{CtState}
 use Rattle.host_net.specs.declared.prefix.Prefix.{Prefix}
@@ -18,9 +18,9 @@ use Rattle.ipt_rules.specs.declared.rule.Rule.{Rule}
 use Rattle.ipt_rules.specs.Chain.{Chain, rules_of}
 use Rattle.ipt_rules.specs.ChainTable.{rule_count}
 use Rattle.ipt_rules.specs.Matching.{address_matches, matches, port_matches, protocol_matches, turned}
-use Rattle.ipt_rules.specs.Meaning.{GoesOn, step_of}
+use Rattle.ipt_rules.specs.Semantics.{Continues, step_of}
 use Rattle.ipt_rules.specs.inner.Next.{AreIndexes, IsNext, NoneFits, all_ends, ends_of, part_of}
-use Rattle.ipt_rules.specs.inner.Walking.{GivesAlso}
+use Rattle.ipt_rules.specs.inner.Walking.{EvaluatesAlso}
 use Rattle.ipt_rules.proofs.Gets.{get_pushed}
 use Rattle.ipt_rules.proofs.WalkLemmas.{goes_on_here}
 
@@ -73,27 +73,27 @@ next_small rules from src dst (Some at) few first =
 
 -- ---- skipped rules do not change the outcome
 
-passes : (fits : Rule → Bool) (r : Rule) → fits r ≡ false → GoesOn ≡ step_of (fits r) r.target
+passes : (fits : Rule → Bool) (r : Rule) → fits r ≡ false → Continues ≡ step_of (fits r) r.target
 passes fits r off = sym (ap (λ (b : Bool). step_of b r.target) off)
 
 passed_some : (fits : Rule → Bool) (chains : List Chain) (rules : List Rule) (from n : ℕ) → from + n ≤ length rules → NoneFits fits rules from (from + n)
-    → GivesAlso fits chains (drop from rules) rules → GivesAlso fits chains (drop (from + n) rules) rules
+    → EvaluatesAlso fits chains (drop from rules) rules → EvaluatesAlso fits chains (drop (from + n) rules) rules
 passed_some fits chains rules from zero within none also =
-    subst (λ (k : ℕ). GivesAlso fits chains (drop k rules) rules) (omega arith) also
+    subst (λ (k : ℕ). EvaluatesAlso fits chains (drop k rules) rules) (omega arith) also
 passed_some fits chains rules from (suc n) within none also =
     let before = passed_some fits chains rules from n (omega (arith, within)) (λ i r low high there. none i r low (omega (arith, high)) there) also in
     elim (slice_get_cases rules (from + n)).1 [
       | inl (r, low, there, is) ↦
-          subst (λ (k : ℕ). GivesAlso fits chains (drop k rules) rules) (omega arith)
+          subst (λ (k : ℕ). EvaluatesAlso fits chains (drop k rules) rules) (omega arith)
           (goes_on_here fits chains rules (from + n) r low (sym is) before (passes fits r (none (from + n) r (omega arith) (omega arith) there)))
       | inr (past, there) ↦ absurd (omega (arith, past, within))
     ]
 
 pub gives_passed : (fits : Rule → Bool) (chains : List Chain) (rules : List Rule) (from at : ℕ) → from ≤ at → at ≤ length rules → NoneFits fits rules from at
-    → GivesAlso fits chains (drop from rules) rules → GivesAlso fits chains (drop at rules) rules
+    → EvaluatesAlso fits chains (drop from rules) rules → EvaluatesAlso fits chains (drop at rules) rules
 gives_passed fits chains rules from at later within none also =
     let place : from + (at - from) ≡ at = omega (arith, later) in
-    subst (λ (k : ℕ). GivesAlso fits chains (drop k rules) rules) place
+    subst (λ (k : ℕ). EvaluatesAlso fits chains (drop k rules) rules) place
     (passed_some fits chains rules from (at - from) (omega (arith, place, within)) (λ i r low high there. none i r low (omega (arith, place, high)) there) also)
 
 -- ---- the indexes of chains
@@ -111,17 +111,17 @@ rules_few [] i x low is = absurd (omega (arith, low))
 rules_few (y ∷ ys) zero x low is = let same = ap (λ (c : Chain). length c.rules) is in omega (arith, same)
 rules_few (y ∷ ys) (suc i) x low is = let rest = rules_few ys i x (omega (arith, low)) is in omega (arith, rest)
 
-pub indexes_more : (chains : List Chain) (indexes now : List Covers) (i : ℕ) (x : Chain) (rules : List Rule) (index : Covers) → i < length chains → x ≡ get_or chains i x → rules ≡ x.rules → length indexes ≡ i
-    → ((c : ℕ) (own : Covers) → slice_get indexes c ≡ Some own → IsIndexOf (all_ends (rules_of chains c)) own) → IsIndexOf (all_ends rules) index → now ≡ indexes ++ index ∷ []
-    → (c : ℕ) (own : Covers) → slice_get now c ≡ Some own → IsIndexOf (all_ends (rules_of chains c)) own
+pub indexes_more : (chains : List Chain) (indexes now : List TupleSpaceIndex) (i : ℕ) (x : Chain) (rules : List Rule) (index : TupleSpaceIndex) → i < length chains → x ≡ get_or chains i x → rules ≡ x.rules → length indexes ≡ i
+    → ((c : ℕ) (own : TupleSpaceIndex) → slice_get indexes c ≡ Some own → IsIndexOf (all_ends (rules_of chains c)) own) → IsIndexOf (all_ends rules) index → now ≡ indexes ++ index ∷ []
+    → (c : ℕ) (own : TupleSpaceIndex) → slice_get now c ≡ Some own → IsIndexOf (all_ends (rules_of chains c)) own
 indexes_more chains indexes now i x rules index low is same counted so_far new more c own there =
-    elim (get_pushed indexes index c own (ap (λ (l : List Covers). slice_get l c) (sym more) ∙ there)) [
+    elim (get_pushed indexes index c own (ap (λ (l : List TupleSpaceIndex). slice_get l c) (sym more) ∙ there)) [
       | inl old ↦ so_far c own old
       | inr (place, last) ↦
           let at : c ≡ i = place ∙ counted in
           let here : slice_get chains i ≡ Some x = slice_get_read chains (length chains) i x refl low is in
           let own_rules : rules ≡ rules_of chains c = same ∙ ap (λ (o : Option Chain). option_map_or (λ y. y.rules) o []) (sym here) ∙ ap (rules_of chains) (sym at) in
-          subst (λ (y : Covers). IsIndexOf (all_ends (rules_of chains c)) y) last (subst (λ (rs : List Rule). IsIndexOf (all_ends rs) index) own_rules new)
+          subst (λ (y : TupleSpaceIndex). IsIndexOf (all_ends (rules_of chains c)) y) last (subst (λ (rs : List Rule). IsIndexOf (all_ends rs) index) own_rules new)
     ]
 
 -- A chain has at most as many rules as all chains, also if it does not exist.
@@ -131,6 +131,6 @@ chain_few (x ∷ chains) zero = omega arith
 chain_few (x ∷ chains) (suc c) = let rest = chain_few chains c in omega (arith, rest)
 
 -- No chain has an index.
-pub no_indexes : (indexes : List Covers) (chains : List Chain) → indexes ≡ [] → AreIndexes indexes chains
+pub no_indexes : (indexes : List TupleSpaceIndex) (chains : List Chain) → indexes ≡ [] → AreIndexes indexes chains
 no_indexes [] chains none = λ c index there. cc
 no_indexes (index ∷ indexes) chains none = cc

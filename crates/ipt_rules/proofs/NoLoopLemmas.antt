@@ -6,8 +6,8 @@ use Rattle.std.proofs.lemmas.Option.{same_Some, slice_get_past}
 use Rattle.ipt_rules.specs.declared.rule.Rule.{Rule}
 use Rattle.ipt_rules.specs.Chain.{Chain, rules_of}
 use Rattle.ipt_rules.specs.inner.ChainTable.{rules_in}
-use Rattle.ipt_rules.specs.Loops.{jumps_of, jumps_from, LeadsAlong, HasNoLoop}
-use Rattle.ipt_rules.specs.inner.Ranks.{place_of, IsBefore, IsOrder, IsRanking}
+use Rattle.ipt_rules.specs.Loops.{jumps_of, jumps_from, LeadsAlong, IsAcyclic}
+use Rattle.ipt_rules.specs.inner.Ranks.{place_of, IsBefore, IsOrder, IsTopologicalOrder}
 
 leads_lower : (next : ℕ → List ℕ) (count : ℕ) (order : List ℕ) (places : List (Option ℕ)) → IsOrder next count order places
     → (xs : List ℕ) (c i x d : ℕ) → place_of places c ≡ Some i → LeadsAlong next c (x ∷ xs) d → IsBefore places d i
@@ -19,7 +19,7 @@ leads_lower next count order places is (y ∷ ys) c i x d at along =
     record { place = later.place; placed = later.placed; before = omega (arith, later.before, here.before) }
 
 pub no_loop_in_order : (chains : List Chain) (order : List ℕ) (places : List (Option ℕ))
-    → IsRanking (jumps_from chains) (length chains) order places → HasNoLoop chains
+    → IsTopologicalOrder (jumps_from chains) (length chains) order places → IsAcyclic chains
 no_loop_in_order chains order places is c back = elim (cases_lt c (length chains)) [
   | inl low ↦
       let own : IsBefore places c (length order) = is.every c low in

@@ -10,7 +10,7 @@ use Rattle.ipt_rules.specs.declared.rule.Target.TheVariants.{Jump}
 use Rattle.host_net.specs.declared.packet.Verdict.{Verdict}
 use Rattle.ipt_rules.specs.Matching.{matches}
 use Rattle.ipt_rules.specs.Chain.{Chain, rules_of, policy_of}
-use Rattle.ipt_rules.specs.Meaning.{RuleStep, GoesOn, Ends, Walks, step_of, Gives, at_end, goes_on, ends, decides, comes_back, verdict_by, HasVerdictIn}
+use Rattle.ipt_rules.specs.Semantics.{RuleEffect, Continues, Ends, JumpsTo, step_of, Gives, at_end, goes_on, ends, decides, comes_back, verdict_by, HasVerdictIn}
 use Rattle.ipt_rules.specs.inner.Saying.{Says, first_said}
 
 module _ (fits : Rule → Bool) (chains : List Chain) where
@@ -31,12 +31,12 @@ module _ (fits : Rule → Bool) (chains : List Chain) where
   says_append xs ys (Some v) b first second =
       λ rest. regrouped xs ys rest (Some v) (first (ys ++ rest))
 
-  step_at : (r : Rule) (b : Bool) (s : RuleStep) → fits r ≡ b → step_of b r.target ≡ s → step_of (fits r) r.target ≡ s
+  step_at : (r : Rule) (b : Bool) (s : RuleEffect) → fits r ≡ b → step_of b r.target ≡ s → step_of (fits r) r.target ≡ s
   step_at r b s is step = ap (λ (f : Bool). step_of f r.target) is ∙ step
 
   one_said : (r : Rule) (v : Verdict) → step_of true r.target ≡ Ends (Some v) → (b : Bool) → fits r ≡ b → Says fits chains (r ∷ []) (if b then Some v else None)
   one_said r v target true is = λ rest. ends (step_at r true (Ends (Some v)) is target)
-  one_said r v target false is = λ rest o g. goes_on (step_at r false GoesOn is refl) g
+  one_said r v target false is = λ rest o g. goes_on (step_at r false Continues is refl) g
 
   -- A rule that ends its chain with a verdict, if it matches.
   pub says_one : (r : Rule) (v : Verdict) → step_of true r.target ≡ Ends (Some v) → Says fits chains (r ∷ []) (if fits r then Some v else None)
@@ -44,10 +44,10 @@ module _ (fits : Rule → Bool) (chains : List Chain) where
 
   jump_said : (r : Rule) (c : ℕ) (o : Option Verdict) → r.target ≡ Jump c → Gives fits chains (rules_of chains c) o → (b : Bool) → fits r ≡ b → Says fits chains (r ∷ []) (if b then o else None)
   jump_said r c None target walked true is =
-      λ rest o g. comes_back (step_at r true (Walks c) is (ap (step_of true) target)) walked g
+      λ rest o g. comes_back (step_at r true (JumpsTo c) is (ap (step_of true) target)) walked g
   jump_said r c (Some v) target walked true is =
-      λ rest. decides (step_at r true (Walks c) is (ap (step_of true) target)) walked
-  jump_said r c o target walked false is = λ rest p g. goes_on (step_at r false GoesOn is refl) g
+      λ rest. decides (step_at r true (JumpsTo c) is (ap (step_of true) target)) walked
+  jump_said r c o target walked false is = λ rest p g. goes_on (step_at r false Continues is refl) g
 
   -- A jump has the outcome of its chain, if the rule matches.
   pub says_jump : (r : Rule) (c : ℕ) (o : Option Verdict) → r.target ≡ Jump c → Gives fits chains (rules_of chains c) o → Says fits chains (r ∷ []) (if fits r then o else None)

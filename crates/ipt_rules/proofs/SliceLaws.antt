@@ -17,11 +17,11 @@ use Rattle.ipt_rules.specs.Chain.{Chain, rules_of, policy_of}
 use Rattle.ipt_rules.specs.ChainTable.{rule_count}
 use Rattle.ipt_rules.specs.Loops.{jump_of, jumps_of}
 use Rattle.ipt_rules.specs.Matching.{matches}
-use Rattle.ipt_rules.specs.Meaning.{GoesOn, Walks, step_of, Gives, at_end, goes_on, ends, decides, comes_back, verdict_by, HasVerdictIn}
+use Rattle.ipt_rules.specs.Semantics.{Continues, JumpsTo, step_of, Gives, at_end, goes_on, ends, decides, comes_back, verdict_by, HasVerdictIn}
 use Rattle.ipt_rules.specs.Slices.{HaveSameVerdicts}
-use Rattle.ipt_rules.specs.inner.Ranks.{HasRanking}
+use Rattle.ipt_rules.specs.inner.Ranks.{HasTopologicalOrder}
 use Rattle.ipt_rules.specs.inner.Slicing.{AreSlices, FitsNone, IsThinned, Thins, thin_end, thin_keeps, thin_drops, all_stay, chains_stay, stays}
-use Rattle.ipt_rules.specs.inner.Walking.{returns_at}
+use Rattle.ipt_rules.specs.inner.Walking.{is_known_to_return}
 use Rattle.ipt_rules.proofs.MeaningLaws.{verdict_once}
 use Rattle.ipt_rules.proofs.WalkLemmas.{each_gives_one, later_jump, rules_at, walked_jump}
 
@@ -47,20 +47,20 @@ slices_fewer b marks n [] [] are = omega arith
 slices_fewer b marks n [] (y ∷ ys) are = absurd are
 slices_fewer b marks n (x ∷ xs) [] are = absurd are
 slices_fewer b marks n (x ∷ xs) (y ∷ ys) are =
-    let first = fewer_in b (returns_at marks n) x.rules y.rules are.0.rules in
+    let first = fewer_in b (is_known_to_return marks n) x.rules y.rules are.0.rules in
     let others = slices_fewer b marks (n + 1) xs ys are.1 in
     omega (arith, first, others)
 
-marks_at : (b : PacketBox) (marks : List Bool) (n m : ℕ) (rs ts : List Rule) → n ≡ m → IsThinned b (returns_at marks n) rs ts → IsThinned b (returns_at marks m) rs ts
-marks_at b marks n m rs ts same is = subst (λ (k : ℕ). IsThinned b (returns_at marks k) rs ts) same is
+marks_at : (b : PacketBox) (marks : List Bool) (n m : ℕ) (rs ts : List Rule) → n ≡ m → IsThinned b (is_known_to_return marks n) rs ts → IsThinned b (is_known_to_return marks m) rs ts
+marks_at b marks n m rs ts same is = subst (λ (k : ℕ). IsThinned b (is_known_to_return marks k) rs ts) same is
 
 no_rules : (b : PacketBox) (marked : Bool) → IsThinned b marked [] []
 no_rules b true = thin_end
 no_rules b false = refl
 
 -- The rules of chain c.
-pub slice_at : (b : PacketBox) (marks : List Bool) (n : ℕ) (xs ys : List Chain) (c : ℕ) → AreSlices b marks n xs ys → IsThinned b (returns_at marks (n + c)) (rules_of xs c) (rules_of ys c)
-slice_at b marks n [] [] c are = no_rules b (returns_at marks (n + c))
+pub slice_at : (b : PacketBox) (marks : List Bool) (n : ℕ) (xs ys : List Chain) (c : ℕ) → AreSlices b marks n xs ys → IsThinned b (is_known_to_return marks (n + c)) (rules_of xs c) (rules_of ys c)
+slice_at b marks n [] [] c are = no_rules b (is_known_to_return marks (n + c))
 slice_at b marks n [] (y ∷ ys) c are = absurd are
 slice_at b marks n (x ∷ xs) [] c are = absurd are
 slice_at b marks n (x ∷ xs) (y ∷ ys) zero are = marks_at b marks n (n + 0) x.rules y.rules (omega arith) are.0.rules
@@ -104,20 +104,20 @@ jumps_in b true rs ts d is h = thins_jumps is d h
 jumps_in b false rs ts d is h =
     let none : Contains [] d = subst (λ (xs : List Rule). Contains (jumps_of xs) d) is h in absurd (omega (arith, none.1))
 
-pub slice_ranking : (b : PacketBox) (marks : List Bool) (xs ys : List Chain) → AreSlices b marks 0 xs ys → HasRanking xs → HasRanking ys
-slice_ranking b marks xs ys are ranking =
+pub slice_ranking : (b : PacketBox) (marks : List Bool) (xs ys : List Chain) → AreSlices b marks 0 xs ys → HasTopologicalOrder xs → HasTopologicalOrder ys
+slice_ranking b marks xs ys are topological_order =
     let long = slices_long b marks 0 xs ys are in
     record {
-      order = ranking.order;
-      places = ranking.places;
+      order = topological_order.order;
+      places = topological_order.places;
       is = record {
         ordered = record {
-          inside = λ i c there. let low = ranking.is.ordered.inside i c there in omega (arith, low, long);
-          there = ranking.is.ordered.there;
-          back = λ i c d there jump. ranking.is.ordered.back i c d there (jumps_in b (returns_at marks (0 + c)) (rules_of xs c) (rules_of ys c) d (slice_at b marks 0 xs ys c are) jump);
+          inside = λ i c there. let low = topological_order.is.ordered.inside i c there in omega (arith, low, long);
+          there = topological_order.is.ordered.there;
+          back = λ i c d there jump. topological_order.is.ordered.back i c d there (jumps_in b (is_known_to_return marks (0 + c)) (rules_of xs c) (rules_of ys c) d (slice_at b marks 0 xs ys c are) jump);
         };
-        short = let short = ranking.is.short in omega (arith, short, long);
-        every = λ c low. ranking.is.every c (omega (arith, low, long));
+        short = let short = topological_order.is.short in omega (arith, short, long);
+        every = λ c low. topological_order.is.every c (omega (arith, low, long));
       };
     }
 
@@ -128,7 +128,7 @@ rules_stay marks [] c all = refl
 rules_stay marks (y ∷ ys) zero all = (and_parts (all_stay marks y.rules) (chains_stay marks ys) all).0
 rules_stay marks (y ∷ ys) (suc c) all = rules_stay marks ys c (and_parts (all_stay marks y.rules) (chains_stay marks ys) all).1
 
-target_stays : (marks : List Bool) (t : Target) (d : ℕ) → t ≡ Jump d → stays marks t ≡ true → returns_at marks d ≡ true
+target_stays : (marks : List Bool) (t : Target) (d : ℕ) → t ≡ Jump d → stays marks t ≡ true → is_known_to_return marks d ≡ true
 target_stays marks t d is stay = ap (stays marks) (sym is) ∙ stay
 
 -- ---- outcomes
@@ -137,7 +137,7 @@ module _ (b : PacketBox) (p : Packet) (inside : IsIn b p) (state : CtState) (mar
   fits : Rule → Bool
   fits = matches p state
 
-  not_here : (r : Rule) → FitsNone b r → step_of (matches p state r) r.target ≡ GoesOn
+  not_here : (r : Rule) → FitsNone b r → step_of (matches p state r) r.target ≡ Continues
   not_here r none = ap (λ (x : Bool). step_of x r.target) (none p inside state)
 
   through_end : {rs : List Rule} → Thins b rs [] → Gives (matches p state) xs rs None
@@ -149,14 +149,14 @@ module _ (b : PacketBox) (p : Packet) (inside : IsIn b p) (state : CtState) (mar
   through o (thin_keeps {rs = us} t) here = here us t
   through o (thin_drops {r = q} none t) here = goes_on (not_here q none) (through o t here)
 
-  marked : (c : ℕ) → returns_at marks c ≡ true → Thins b (rules_of xs c) (rules_of ys c)
-  marked c is = by_mark (returns_at marks c) (rules_of xs c) (rules_of ys c) is (marks_at b marks (0 + c) c (rules_of xs c) (rules_of ys c) (omega arith) (slice_at b marks 0 xs ys c are))
+  marked : (c : ℕ) → is_known_to_return marks c ≡ true → Thins b (rules_of xs c) (rules_of ys c)
+  marked c is = by_mark (is_known_to_return marks c) (rules_of xs c) (rules_of ys c) is (marks_at b marks (0 + c) c (rules_of xs c) (rules_of ys c) (omega arith) (slice_at b marks 0 xs ys c are))
     where
       by_mark : (m : Bool) (rs ts : List Rule) → m ≡ true → IsThinned b m rs ts → Thins b rs ts
       by_mark true rs ts is thinned = thinned
       by_mark false rs ts is thinned = cc
 
-  walked : (r : Rule) (ts : List Rule) (c : ℕ) → step_of (matches p state r) r.target ≡ Walks c → all_stay marks (r ∷ ts) ≡ true → returns_at marks c ≡ true
+  walked : (r : Rule) (ts : List Rule) (c : ℕ) → step_of (matches p state r) r.target ≡ JumpsTo c → all_stay marks (r ∷ ts) ≡ true → is_known_to_return marks c ≡ true
   walked r ts c step all = target_stays marks r.target c (walked_jump (matches p state r) r.target c (sym step)) (and_parts (stays marks r.target) (all_stay marks ts) all).0
 
   later : (r : Rule) (ts : List Rule) → all_stay marks (r ∷ ts) ≡ true → all_stay marks ts ≡ true
@@ -171,7 +171,7 @@ module _ (b : PacketBox) (p : Packet) (inside : IsIn b p) (state : CtState) (mar
   gives_slice (comes_back {r} {rs = ts} {o} {c} step h g) rs t all =
       through o t (λ us u. comes_back step (gives_slice h (rules_of xs c) (marked c (walked r ts c step all)) (rules_stay marks ys c stay)) (gives_slice g us u (later r ts all)))
 
-  pub verdict_slice : (v : Verdict) → returns_at marks 1 ≡ true → HasVerdictIn ys 1 p state v → HasVerdictIn xs 1 p state v
+  pub verdict_slice : (v : Verdict) → is_known_to_return marks 1 ≡ true → HasVerdictIn ys 1 p state v → HasVerdictIn xs 1 p state v
   verdict_slice v there is = record {
     outcome = is.outcome;
     gives = gives_slice is.gives (rules_of xs 1) (marked 1 there) (rules_stay marks ys 1 stay);
@@ -179,11 +179,11 @@ module _ (b : PacketBox) (p : Packet) (inside : IsIn b p) (state : CtState) (mar
   }
 
 -- The slice has the verdicts of the chains.
-pub same_verdicts : (b : PacketBox) (marks : List Bool) (xs ys : List Chain) → AreSlices b marks 0 xs ys → chains_stay marks ys ≡ true → returns_at marks 1 ≡ true → HasRanking ys
+pub same_verdicts : (b : PacketBox) (marks : List Bool) (xs ys : List Chain) → AreSlices b marks 0 xs ys → chains_stay marks ys ≡ true → is_known_to_return marks 1 ≡ true → HasTopologicalOrder ys
     → HaveSameVerdicts b xs ys
-same_verdicts b marks xs ys are stay there ranking p inside state v = (
+same_verdicts b marks xs ys are stay there topological_order p inside state v = (
   (λ is.
-      let one = each_gives_one ys ranking (matches p state) 1 0 in
+      let one = each_gives_one ys topological_order (matches p state) 1 0 in
       let own : HasVerdictIn ys 1 p state (verdict_by (policy_of ys 1) one.outcome) = record { outcome = one.outcome; gives = one.gives; verdict = refl } in
       subst (λ (w : Verdict). HasVerdictIn ys 1 p state w) (verdict_once (verdict_slice b p inside state marks xs ys are stay _ there own) is) own),
   (λ is. verdict_slice b p inside state marks xs ys are stay v there is),

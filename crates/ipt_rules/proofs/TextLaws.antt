@@ -8,7 +8,7 @@ use Rattle.std.proofs.lemmas.Fmt.{length-decimal-le}
 use Rattle.std.proofs.lemmas.Bool.{cases_lt, and_parts, and_from}
 use Rattle.std.proofs.lemmas.Bool.Decides.{nat_tests}
 use Rattle.host_net.proofs.PrefixTextLaws.{prefix_short}
-use Rattle.host_net.specs.Service.{icmp, tcp, udp, last_port, has_ports}
+use Rattle.host_net.specs.Service.{icmp, tcp, udp, max_port, has_ports}
 use Rattle.host_net.specs.ServiceText.{protocol_text}
 use Rattle.ipt_rules.specs.declared.rule.AddrMatch.{AddrMatch}
 use Rattle.ipt_rules.specs.declared.rule.PortMatch.{PortMatch}
@@ -79,9 +79,9 @@ last_port_short : (more : Bool) (high : ℕ) → length (decimal high) ≤ 5 →
 last_port_short true high short = simp length-append (omega arith)
 last_port_short false high short = omega arith
 
-pub ports_short : (low high : ℕ) → nat_le low high ≡ true → nat_le high last_port ≡ true → length (ports_text low high) ≤ 11
+pub ports_short : (low high : ℕ) → nat_le low high ≡ true → nat_le high max_port ≡ true → length (ports_text low high) ≤ 11
 ports_short low high order fits =
-    let small : high ≤ last_port = grind (arith, nat_tests) in
+    let small : high ≤ max_port = grind (arith, nat_tests) in
     let lower : low ≤ high = grind (arith, nat_tests) in
     let first : length (decimal low) ≤ 5 = length-decimal-le 5 low (omega arith) (omega arith) (omega arith) in
     let last : length (decimal high) ≤ 5 = length-decimal-le 5 high (omega arith) (omega arith) (omega arith) in
@@ -91,8 +91,8 @@ port_part_short : (a b c d e f g h i : ℕ) (named : Bool) (part : Option PortMa
     → length (port_text (a ∷ b ∷ c ∷ d ∷ e ∷ f ∷ g ∷ h ∷ i ∷ []) part) ≤ 22
 port_part_short a b c d e f g h i named None fits = omega arith
 port_part_short a b c d e f g h i named (Some part) fits =
-    let parts = and_parts named (nat_le part.low part.high && nat_le part.high last_port) fits in
-    let order = and_parts (nat_le part.low part.high) (nat_le part.high last_port) parts.1 in
+    let parts = and_parts named (nat_le part.low part.high && nat_le part.high max_port) fits in
+    let order = and_parts (nat_le part.low part.high) (nat_le part.high max_port) parts.1 in
     let whole = length-append (negation_text part.negated) (a ∷ b ∷ c ∷ d ∷ e ∷ f ∷ g ∷ h ∷ i ∷ ports_text part.low part.high) in
     omega (arith, whole, negation_short part.negated, ports_short part.low part.high order.0 order.1)
 
@@ -134,9 +134,9 @@ service_short None None (Some d) legal source target = cc
 service_short None (Some s) dport legal source target = cc
 service_short (Some part) None None legal source target = alone_short part legal
 service_short (Some part) None (Some d) legal source target =
-    named_short part None (Some d) (and_parts (names_ports (Some part)) (nat_le d.low d.high && nat_le d.high last_port) target).0 source target true
+    named_short part None (Some d) (and_parts (names_ports (Some part)) (nat_le d.low d.high && nat_le d.high max_port) target).0 source target true
 service_short (Some part) (Some s) dport legal source target =
-    named_short part (Some s) dport (and_parts (names_ports (Some part)) (nat_le s.low s.high && nat_le s.high last_port) source).0 source target true
+    named_short part (Some s) dport (and_parts (names_ports (Some part)) (nat_le s.low s.high && nat_le s.high max_port) source).0 source target true
 
 -- 2. A line.
 

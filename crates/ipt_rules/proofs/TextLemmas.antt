@@ -15,7 +15,7 @@ use Rattle.ipt_rules.specs.declared.rule.Target.TheVariants.{Accept, Drop, Rejec
 use Rattle.ipt_rules.specs.Chain.{Chain, rules_of}
 use Rattle.ipt_rules.specs.ChainTable.{rule_count}
 use Rattle.ipt_rules.specs.inner.Jumps.{JumpsAreKnown, JumpsIn}
-use Rattle.ipt_rules.specs.inner.Build.{jumps_nowhere}
+use Rattle.ipt_rules.specs.inner.Build.{has_unknown_target}
 use Rattle.ipt_rules.specs.Text.{text_lines, commit_line, chain_line, rule_line, rule_lines}
 use Rattle.ipt_rules.proofs.BuildLemmas.{chains_at}
 use Rattle.ipt_rules.proofs.ChainLemmas.{rules_of_read, chain_read}
@@ -64,7 +64,7 @@ commit_there chains i left past few =
     let first : left ≡ 0 = omega (arith, ap rule_count none) in
     ap (λ (xs : List Chain). slice_get (flat_map (rule_lines chains) xs ++ commit_line ∷ []) left) none ∙ ap (slice_get (commit_line ∷ [])) first
 
-target_in : (count : ℕ) (t : Target) → not (jumps_nowhere count t) ≡ true → JumpsIn count t
+target_in : (count : ℕ) (t : Target) → not (has_unknown_target count t) ≡ true → JumpsIn count t
 target_in count Accept known = tt
 target_in count Drop known = tt
 target_in count Reject known = tt
@@ -75,8 +75,8 @@ target_in count (Jump d) known = grind (arith, nat_tests)
 pub jump_in : (chains : List Chain) (i : ℕ) (x : Chain) (rules : List Rule) (left : ℕ) (r : Rule) → JumpsAreKnown chains → i < length chains → x ≡ get_or chains i x → rules ≡ x.rules → left < length rules → r ≡ get_or rules left r → JumpsIn (length chains) r.target
 jump_in chains i x rules left r jumps h is same here at =
     let read : rules ≡ rules_of chains i = same ∙ sym (rules_of_read chains i x h is) in
-    let all : list_all (λ s. not (jumps_nowhere (length chains) s.target)) rules ≡ true = rw read (jumps.from i) in
-    target_in (length chains) r.target (all_at (λ s. not (jumps_nowhere (length chains) s.target)) rules left r all here at)
+    let all : list_all (λ s. not (has_unknown_target (length chains) s.target)) rules ≡ true = rw read (jumps.from i) in
+    target_in (length chains) r.target (all_at (λ s. not (has_unknown_target (length chains) s.target)) rules left r all here at)
 
 -- A rule passes a test that all rules pass.
 chain_passes : (test : Rule → Bool) (xs : List Chain) (i : ℕ) (x : Chain) → list_all (λ y. list_all test y.rules) xs ≡ true → i < length xs → x ≡ get_or xs i x

@@ -15,16 +15,16 @@ use Rattle.host_net.specs.declared.packet.Verdict.{Verdict}
 use Rattle.ipt_rules.specs.Chain.{Chain, rules_of}
 use Rattle.ipt_rules.specs.inner.ChainTable.{rules_in}
 use Rattle.ipt_rules.specs.Loops.{jump_of, jumps_of, jumps_from}
-use Rattle.ipt_rules.specs.inner.Ranks.{place_of, IsBefore, IsOrder, HasRanking}
+use Rattle.ipt_rules.specs.inner.Ranks.{place_of, IsBefore, IsOrder, HasTopologicalOrder}
 use Rattle.ipt_rules.proofs.MeaningLaws.{gives_once}
-use Rattle.ipt_rules.specs.Meaning.{RuleStep, GoesOn, Ends, Walks, step_of, Gives, at_end, goes_on, ends, decides, comes_back}
-use Rattle.ipt_rules.specs.inner.OneOutcome.{EachGivesOne}
-use Rattle.ipt_rules.specs.inner.Walking.{GivesAlso}
+use Rattle.ipt_rules.specs.Semantics.{RuleEffect, Continues, Ends, JumpsTo, step_of, Gives, at_end, goes_on, ends, decides, comes_back}
+use Rattle.ipt_rules.specs.inner.OneOutcome.{AreDeterministic}
+use Rattle.ipt_rules.specs.inner.Walking.{EvaluatesAlso}
 
 pub rules_at : (rules : List Rule) (i : ℕ) (r : Rule) → i < length rules → r ≡ get_or rules i r → drop i rules ≡ r ∷ drop (i + 1) rules
 rules_at rules i r h is = rw (add-one i) (drop-cons rules i r h ∙ ap (λ y. y ∷ drop (suc i) rules) (sym is))
 
-module _ (fits : Rule → Bool) (chains : List Chain) (rules : List Rule) (i : ℕ) (r : Rule) (h : i < length rules) (is : r ≡ get_or rules i r) (also : GivesAlso fits chains (drop i rules) rules) where
+module _ (fits : Rule → Bool) (chains : List Chain) (rules : List Rule) (i : ℕ) (r : Rule) (h : i < length rules) (is : r ≡ get_or rules i r) (also : EvaluatesAlso fits chains (drop i rules) rules) where
   -- The outcomes of the rules from here on, in terms of their first rule.
   here : (o : Option Verdict) → Gives fits chains (r ∷ drop (i + 1) rules) o → Gives fits chains rules o
   here o g = also.gives o (subst (λ (rs : List Rule). Gives fits chains rs o) (sym (rules_at rules i r h is)) g)
@@ -32,16 +32,16 @@ module _ (fits : Rule → Bool) (chains : List Chain) (rules : List Rule) (i : �
   pub ends_here : (o : Option Verdict) → Ends o ≡ step_of (fits r) r.target → Gives fits chains rules o
   ends_here o step = here o (ends (sym step))
 
-  pub decides_here : (c : ℕ) → Walks c ≡ step_of (fits r) r.target → (v : Verdict) → Gives fits chains (rules_of chains c) (Some v) → Gives fits chains rules (Some v)
+  pub decides_here : (c : ℕ) → JumpsTo c ≡ step_of (fits r) r.target → (v : Verdict) → Gives fits chains (rules_of chains c) (Some v) → Gives fits chains rules (Some v)
   decides_here c step v walked = here (Some v) (decides (sym step) walked)
 
-  pub goes_on_here : GoesOn ≡ step_of (fits r) r.target → GivesAlso fits chains (drop (i + 1) rules) rules
+  pub goes_on_here : Continues ≡ step_of (fits r) r.target → EvaluatesAlso fits chains (drop (i + 1) rules) rules
   goes_on_here step = record { gives = λ o g. here o (goes_on (sym step) g) }
 
-  pub comes_back_here : (c : ℕ) → Walks c ≡ step_of (fits r) r.target → Gives fits chains (rules_of chains c) None → GivesAlso fits chains (drop (i + 1) rules) rules
+  pub comes_back_here : (c : ℕ) → JumpsTo c ≡ step_of (fits r) r.target → Gives fits chains (rules_of chains c) None → EvaluatesAlso fits chains (drop (i + 1) rules) rules
   comes_back_here c step walked = record { gives = λ o g. here o (comes_back (sym step) walked g) }
 
-pub end_gives : (fits : Rule → Bool) (chains : List Chain) (rules : List Rule) (i : ℕ) → length rules ≤ i → GivesAlso fits chains (drop i rules) rules → Gives fits chains rules None
+pub end_gives : (fits : Rule → Bool) (chains : List Chain) (rules : List Rule) (i : ℕ) → length rules ≤ i → EvaluatesAlso fits chains (drop i rules) rules → Gives fits chains rules None
 end_gives fits chains rules i past also =
     also.gives None (subst (λ (rs : List Rule). Gives fits chains rs None) (sym (drop_of_length-le rules past)) at_end)
 
@@ -51,7 +51,7 @@ all_at p (y ∷ ys) zero x all h is = ap p is ∙ (and_parts (p y) (list_all p y
 all_at p (y ∷ ys) (suc i) x all h is =
     all_at p ys i x (and_parts (p y) (list_all p ys) all).1 (omega arith) is
 
-pub walked_jump : (b : Bool) (t : Target) (d : ℕ) → Walks d ≡ step_of b t → t ≡ Jump d
+pub walked_jump : (b : Bool) (t : Target) (d : ℕ) → JumpsTo d ≡ step_of b t → t ≡ Jump d
 walked_jump false t d step = cc
 walked_jump true Accept d step = cc
 walked_jump true Drop d step = cc
@@ -65,7 +65,7 @@ pub record GivesSome (fits : Rule → Bool) (chains : List Chain) (rules : List 
   pub outcome : Option Verdict
   pub gives : Gives fits chains rules outcome
 
-walked_gives : (fits : Rule → Bool) (chains : List Chain) (r : Rule) (rs : List Rule) (d : ℕ) (o : Option Verdict) → step_of (fits r) r.target ≡ Walks d → Gives fits chains (rules_of chains d) o → GivesSome fits chains rs → GivesSome fits chains (r ∷ rs)
+walked_gives : (fits : Rule → Bool) (chains : List Chain) (r : Rule) (rs : List Rule) (d : ℕ) (o : Option Verdict) → step_of (fits r) r.target ≡ JumpsTo d → Gives fits chains (rules_of chains d) o → GivesSome fits chains rs → GivesSome fits chains (r ∷ rs)
 walked_gives fits chains r rs d None step walked rest =
     record { outcome = rest.outcome; gives = comes_back step walked rest.gives }
 walked_gives fits chains r rs d (Some v) step walked rest =
@@ -100,10 +100,10 @@ jump_at (x ∷ rules) (suc i) r d there jump = later_jump x rules d (jump_at rul
 
 module _ (fits : Rule → Bool) (chains : List Chain) where
   -- A rule before rules that have an outcome.
-  rule_gives : (r : Rule) (rs : List Rule) (s : RuleStep) → step_of (fits r) r.target ≡ s → ((d : ℕ) → Contains (jumps_of (r ∷ rs)) d → GivesSome fits chains (rules_of chains d)) → GivesSome fits chains rs → GivesSome fits chains (r ∷ rs)
-  rule_gives r rs GoesOn step all rest = record { outcome = rest.outcome; gives = goes_on step rest.gives }
+  rule_gives : (r : Rule) (rs : List Rule) (s : RuleEffect) → step_of (fits r) r.target ≡ s → ((d : ℕ) → Contains (jumps_of (r ∷ rs)) d → GivesSome fits chains (rules_of chains d)) → GivesSome fits chains rs → GivesSome fits chains (r ∷ rs)
+  rule_gives r rs Continues step all rest = record { outcome = rest.outcome; gives = goes_on step rest.gives }
   rule_gives r rs (Ends o) step all rest = record { outcome = o; gives = ends step }
-  rule_gives r rs (Walks d) step all rest =
+  rule_gives r rs (JumpsTo d) step all rest =
       let walked : GivesSome fits chains (rules_of chains d) = all d (first_jump r rs d (walked_jump (fits r) r.target d (sym step))) in
       walked_gives fits chains r rs d walked.outcome step walked.gives rest
 
@@ -121,8 +121,8 @@ placed_gives fits chains count order places is (suc n) c i low at =
     let b : IsBefore places d i = is.back i c d (is.there c i at) jump in
     placed_gives fits chains count order places is n d b.place (omega (arith, low, b.before)) b.placed)
 
-pub each_gives_one : (chains : List Chain) → HasRanking chains → EachGivesOne chains
-each_gives_one chains ranking fits c k =
+pub each_gives_one : (chains : List Chain) → HasTopologicalOrder chains → AreDeterministic chains
+each_gives_one chains topological_order fits c k =
     let some : GivesSome fits chains (drop k (rules_of chains c)) = rules_give fits chains (drop k (rules_of chains c)) (λ d jump. chain_gives d (dropped_jump k (rules_of chains c) d jump)) in
     record { outcome = some.outcome; gives = some.gives; only = λ o g. gives_once g some.gives }
   where
@@ -135,8 +135,8 @@ each_gives_one chains ranking fits c k =
     chain_gives : (d : ℕ) → Contains (jumps_from chains c) d → GivesSome fits chains (rules_of chains d)
     chain_gives d jump = elim (cases_lt c (length chains)) [
       | inl low ↦
-          let own : IsBefore ranking.places c (length ranking.order) = ranking.is.every c low in
-          let b : IsBefore ranking.places d own.place = ranking.is.ordered.back own.place c d (ranking.is.ordered.there c own.place own.placed) jump in
-          placed_gives fits chains (length chains) ranking.order ranking.places ranking.is.ordered own.place d b.place b.before b.placed
+          let own : IsBefore topological_order.places c (length topological_order.order) = topological_order.is.every c low in
+          let b : IsBefore topological_order.places d own.place = topological_order.is.ordered.back own.place c d (topological_order.is.ordered.there c own.place own.placed) jump in
+          placed_gives fits chains (length chains) topological_order.order topological_order.places topological_order.is.ordered own.place d b.place b.before b.placed
       | inr past ↦ absurd (no_jump d past jump)
     ]

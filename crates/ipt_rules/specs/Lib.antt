@@ -4,7 +4,7 @@ pub mod DeadRules
 pub mod Loops
 pub mod Marks
 pub mod Matching
-pub mod Meaning
+pub mod Semantics
 pub mod Meets
 pub mod Name
 pub mod RuleParts

@@ -29,14 +29,14 @@ abbrev pub Leads : (ℕ → List ℕ) → ℕ → ℕ → Type 0
 Leads next c d = (x : ℕ) × (xs : List ℕ) × LeadsAlong next c (x ∷ xs) d
 
 -- Chain c is on a cycle: a path of jumps leads from chain c back to it.
-abbrev pub LeadsBack : List Chain → ℕ → Type 0
-LeadsBack chains c = Leads (jumps_from chains) c c
+abbrev pub IsOnCycle : List Chain → ℕ → Type 0
+IsOnCycle chains c = Leads (jumps_from chains) c c
 
 -- No chain is on a cycle.
-abbrev pub HasNoLoop : List Chain → Type 0
-HasNoLoop chains = (c : ℕ) → LeadsBack chains c → ⊥
+abbrev pub IsAcyclic : List Chain → Type 0
+IsAcyclic chains = (c : ℕ) → IsOnCycle chains c → ⊥
 
 -- Chain c is the least chain that is on a cycle.
-pub record IsLeastLoop (chains : List Chain) (c : ℕ) : Type 0 where
-  pub back : LeadsBack chains c
-  pub least : (d : ℕ) → LeadsBack chains d → c ≤ d
+pub record IsFirstOnCycle (chains : List Chain) (c : ℕ) : Type 0 where
+  pub back : IsOnCycle chains c
+  pub least : (d : ℕ) → IsOnCycle chains d → c ≤ d

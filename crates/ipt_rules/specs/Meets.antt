@@ -11,7 +11,7 @@ use Rattle.ipt_rules.specs.declared.rule.Target.{Target}
 use Rattle.ipt_rules.specs.declared.rule.Target.TheVariants.{Accept, Drop, Reject}
 use Rattle.ipt_rules.specs.Chain.{Chain, rules_of, policy_of}
 use Rattle.ipt_rules.specs.Matching.{matches}
-use Rattle.ipt_rules.specs.Meaning.{GoesOn, Walks, step_of, Gives, verdict_by}
+use Rattle.ipt_rules.specs.Semantics.{Continues, JumpsTo, step_of, Gives, verdict_by}
 
 -- The traversal of rules, which are the rules of chain c from rule n on, meets the rule at a place: the traversal reaches the
 -- rule, and the rule matches. The traversal leaves the rules at the first verdict. It enters a chain that a matching rule jumps
@@ -19,11 +19,11 @@ use Rattle.ipt_rules.specs.Meaning.{GoesOn, Walks, step_of, Gives, verdict_by}
 pub data MeetsFrom (fits : Rule → Bool) (chains : List Chain) (place : Place) : ℕ → ℕ → List Rule → Type 0 where
   meets_here : {c n : ℕ} {r : Rule} {rs : List Rule} → place ≡ record { chain = c; rule = n } → fits r ≡ true
       → MeetsFrom fits chains place c n (r ∷ rs)
-  meets_later : {c n : ℕ} {r : Rule} {rs : List Rule} → step_of (fits r) r.target ≡ GoesOn
+  meets_later : {c n : ℕ} {r : Rule} {rs : List Rule} → step_of (fits r) r.target ≡ Continues
       → MeetsFrom fits chains place c (n + 1) rs → MeetsFrom fits chains place c n (r ∷ rs)
-  meets_inside : {c n d : ℕ} {r : Rule} {rs : List Rule} → step_of (fits r) r.target ≡ Walks d
+  meets_inside : {c n d : ℕ} {r : Rule} {rs : List Rule} → step_of (fits r) r.target ≡ JumpsTo d
       → MeetsFrom fits chains place d 0 (rules_of chains d) → MeetsFrom fits chains place c n (r ∷ rs)
-  meets_behind : {c n d : ℕ} {r : Rule} {rs : List Rule} → step_of (fits r) r.target ≡ Walks d
+  meets_behind : {c n d : ℕ} {r : Rule} {rs : List Rule} → step_of (fits r) r.target ≡ JumpsTo d
       → Gives fits chains (rules_of chains d) None
       → MeetsFrom fits chains place c (n + 1) rs → MeetsFrom fits chains place c n (r ∷ rs)
 

@@ -6,7 +6,7 @@ use Rattle.host_net.specs.declared.packet.Verdict.{Verdict}
 use Rattle.header_space.specs.declared.packet_box.PacketBox.{PacketBox}
 use Rattle.header_space.specs.Boxes.{IsIn}
 use Rattle.ipt_rules.specs.Chain.{Chain}
-use Rattle.ipt_rules.specs.Meaning.{HasVerdictIn}
+use Rattle.ipt_rules.specs.Semantics.{HasVerdictIn}
 
 -- Two lists of chains have the same verdict on each packet of the box that traverses FORWARD, in each state.
 abbrev pub HaveSameVerdicts : PacketBox → List Chain → List Chain → Type 0

@@ -14,6 +14,6 @@ pub mod RuleParts
 pub mod Saying
 pub mod Slicing
 pub mod Starts
-pub mod WalkView
+pub mod StackFrameView
 pub mod Walking
 pub mod Writable

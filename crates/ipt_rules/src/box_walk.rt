@@ -7,15 +7,18 @@ ghost use Rattle.header_space.specs.Boxes.{IsBox, IsIn, Narrows};
 ghost use Rattle.ipt_rules.specs.Matching.{matches};
 ghost use Rattle.ipt_rules.specs.Chain.{rules_of};
 ghost use Rattle.ipt_rules.specs.ChainTable.{rule_count};
-ghost use Rattle.ipt_rules.specs.Meaning.{step_of, Gives};
-ghost use Rattle.ipt_rules.specs.inner.WalkView.{step_view};
-ghost use Rattle.ipt_rules.specs.inner.Ranks.{HasRanking};
+ghost use Rattle.ipt_rules.specs.Semantics.{step_of, Gives};
+ghost use Rattle.ipt_rules.specs.inner.StackFrameView.{step_view};
+ghost use Rattle.ipt_rules.specs.inner.Ranks.{HasTopologicalOrder};
 ghost use Rattle.ipt_rules.specs.inner.BoxWalking.{AllGive, AllStopAt, AllReturn, AreWalks};
 
 use crate::chain::Chain;
 use crate::rule::Rule;
 use crate::ruleset::CHAIN_LIMIT;
-use crate::walk::{FEW_CHAINS, FEW_WALKS, NoRoom, Step, Stop, Walk, returns_at, rules_of, step_by};
+use crate::walk::{
+    SMALL_CHAIN_COUNT, SMALL_STACK, StackFrame, StackFull, Step, Stop, is_known_to_return,
+    rules_of, step_by,
+};
 use arrayvec::ArrayVec;
 use header_space::PacketBox;
 use host_net::{CtState, Verdict};
@@ -32,27 +35,27 @@ fn step_within(rule: &Rule, within: &mut PacketBox, state: CtState) -> Step
 /// Continues a traversal, given the other chains that are known to return.
 fn walk_within(
     chains: &[Chain],
-    walk: Walk,
-    returning: &[bool],
+    walk: StackFrame,
+    known_to_return: &[bool],
     within: &mut PacketBox,
     state: CtState,
 ) -> Stop
     requires few { rule_count chains.now ≤ 1000000 }
     requires is_box { IsBox within.old }
     requires walk { AreWalks state within.old chains.now walk }
-    requires returning { AllReturn state within.old chains.now returning.now }
+    requires known_to_return { AllReturn state within.old chains.now known_to_return.now }
     ensures part { Narrows within.old within.new }
-    ensures stops { AllStopAt state within.new chains.now returning.now walk.chain result }
+    ensures stops { AllStopAt state within.new chains.now known_to_return.now walk.chain result }
 {
     let rules = rules_of(chains, walk.chain);
     for at in walk.from..rules.len() {
         match step_within(&rules[at], within, state) {
-            Step::GoesOn => {}
+            Step::Continues => {}
             Step::Decides(verdict) => return Stop::Decides(verdict),
             Step::Returns => return Stop::Returns,
-            Step::Walks(chain) => {
-                if !returns_at(returning, chain) {
-                    return Stop::Asks { chain, at };
+            Step::JumpsTo(chain) => {
+                if !is_known_to_return(known_to_return, chain) {
+                    return Stop::Calls { chain, at };
                 }
             }
         }
@@ -62,40 +65,40 @@ fn walk_within(
 
 /// Returns the outcome of a chain for the packets of a box from its first rule: a verdict, or `None` if it
 /// returns. There are at most N chains, and the stack has capacity D.
-fn outcome_among<const N: usize, const D: usize>(
+fn outcome_with_stack<const N: usize, const D: usize>(
     chains: &[Chain],
     number: u16,
     within: &mut PacketBox,
     state: CtState,
-) -> Result<Option<Verdict>, NoRoom>
+) -> Result<Option<Verdict>, StackFull>
     requires there { number < length chains.now }
     requires few_chains { length chains.now ≤ N }
     requires small { N ≤ 4096 }
     requires some_walks { 0 < D }
     requires few_walks { D ≤ 4096 }
     requires few_rules { rule_count chains.now ≤ 1000000 }
-    requires ranking { HasRanking chains.now }
+    requires topological_order { HasTopologicalOrder chains.now }
     requires is_box { IsBox within.old }
     ensures part { IfOk result (λ _. Narrows within.old within.new) }
     ensures given { IfOk result (AllGive state within.new chains.now number) }
     ensures enough { N ≤ D → IsOk result }
 {
-    let mut returning = [false; N];
-    let mut walks: ArrayVec<Walk, D> = ArrayVec::new();
-    walks.push(Walk {
+    let mut known_to_return = [false; N];
+    let mut walks: ArrayVec<StackFrame, D> = ArrayVec::new();
+    walks.push(StackFrame {
         chain: number,
         from: 0,
     });
     while let Some(walk) = walks.pop() {
-        match walk_within(chains, walk, &returning, within, state) {
+        match walk_within(chains, walk, &known_to_return, within, state) {
             Stop::Decides(verdict) => return Ok(Some(verdict)),
-            Stop::Returns => returning[walk.chain as usize] = true,
-            Stop::Asks { chain, at } => {
+            Stop::Returns => known_to_return[walk.chain as usize] = true,
+            Stop::Calls { chain, at } => {
                 if walks.len() + 2 > D {
-                    return Err(NoRoom);
+                    return Err(StackFull);
                 }
-                walks.push(Walk { from: at, ..walk });
-                walks.push(Walk { chain, from: 0 });
+                walks.push(StackFrame { from: at, ..walk });
+                walks.push(StackFrame { chain, from: 0 });
             }
         }
     }
@@ -108,19 +111,19 @@ fn outcome_soon(
     number: u16,
     within: &mut PacketBox,
     state: CtState,
-) -> Result<Option<Verdict>, NoRoom>
+) -> Result<Option<Verdict>, StackFull>
     requires there { number < length chains.now }
     requires few_chains { length chains.now ≤ 4096 }
     requires few_rules { rule_count chains.now ≤ 1000000 }
-    requires ranking { HasRanking chains.now }
+    requires topological_order { HasTopologicalOrder chains.now }
     requires is_box { IsBox within.old }
     ensures part { IfOk result (λ _. Narrows within.old within.new) }
     ensures given { IfOk result (AllGive state within.new chains.now number) }
 {
-    if chains.len() <= FEW_CHAINS {
-        outcome_among::<FEW_CHAINS, FEW_WALKS>(chains, number, within, state)
+    if chains.len() <= SMALL_CHAIN_COUNT {
+        outcome_with_stack::<SMALL_CHAIN_COUNT, SMALL_STACK>(chains, number, within, state)
     } else {
-        outcome_among::<CHAIN_LIMIT, FEW_WALKS>(chains, number, within, state)
+        outcome_with_stack::<CHAIN_LIMIT, SMALL_STACK>(chains, number, within, state)
     }
 }
 
@@ -134,7 +137,7 @@ pub(crate) fn outcome_within(
     requires there { number < length chains.now }
     requires few_chains { length chains.now ≤ 4096 }
     requires few_rules { rule_count chains.now ≤ 1000000 }
-    requires ranking { HasRanking chains.now }
+    requires topological_order { HasTopologicalOrder chains.now }
     requires is_box { IsBox within.old }
     ensures part { Narrows within.old within.new }
     ensures given { AllGive state within.new chains.now number result }
@@ -145,8 +148,8 @@ pub(crate) fn outcome_within(
             *within = narrowed;
             outcome
         }
-        Err(NoRoom) => {
-            outcome_among::<CHAIN_LIMIT, CHAIN_LIMIT>(chains, number, within, state).unwrap()
+        Err(StackFull) => {
+            outcome_with_stack::<CHAIN_LIMIT, CHAIN_LIMIT>(chains, number, within, state).unwrap()
         }
     }
 }

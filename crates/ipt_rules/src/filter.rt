@@ -1,13 +1,13 @@
 //! A filter: a rule set prepared to evaluate packets.
 
 ghost use Rattle.std.specs.Prelude.{◌≡◌, ◌<◌, ◌≤◌, IfOk, Some, None};
-ghost use Rattle.ipt_rules.specs.Meaning.{HasVerdictIn};
+ghost use Rattle.ipt_rules.specs.Semantics.{HasVerdictIn};
 ghost use Rattle.ipt_rules.specs.inner.OneOutcome.{HasVerdict};
 
 use crate::next::indexes_of;
 use crate::ruleset::{FORWARD, Ruleset};
 use crate::walk::{outcome, policy_of, policy_verdict};
-use host_net::{Covers, CtState, Packet, Verdict};
+use host_net::{CtState, Packet, TupleSpaceIndex, Verdict};
 use std::alloc::{AllocError, Global};
 use std::marker::Model;
 
@@ -19,7 +19,7 @@ const FEW_PACKETS: usize = 64;
 pub struct Filter<'a> {
     rules: &'a Ruleset,
     /// An index of the addresses that the rules of each chain match on, or no indexes at all.
-    indexes: Vec<Covers>,
+    indexes: Vec<TupleSpaceIndex>,
 }
 
 impl<'a> Model for Filter<'a> {

@@ -15,7 +15,6 @@ mod meets;
 mod name;
 mod next;
 mod pieces;
-mod ranking;
 mod reached;
 mod rule;
 mod rules;
@@ -24,6 +23,7 @@ mod services;
 mod slice;
 mod starts;
 mod text;
+mod topological_order;
 mod verdicts;
 mod walk;
 

@@ -8,7 +8,7 @@ ghost use Rattle.ipt_rules.specs.inner.Ranks.{row_of, IsOrder, Visits};
 
 use crate::chain::Chain;
 use crate::jumps::JumpTable;
-use crate::ranking::{Ranking, place_of, ranking_of};
+use crate::topological_order::{TopologicalOrder, place_of, topological_order_of};
 use std::alloc::{AllocError, Global};
 
 /// Marks the chains that were not marked, and pushes them onto the work list.
@@ -26,7 +26,7 @@ fn visit(row: &[u16], seen: &mut Vec<bool>, left: &mut Vec<u16>) -> Result<(), A
 }
 
 /// Whether the chain is on a cycle.
-fn leads_back(alloc: Global, table: &JumpTable, chain: usize) -> Result<bool, AllocError>
+fn is_on_cycle(alloc: Global, table: &JumpTable, chain: usize) -> Result<bool, AllocError>
     requires there { chain < length table.now }
     requires inside { (c : ℕ) → All (λ d. d < length table.now) (row_of table.now c) }
     ensures { IfOk result (λ back. IsTrue back ↔ Leads (row_of table.now) chain chain) }
@@ -44,36 +44,36 @@ fn leads_back(alloc: Global, table: &JumpTable, chain: usize) -> Result<bool, Al
 fn comes_back(
     alloc: Global,
     table: &JumpTable,
-    ranking: &Ranking,
+    topological_order: &TopologicalOrder,
     chain: usize,
 ) -> Result<bool, AllocError>
     requires few { length table.now ≤ 4096 }
     requires there { chain < length table.now }
     requires inside { (c : ℕ) → All (λ d. d < length table.now) (row_of table.now c) }
-    requires order { IsOrder (row_of table.now) (length table.now) ranking.now.order.items ranking.now.places.items }
+    requires order { IsOrder (row_of table.now) (length table.now) topological_order.now.order.items topological_order.now.places.items }
     ensures { IfOk result (λ back. IsTrue back ↔ Leads (row_of table.now) chain chain) }
 {
-    if place_of(&ranking.places, chain as u16).is_some() {
+    if place_of(&topological_order.places, chain as u16).is_some() {
         return Ok(false);
     }
-    leads_back(alloc, table, chain)
+    is_on_cycle(alloc, table, chain)
 }
 
 /// Returns the least chain that is on a cycle.
-fn least_loop(
+fn first_cycle(
     alloc: Global,
     table: &JumpTable,
-    ranking: &Ranking,
+    topological_order: &TopologicalOrder,
 ) -> Result<Option<u16>, AllocError>
     requires few { length table.now ≤ 4096 }
     requires inside { (c : ℕ) → All (λ d. d < length table.now) (row_of table.now c) }
-    requires order { IsOrder (row_of table.now) (length table.now) ranking.now.order.items ranking.now.places.items }
+    requires order { IsOrder (row_of table.now) (length table.now) topological_order.now.order.items topological_order.now.places.items }
     ensures back { IfOk result (λ found. IfSome found (λ c. Leads (row_of table.now) c c)) }
     ensures least { IfOk result (λ found. IfSome found (λ c. (d : ℕ) → Leads (row_of table.now) d d → c ≤ d)) }
     ensures none { IfOk result (λ found. IfNone found ((d : ℕ) → Leads (row_of table.now) d d → ⊥)) }
 {
     for chain in 0..table.len() {
-        if comes_back(alloc, table, ranking, chain)? {
+        if comes_back(alloc, table, topological_order, chain)? {
             return Ok(Some(chain as u16));
         }
     }
@@ -82,12 +82,12 @@ fn least_loop(
 
 /// Returns the least chain that is on a cycle. If there is none, the chains have an order in which each jump
 /// goes to an earlier chain.
-pub(crate) fn loop_among(alloc: Global, chains: &[Chain]) -> Result<Option<u16>, AllocError>
+pub(crate) fn find_cycle(alloc: Global, chains: &[Chain]) -> Result<Option<u16>, AllocError>
     requires { refusal_of chains.now ≡ None }
     ensures { IfOk result (IsRanked chains.now) }
 {
     let table = JumpTable::of(alloc, chains)?;
-    let ranking = ranking_of(alloc, &table)?;
-    let found = least_loop(alloc, &table, &ranking)?;
+    let topological_order = topological_order_of(alloc, &table)?;
+    let found = first_cycle(alloc, &table, &topological_order)?;
     Ok(found)
 }

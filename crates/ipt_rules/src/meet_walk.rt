@@ -8,9 +8,9 @@ ghost use Rattle.header_space.specs.Boxes.{IsBox, IsIn, Narrows};
 ghost use Rattle.ipt_rules.specs.Matching.{matches};
 ghost use Rattle.ipt_rules.specs.ChainTable.{rule_count};
 ghost use Rattle.ipt_rules.specs.Marks.{AreMarksOf, marks_of};
-ghost use Rattle.ipt_rules.specs.Meaning.{step_of};
-ghost use Rattle.ipt_rules.specs.inner.WalkView.{step_view};
-ghost use Rattle.ipt_rules.specs.inner.Ranks.{HasRanking};
+ghost use Rattle.ipt_rules.specs.Semantics.{step_of};
+ghost use Rattle.ipt_rules.specs.inner.StackFrameView.{step_view};
+ghost use Rattle.ipt_rules.specs.inner.Ranks.{HasTopologicalOrder};
 ghost use Rattle.ipt_rules.specs.inner.BoxWalking.{ForAll, AllReturn, AreWalks};
 ghost use Rattle.ipt_rules.specs.inner.Marking.{with_mark_if};
 ghost use Rattle.ipt_rules.specs.inner.MeetWalking.{IsMarkedTo, MarkReturning, MarksAll, MarksOnly, MarksTo};
@@ -19,7 +19,10 @@ use crate::chain::Chain;
 use crate::marks::{Marks, Place};
 use crate::rule::Rule;
 use crate::ruleset::CHAIN_LIMIT;
-use crate::walk::{FEW_CHAINS, FEW_WALKS, NoRoom, Step, Walk, returns_at, rules_of, step_by};
+use crate::walk::{
+    SMALL_CHAIN_COUNT, SMALL_STACK, StackFrame, StackFull, Step, is_known_to_return, rules_of,
+    step_by,
+};
 use arrayvec::ArrayVec;
 use header_space::PacketBox;
 use host_net::CtState;
@@ -30,7 +33,7 @@ use host_net::CtState;
 pub(crate) enum MeetStop {
     Decides(Place),
     Returns,
-    Asks { chain: u16, at: usize },
+    Calls { chain: u16, at: usize },
 }
 
 /// Marks a rule if it matches, and returns its step.
@@ -55,8 +58,8 @@ fn meet_rule(
 /// Continues a traversal, given the other chains that are known to return.
 fn meet_along(
     chains: &[Chain],
-    walk: Walk,
-    returning: &[bool],
+    walk: StackFrame,
+    known_to_return: &[bool],
     met: &mut Marks,
     within: &mut PacketBox,
     state: CtState,
@@ -66,12 +69,12 @@ fn meet_along(
     requires marks { AreMarksOf met.old chains.now }
     requires walk { AreWalks state within.old chains.now walk }
     requires marked { ForAll state within.old (λ fits. IsMarkedTo fits chains.now met.old walk.chain walk.from) }
-    requires returning { AllReturn state within.old chains.now returning.now }
-    requires mark_returning { ForAll state within.old (λ fits. MarkReturning fits chains.now met.old returning.now) }
+    requires known_to_return { AllReturn state within.old chains.now known_to_return.now }
+    requires mark_returning { ForAll state within.old (λ fits. MarkReturning fits chains.now met.old known_to_return.now) }
     ensures part { Narrows within.old within.new }
     ensures marks { AreMarksOf met.new chains.now }
     ensures only { ForAll state within.new (λ fits. MarksOnly fits chains.now walk.chain met.old met.new) }
-    ensures stops { ForAll state within.new (λ fits. MarksTo fits chains.now returning.now met.new walk.chain result) }
+    ensures stops { ForAll state within.new (λ fits. MarksTo fits chains.now known_to_return.now met.new walk.chain result) }
 {
     let rules = rules_of(chains, walk.chain);
     for at in walk.from..rules.len() {
@@ -80,12 +83,12 @@ fn meet_along(
             rule: at as u32,
         };
         match meet_rule(&rules[at], place, met, within, state) {
-            Step::GoesOn => {}
+            Step::Continues => {}
             Step::Decides(_) => return MeetStop::Decides(place),
             Step::Returns => return MeetStop::Returns,
-            Step::Walks(chain) => {
-                if !returns_at(returning, chain) {
-                    return MeetStop::Asks { chain, at };
+            Step::JumpsTo(chain) => {
+                if !is_known_to_return(known_to_return, chain) {
+                    return MeetStop::Calls { chain, at };
                 }
             }
         }
@@ -102,14 +105,14 @@ fn meet_among<const N: usize, const D: usize>(
     met: &mut Marks,
     within: &mut PacketBox,
     state: CtState,
-) -> Result<Option<Place>, NoRoom>
+) -> Result<Option<Place>, StackFull>
     requires there { number < length chains.now }
     requires few_chains { length chains.now ≤ N }
     requires small { N ≤ 4096 }
     requires some_walks { 0 < D }
     requires few_walks { D ≤ 4096 }
     requires few_rules { rule_count chains.now ≤ 1000000 }
-    requires ranking { HasRanking chains.now }
+    requires topological_order { HasTopologicalOrder chains.now }
     requires is_box { IsBox within.old }
     requires marks { AreMarksOf met.old chains.now }
     ensures part { Narrows within.old within.new }
@@ -118,22 +121,22 @@ fn meet_among<const N: usize, const D: usize>(
     ensures all { IfOk result (λ decider. ForAll state within.new (λ fits. MarksAll fits chains.now met.new number decider)) }
     ensures enough { N ≤ D → IsOk result }
 {
-    let mut returning = [false; N];
-    let mut walks: ArrayVec<Walk, D> = ArrayVec::new();
-    walks.push(Walk {
+    let mut known_to_return = [false; N];
+    let mut walks: ArrayVec<StackFrame, D> = ArrayVec::new();
+    walks.push(StackFrame {
         chain: number,
         from: 0,
     });
     while let Some(walk) = walks.pop() {
-        match meet_along(chains, walk, &returning, met, within, state) {
+        match meet_along(chains, walk, &known_to_return, met, within, state) {
             MeetStop::Decides(place) => return Ok(Some(place)),
-            MeetStop::Returns => returning[walk.chain as usize] = true,
-            MeetStop::Asks { chain, at } => {
+            MeetStop::Returns => known_to_return[walk.chain as usize] = true,
+            MeetStop::Calls { chain, at } => {
                 if walks.len() + 2 > D {
-                    return Err(NoRoom);
+                    return Err(StackFull);
                 }
-                walks.push(Walk { from: at, ..walk });
-                walks.push(Walk { chain, from: 0 });
+                walks.push(StackFrame { from: at, ..walk });
+                walks.push(StackFrame { chain, from: 0 });
             }
         }
     }
@@ -148,11 +151,11 @@ fn meet_soon(
     met: &mut Marks,
     within: &mut PacketBox,
     state: CtState,
-) -> Result<Option<Place>, NoRoom>
+) -> Result<Option<Place>, StackFull>
     requires there { number < length chains.now }
     requires few_chains { length chains.now ≤ 4096 }
     requires few_rules { rule_count chains.now ≤ 1000000 }
-    requires ranking { HasRanking chains.now }
+    requires topological_order { HasTopologicalOrder chains.now }
     requires is_box { IsBox within.old }
     requires marks { AreMarksOf met.old chains.now }
     ensures part { Narrows within.old within.new }
@@ -160,10 +163,10 @@ fn meet_soon(
     ensures only { ForAll state within.new (λ fits. MarksOnly fits chains.now number met.old met.new) }
     ensures all { IfOk result (λ decider. ForAll state within.new (λ fits. MarksAll fits chains.now met.new number decider)) }
 {
-    if chains.len() <= FEW_CHAINS {
-        meet_among::<FEW_CHAINS, FEW_WALKS>(chains, number, met, within, state)
+    if chains.len() <= SMALL_CHAIN_COUNT {
+        meet_among::<SMALL_CHAIN_COUNT, SMALL_STACK>(chains, number, met, within, state)
     } else {
-        meet_among::<CHAIN_LIMIT, FEW_WALKS>(chains, number, met, within, state)
+        meet_among::<CHAIN_LIMIT, SMALL_STACK>(chains, number, met, within, state)
     }
 }
 
@@ -178,7 +181,7 @@ fn meet_fully(
     requires there { number < length chains.now }
     requires few_chains { length chains.now ≤ 4096 }
     requires few_rules { rule_count chains.now ≤ 1000000 }
-    requires ranking { HasRanking chains.now }
+    requires topological_order { HasTopologicalOrder chains.now }
     requires is_box { IsBox within.old }
     requires marks { AreMarksOf met.old chains.now }
     ensures part { Narrows within.old within.new }
@@ -201,7 +204,7 @@ pub(crate) fn meet_chain(
     requires there { number < length chains.now }
     requires few_chains { length chains.now ≤ 4096 }
     requires few_rules { rule_count chains.now ≤ 1000000 }
-    requires ranking { HasRanking chains.now }
+    requires topological_order { HasTopologicalOrder chains.now }
     requires is_box { IsBox within.old }
     requires marks { AreMarksOf met.old chains.now }
     ensures part { Narrows within.old within.new }

@@ -10,7 +10,7 @@ ghost use Rattle.ipt_rules.specs.DeadRules.{AreUnmarked, without_places};
 ghost use Rattle.ipt_rules.specs.Marks.{AreMarksOf, is_marked};
 ghost use Rattle.ipt_rules.specs.Meets.{IsMet, IsDecider, decided};
 ghost use Rattle.ipt_rules.specs.inner.OneOutcome.{HasVerdict};
-ghost use Rattle.ipt_rules.specs.inner.Ranks.{HasRanking};
+ghost use Rattle.ipt_rules.specs.inner.Ranks.{HasTopologicalOrder};
 
 use crate::chain::Chain;
 use crate::marks::{Marks, Place};
@@ -56,7 +56,7 @@ fn meet_forward(
     requires forward { 1 < length chains.now }
     requires few_chains { length chains.now ≤ 4096 }
     requires few_rules { rule_count chains.now ≤ 1000000 }
-    requires ranking { HasRanking chains.now }
+    requires topological_order { HasTopologicalOrder chains.now }
     requires is_box { IsBox within.old }
     requires marks { AreMarksOf met.old chains.now }
     ensures part { Narrows within.old within.new }

@@ -11,7 +11,7 @@ ghost use Rattle.ipt_rules.specs.inner.Next.{AreIndexes, IsNext, all_ends, ends_
 
 use crate::chain::Chain;
 use crate::rule::{AddrMatch, Rule, address_matches};
-use host_net::{Covers, Ends, Packet, Prefix};
+use host_net::{Ends, Packet, Prefix, TupleSpaceIndex};
 use std::alloc::{AllocError, Global};
 
 /// Returns the prefix of an address match that is not negated.
@@ -49,16 +49,19 @@ fn all_ends(alloc: Global, rules: &[Rule]) -> Result<Vec<Ends>, AllocError>
     Ok(all)
 }
 
-fn index_of(alloc: Global, rules: &[Rule]) -> Result<Covers, AllocError>
+fn index_of(alloc: Global, rules: &[Rule]) -> Result<TupleSpaceIndex, AllocError>
     requires { length rules.now < 2 ^ 32 }
     ensures { IfOk result (IsIndexOf (all_ends rules.now)) }
 {
     let all = all_ends(alloc, rules)?;
-    Covers::of(alloc, &all)
+    TupleSpaceIndex::of(alloc, &all)
 }
 
 /// Builds an index of the rules of each chain.
-pub(crate) fn indexes_of(alloc: Global, chains: &[Chain]) -> Result<Vec<Covers>, AllocError>
+pub(crate) fn indexes_of(
+    alloc: Global,
+    chains: &[Chain],
+) -> Result<Vec<TupleSpaceIndex>, AllocError>
     requires { rule_count chains.now ≤ 1000000 }
     ensures { IfOk result (λ indexes. AreIndexes indexes.items chains.now) }
 {
@@ -71,7 +74,7 @@ pub(crate) fn indexes_of(alloc: Global, chains: &[Chain]) -> Result<Vec<Covers>,
 }
 
 /// Returns the index of the chain with this number, if chains have indexes.
-pub(crate) fn index_at(indexes: &[Covers], number: u16) -> Option<&Covers>
+pub(crate) fn index_at(indexes: &[TupleSpaceIndex], number: u16) -> Option<&TupleSpaceIndex>
     ensures { IfSome result (λ index. slice_get indexes.now number ≡ Some index.now) }
 {
     indexes.get(number as usize)
@@ -93,7 +96,7 @@ fn asks_at(rules: &[Rule], at: usize, packet: &Packet) -> bool
 /// rule whose prefixes cover its addresses, without an index any rule. The skipped rules do not match. Within
 /// a chain no search is made if the rule at `from` qualifies, such as the rule to which a traversal returns.
 pub(crate) fn next_rule(
-    index: Option<&Covers>,
+    index: Option<&TupleSpaceIndex>,
     rules: &[Rule],
     from: usize,
     packet: &Packet,

@@ -2,7 +2,7 @@
 
 ghost use Rattle.std.specs.Prelude.{◌≡◌, ◌<◌, ◌≤◌, length, slice_get, Some};
 ghost use Rattle.ipt_rules.specs.Chain.{name_of, rules_of};
-ghost use Rattle.ipt_rules.specs.inner.OneOutcome.{EachGivesOne};
+ghost use Rattle.ipt_rules.specs.inner.OneOutcome.{AreDeterministic};
 ghost use Rattle.ipt_rules.specs.Rules.{all_rules};
 ghost use Rattle.ipt_rules.specs.inner.Starts.{starts_from};
 
@@ -20,7 +20,7 @@ impl Ruleset {
         ensures count { result ≡ length (all_rules self.now) }
 
         // Each chain has exactly one outcome for every packet.
-        ensures one_outcome { EachGivesOne self.now }
+        ensures deterministic { AreDeterministic self.now }
     {
         self.rules
     }

@@ -4,14 +4,14 @@ ghost use Rattle.std.specs.Prelude.{◌≡◌, ◌<◌, ◌≤◌, ◌⊎◌, le
 ghost use Rattle.ipt_rules.specs.Chain.{Chain};
 ghost use Rattle.ipt_rules.specs.ChainTable.{rule_count};
 ghost use Rattle.ipt_rules.specs.inner.ChainTable.{IsTable};
-ghost use Rattle.ipt_rules.specs.inner.Build.{refusal_of, RefusedFor, first_unknown, jumps_nowhere, place_of_unknown};
+ghost use Rattle.ipt_rules.specs.inner.Build.{refusal_of, RefusedFor, first_unknown, has_unknown_target, place_of_unknown};
 ghost use Rattle.ipt_rules.specs.inner.Ranked.{IsRanked};
-ghost use Rattle.ipt_rules.specs.Loops.{HasNoLoop};
-ghost use Rattle.ipt_rules.specs.inner.OneOutcome.{EachGivesOne};
+ghost use Rattle.ipt_rules.specs.Loops.{IsAcyclic};
+ghost use Rattle.ipt_rules.specs.inner.OneOutcome.{AreDeterministic};
 
 use crate::chain::Chain;
 use crate::chains::Chains;
-use crate::loops::loop_among;
+use crate::loops::find_cycle;
 use crate::rule::{Rule, Target};
 use crate::starts::starts_of;
 use std::alloc::{AllocError, Global};
@@ -74,9 +74,9 @@ impl Ruleset {
         // The names of chains are distinct, and the names of user chains are legal.
         ensures table { IfOk result IsTable }
         // Each chain has exactly one outcome for every packet, hence the traversal by a packet ends.
-        ensures one_outcome { IfOk result EachGivesOne }
+        ensures deterministic { IfOk result AreDeterministic }
         ensures accepted { OnOk result (IsNone (refusal_of chains)) }
-        ensures no_loop { IfOk result HasNoLoop }
+        ensures acyclic { IfOk result IsAcyclic }
         ensures refused { IfErr result (RefusedFor chains) }
     {
         if let Some(why) = refusal(&chains.chains, chains.rules) {
@@ -100,8 +100,8 @@ impl Ruleset {
         requires ranked { IsRanked chains None }
         ensures ok { IfOk result (λ rules. rules ≡ chains) }
         ensures table { IfOk result IsTable }
-        ensures one_outcome { IfOk result EachGivesOne }
-        ensures no_loop { IfOk result HasNoLoop }
+        ensures deterministic { IfOk result AreDeterministic }
+        ensures acyclic { IfOk result IsAcyclic }
     {
         let starts = starts_of(alloc, &chains.chains)?;
         Ok(Ruleset {
@@ -119,7 +119,7 @@ impl Chains {
         requires { refusal_of self.now ≡ None }
         ensures { IfOk result (IsRanked self.now) }
     {
-        loop_among(alloc, &self.chains)
+        find_cycle(alloc, &self.chains)
     }
 }
 
@@ -163,11 +163,11 @@ fn place_of_unknown(count: usize, rules: &[Rule]) -> Option<usize>
 {
     rules
         .iter()
-        .position(|rule| jumps_nowhere(count, rule.target))
+        .position(|rule| has_unknown_target(count, rule.target))
 }
 
-fn jumps_nowhere(count: usize, target: Target) -> bool
-    ensures { result ≡ jumps_nowhere count target }
+fn has_unknown_target(count: usize, target: Target) -> bool
+    ensures { result ≡ has_unknown_target count target }
 {
     match target {
         Target::Jump(chain) => chain < 3 || chain as usize >= count,

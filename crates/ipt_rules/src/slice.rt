@@ -7,8 +7,8 @@ ghost use Rattle.host_net.specs.declared.packet.Packet.{Packet};
 ghost use Rattle.header_space.specs.Boxes.{IsBox, IsIn, Narrows};
 ghost use Rattle.ipt_rules.specs.ChainTable.{rule_count};
 ghost use Rattle.ipt_rules.specs.Slices.{HaveSameVerdicts};
-ghost use Rattle.ipt_rules.specs.inner.OneOutcome.{EachGivesOne, HasVerdict};
-ghost use Rattle.ipt_rules.specs.inner.Ranks.{HasRanking};
+ghost use Rattle.ipt_rules.specs.inner.OneOutcome.{AreDeterministic, HasVerdict};
+ghost use Rattle.ipt_rules.specs.inner.Ranks.{HasTopologicalOrder};
 ghost use Rattle.ipt_rules.specs.inner.Slicing.{AreSlices, FitsNone, Thins, all_stay, chains_stay, stays};
 
 use crate::box_walk::outcome_within;
@@ -16,7 +16,7 @@ use crate::chain::Chain;
 use crate::reached::{Reached, reached_by};
 use crate::rule::{Rule, Target};
 use crate::ruleset::{FORWARD, Ruleset};
-use crate::walk::{policy_of, policy_verdict, returns_at};
+use crate::walk::{is_known_to_return, policy_of, policy_verdict};
 use header_space::PacketBox;
 use host_net::{CtState, Verdict};
 use std::alloc::{AllocError, Global};
@@ -52,7 +52,7 @@ impl Slice {
     /// Returns the approximate number of its rules.
     pub fn rules(&self) -> u32
         // Each chain has exactly one outcome for every packet.
-        ensures one_outcome { EachGivesOne self.now }
+        ensures deterministic { AreDeterministic self.now }
     {
         self.rules
     }
@@ -98,7 +98,7 @@ fn slice_of(
     requires few_chains { length chains.now ≤ 4096 }
     requires forward { 1 < length chains.now }
     requires few_rules { rule_count chains.now ≤ 1000000 }
-    requires ranking { HasRanking chains.now }
+    requires topological_order { HasTopologicalOrder chains.now }
     ensures { IfOk result (λ slice. IfSome slice (HaveSameVerdicts within.now chains.now)) }
 {
     if rules <= FEW_RULES + chains.len() as u32 / 4 {
@@ -124,13 +124,13 @@ fn closed_slice(
     requires few_chains { length chains.now ≤ 4096 }
     requires forward { 1 < length chains.now }
     requires few_rules { rule_count chains.now ≤ 1000000 }
-    requires ranking { HasRanking chains.now }
+    requires topological_order { HasTopologicalOrder chains.now }
     ensures { IfOk result (λ slice. IfSome slice (HaveSameVerdicts within.now chains.now)) }
 {
     let marks = reached.chains.as_slice();
     let kept = sliced(alloc, chains, marks, within)?;
     let own = kept.as_slice();
-    if !returns_at(marks, FORWARD) {
+    if !is_known_to_return(marks, FORWARD) {
         return Ok(None);
     }
     if !chains_stay(marks, own) {
@@ -154,7 +154,7 @@ fn sliced(
 {
     let mut sliced = Vec::with_capacity(alloc, chains.len())?;
     for at in 0..chains.len() {
-        let chain = if returns_at(marks, at as u16) {
+        let chain = if is_known_to_return(marks, at as u16) {
             thinned(alloc, &chains[at], within)?
         } else {
             chains[at].emptied(alloc)
@@ -205,7 +205,7 @@ fn stays(marks: &[bool], target: Target) -> bool
     ensures { result ≡ stays marks.now target }
 {
     match target {
-        Target::Jump(chain) => returns_at(marks, chain),
+        Target::Jump(chain) => is_known_to_return(marks, chain),
         _ => true,
     }
 }

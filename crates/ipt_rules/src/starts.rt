@@ -38,7 +38,7 @@ pub(crate) fn chain_at(starts: &[u32], found_last: &Cell<usize>, number: usize) 
     if is_chain_at(starts, place, number) {
         return place;
     }
-    let place = halved(starts, number);
+    let place = binary_search(starts, number);
     found_last.set(place);
     place
 }
@@ -55,7 +55,7 @@ fn is_chain_at(starts: &[u32], place: usize, number: usize) -> bool
         && number < starts[place + 1] as usize
 }
 
-fn halved(starts: &[u32], number: usize) -> usize
+fn binary_search(starts: &[u32], number: usize) -> usize
     requires rising { IsNonDecreasingBy (λ n. n) starts.now }
     requires some { 0 < length starts.now }
     requires first { slice_index_or starts.now 0 0 ≤ number }

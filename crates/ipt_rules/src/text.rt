@@ -3,8 +3,8 @@
 ghost use Rattle.std.specs.Prelude.{◌≡◌, ◌<◌, ◌≤◌, ◌++◌, ◌∷◌, [], length, take, slice_get, IsNone, IsTrue, Some};
 ghost use Rattle.std.specs.List.{flat_map};
 ghost use Rattle.ipt_rules.specs.inner.Build.{refusal_of};
-ghost use Rattle.ipt_rules.specs.Loops.{HasNoLoop};
-ghost use Rattle.ipt_rules.specs.inner.OneOutcome.{EachGivesOne};
+ghost use Rattle.ipt_rules.specs.Loops.{IsAcyclic};
+ghost use Rattle.ipt_rules.specs.inner.OneOutcome.{AreDeterministic};
 ghost use Rattle.ipt_rules.specs.inner.Jumps.{JumpsIn, JumpsAreKnown};
 ghost use Rattle.ipt_rules.specs.ChainTable.{rule_count};
 ghost use Rattle.ipt_rules.specs.inner.ChainTable.{IsTable};
@@ -32,8 +32,8 @@ impl Ruleset {
         ensures accepted { IsNone (refusal_of self.now) }
 
         // No chain is on a cycle, and each chain has exactly one outcome for every packet.
-        ensures no_loop { HasNoLoop self.now }
-        ensures one_outcome { EachGivesOne self.now }
+        ensures acyclic { IsAcyclic self.now }
+        ensures deterministic { AreDeterministic self.now }
 
         // The text can be read back.
         ensures writable { IsWritable self.now }

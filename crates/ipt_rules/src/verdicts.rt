@@ -3,7 +3,7 @@
 ghost use Rattle.std.specs.Prelude.{◌≡◌, ◌<◌};
 ghost use Rattle.host_net.specs.declared.packet.Packet.{Packet};
 ghost use Rattle.header_space.specs.Boxes.{IsBox, IsIn, Narrows};
-ghost use Rattle.ipt_rules.specs.Meaning.{HasVerdictIn};
+ghost use Rattle.ipt_rules.specs.Semantics.{HasVerdictIn};
 ghost use Rattle.ipt_rules.specs.inner.OneOutcome.{HasVerdict};
 
 use crate::box_walk::outcome_within;

@@ -9,10 +9,10 @@ ghost use Rattle.std.specs.Prelude.{◌≡◌, ◌<◌, ◌≤◌, length, IfOk,
 ghost use Rattle.ipt_rules.specs.Matching.{matches};
 ghost use Rattle.ipt_rules.specs.Chain.{rules_of, policy_of};
 ghost use Rattle.ipt_rules.specs.ChainTable.{rule_count};
-ghost use Rattle.ipt_rules.specs.Meaning.{step_of, Gives, policy_verdict};
-ghost use Rattle.ipt_rules.specs.inner.WalkView.{step_view};
-ghost use Rattle.ipt_rules.specs.inner.Ranks.{HasRanking};
-ghost use Rattle.ipt_rules.specs.inner.Walking.{DoReturn, IsWalk, StopsAt, returns_at};
+ghost use Rattle.ipt_rules.specs.Semantics.{step_of, Gives, policy_verdict};
+ghost use Rattle.ipt_rules.specs.inner.StackFrameView.{step_view};
+ghost use Rattle.ipt_rules.specs.inner.Ranks.{HasTopologicalOrder};
+ghost use Rattle.ipt_rules.specs.inner.Walking.{DoReturn, IsFrameOf, StopsAt, is_known_to_return};
 ghost use Rattle.ipt_rules.specs.inner.Next.{AreIndexes, all_ends};
 ghost use Rattle.host_net.specs.inner.CoverView.{IsIndexOf};
 
@@ -21,28 +21,28 @@ use crate::next::{index_at, next_rule};
 use crate::rule::{Policy, Rule, Target};
 use crate::ruleset::CHAIN_LIMIT;
 use arrayvec::ArrayVec;
-use host_net::{Covers, CtState, Packet, Verdict};
+use host_net::{CtState, Packet, TupleSpaceIndex, Verdict};
 
 /// The built-in chains and one for each of 256 hosts. Up to this number of chains a packet needs less space,
 /// and less time to clear it.
-pub(crate) const FEW_CHAINS: usize = 259;
+pub(crate) const SMALL_CHAIN_COUNT: usize = 259;
 
 /// A stack size that is seldom exceeded. Up to this size a packet needs less space as well.
-pub(crate) const FEW_WALKS: usize = 16;
+pub(crate) const SMALL_STACK: usize = 16;
 
 /// The step of one rule on a packet: it continues with the next rule, decides, returns from its chain, or
 /// traverses another chain.
 #[derive(Drop)]
 pub(crate) enum Step {
-    GoesOn,
+    Continues,
     Decides(Verdict),
     Returns,
-    Walks(u16),
+    JumpsTo(u16),
 }
 
 /// A traversal of a chain, and the index of its next rule.
 #[derive(Clone, Copy, Default)]
-pub(crate) struct Walk {
+pub(crate) struct StackFrame {
     pub(crate) chain: u16,
     pub(crate) from: usize,
 }
@@ -53,12 +53,12 @@ pub(crate) struct Walk {
 pub(crate) enum Stop {
     Decides(Verdict),
     Returns,
-    Asks { chain: u16, at: usize },
+    Calls { chain: u16, at: usize },
 }
 
 /// The stack overflowed.
 #[derive(Debug, Drop)]
-pub(crate) struct NoRoom;
+pub(crate) struct StackFull;
 
 fn step_at(rule: &Rule, packet: &Packet, state: CtState) -> Step
     ensures { step_view result ≡ step_of (matches packet.now state rule.now) rule.now.target }
@@ -71,14 +71,14 @@ pub(crate) fn step_by(fits: bool, target: Target) -> Step
     ensures { step_view result ≡ step_of fits target }
 {
     if !fits {
-        return Step::GoesOn;
+        return Step::Continues;
     }
     match target {
         Target::Accept => Step::Decides(Verdict::Forward),
         Target::Drop | Target::Reject => Step::Decides(Verdict::Drop),
         Target::Return => Step::Returns,
-        Target::Count => Step::GoesOn,
-        Target::Jump(chain) => Step::Walks(chain),
+        Target::Count => Step::Continues,
+        Target::Jump(chain) => Step::JumpsTo(chain),
     }
 }
 
@@ -91,37 +91,40 @@ pub(crate) fn rules_of(chains: &[Chain], number: u16) -> &[Rule]
 }
 
 /// Whether a chain is known to return.
-pub(crate) fn returns_at(returning: &[bool], chain: u16) -> bool
-    ensures { result ≡ returns_at returning.now chain }
+pub(crate) fn is_known_to_return(known_to_return: &[bool], chain: u16) -> bool
+    ensures { result ≡ is_known_to_return known_to_return.now chain }
 {
-    returning.get(chain as usize).copied().unwrap_or(false)
+    known_to_return
+        .get(chain as usize)
+        .copied()
+        .unwrap_or(false)
 }
 
 /// Continues a traversal, given the other chains that are known to return.
-fn walk_on(
+fn run_frame(
     chains: &[Chain],
-    walk: Walk,
-    index: Option<&Covers>,
-    returning: &[bool],
+    walk: StackFrame,
+    index: Option<&TupleSpaceIndex>,
+    known_to_return: &[bool],
     packet: &Packet,
     state: CtState,
 ) -> Stop
     requires few { rule_count chains.now ≤ 1000000 }
-    requires walk { IsWalk (matches packet.now state) chains.now walk }
+    requires walk { IsFrameOf (matches packet.now state) chains.now walk }
     requires index { IfSome index (λ index. IsIndexOf (all_ends (rules_of chains.now walk.chain)) index.now) }
-    requires returning { DoReturn (matches packet.now state) chains.now returning.now }
-    ensures { StopsAt (matches packet.now state) chains.now returning.now walk.chain result }
+    requires known_to_return { DoReturn (matches packet.now state) chains.now known_to_return.now }
+    ensures { StopsAt (matches packet.now state) chains.now known_to_return.now walk.chain result }
 {
     let rules = rules_of(chains, walk.chain);
     let mut from = walk.from;
     while let Some(at) = next_rule(index, rules, from, packet) {
         match step_at(&rules[at], packet, state) {
-            Step::GoesOn => {}
+            Step::Continues => {}
             Step::Decides(verdict) => return Stop::Decides(verdict),
             Step::Returns => return Stop::Returns,
-            Step::Walks(chain) => {
-                if !returns_at(returning, chain) {
-                    return Stop::Asks { chain, at };
+            Step::JumpsTo(chain) => {
+                if !is_known_to_return(known_to_return, chain) {
+                    return Stop::Calls { chain, at };
                 }
             }
         }
@@ -133,13 +136,13 @@ fn walk_on(
 
 /// Returns the outcome of a chain for a packet from its first rule: a verdict, or `None` if it returns. There
 /// are at most N chains, and the stack has capacity D.
-fn outcome_among<const N: usize, const D: usize>(
+fn outcome_with_stack<const N: usize, const D: usize>(
     chains: &[Chain],
-    indexes: &[Covers],
+    indexes: &[TupleSpaceIndex],
     number: u16,
     packet: &Packet,
     state: CtState,
-) -> Result<Option<Verdict>, NoRoom>
+) -> Result<Option<Verdict>, StackFull>
     requires there { number < length chains.now }
     requires few_chains { length chains.now ≤ N }
     requires small { N ≤ 4096 }
@@ -147,27 +150,27 @@ fn outcome_among<const N: usize, const D: usize>(
     requires few_walks { D ≤ 4096 }
     requires few_rules { rule_count chains.now ≤ 1000000 }
     requires indexes { AreIndexes indexes.now chains.now }
-    requires ranking { HasRanking chains.now }
+    requires topological_order { HasTopologicalOrder chains.now }
     ensures given { IfOk result (Gives (matches packet.now state) chains.now (rules_of chains.now number)) }
     ensures enough { N ≤ D → IsOk result }
 {
-    let mut returning = [false; N];
-    let mut walks: ArrayVec<Walk, D> = ArrayVec::new();
-    walks.push(Walk {
+    let mut known_to_return = [false; N];
+    let mut walks: ArrayVec<StackFrame, D> = ArrayVec::new();
+    walks.push(StackFrame {
         chain: number,
         from: 0,
     });
     while let Some(walk) = walks.pop() {
         let index = index_at(indexes, walk.chain);
-        match walk_on(chains, walk, index, &returning, packet, state) {
+        match run_frame(chains, walk, index, &known_to_return, packet, state) {
             Stop::Decides(verdict) => return Ok(Some(verdict)),
-            Stop::Returns => returning[walk.chain as usize] = true,
-            Stop::Asks { chain, at } => {
+            Stop::Returns => known_to_return[walk.chain as usize] = true,
+            Stop::Calls { chain, at } => {
                 if walks.len() + 2 > D {
-                    return Err(NoRoom);
+                    return Err(StackFull);
                 }
-                walks.push(Walk { from: at, ..walk });
-                walks.push(Walk { chain, from: 0 });
+                walks.push(StackFrame { from: at, ..walk });
+                walks.push(StackFrame { chain, from: 0 });
             }
         }
     }
@@ -177,7 +180,7 @@ fn outcome_among<const N: usize, const D: usize>(
 /// Returns the outcome of a chain for a packet from its first rule.
 pub(crate) fn outcome(
     chains: &[Chain],
-    indexes: &[Covers],
+    indexes: &[TupleSpaceIndex],
     number: u16,
     packet: &Packet,
     state: CtState,
@@ -186,18 +189,18 @@ pub(crate) fn outcome(
     requires few_chains { length chains.now ≤ 4096 }
     requires few_rules { rule_count chains.now ≤ 1000000 }
     requires indexes { AreIndexes indexes.now chains.now }
-    requires ranking { HasRanking chains.now }
+    requires topological_order { HasTopologicalOrder chains.now }
     ensures { Gives (matches packet.now state) chains.now (rules_of chains.now number) result }
 {
-    let soon = if chains.len() <= FEW_CHAINS {
-        outcome_among::<FEW_CHAINS, FEW_WALKS>(chains, indexes, number, packet, state)
+    let soon = if chains.len() <= SMALL_CHAIN_COUNT {
+        outcome_with_stack::<SMALL_CHAIN_COUNT, SMALL_STACK>(chains, indexes, number, packet, state)
     } else {
-        outcome_among::<CHAIN_LIMIT, FEW_WALKS>(chains, indexes, number, packet, state)
+        outcome_with_stack::<CHAIN_LIMIT, SMALL_STACK>(chains, indexes, number, packet, state)
     };
     match soon {
         Ok(outcome) => outcome,
-        Err(NoRoom) => {
-            outcome_among::<CHAIN_LIMIT, CHAIN_LIMIT>(
+        Err(StackFull) => {
+            outcome_with_stack::<CHAIN_LIMIT, CHAIN_LIMIT>(
                 chains, indexes, number, packet, state,
             ).unwrap()
         }

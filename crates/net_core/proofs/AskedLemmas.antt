@@ -8,27 +8,27 @@ use Rattle.flow_set.specs.FlowSet.{IsOrdered, has}
 use Rattle.flow_set.specs.declared.flow.Flow.{Flow}
 use Rattle.net_core.specs.inner.Asking.{asking, asking_where}
 use Rattle.net_core.specs.Network.{Network}
-use Rattle.net_core.specs.inner.Policed.{IsJudged, Policed, policy_in}
-use Rattle.net_core.specs.declared.judged.Judged.{Judged}
+use Rattle.net_core.specs.inner.Policed.{IsEvaluation, Policed, policy_in}
+use Rattle.net_core.specs.declared.evaluation.Evaluation.{Evaluation}
 
 pub asked_already : (asked : Bool) (d : Network) (f : Flow) → IsOrdered d.asked.flows → has d.asked.flows f ≡ asked → d ≡ asking_where asked d f
 asked_already true d f ordered there = ap (asking d) (sym (with_flow_there d.asked.flows f ordered there))
 asked_already false d f ordered absent = ap (asking d) (sym (without_flow_absent d.asked.flows f absent))
 
-pub taken_back : (asked : Bool) (d next back : Network) (f : Flow) → IsOrdered d.asked.flows → has d.asked.flows f ≡ not asked
+pub undone : (asked : Bool) (d next back : Network) (f : Flow) → IsOrdered d.asked.flows → has d.asked.flows f ≡ not asked
     → next ≡ asking_where asked d f → back ≡ asking_where (not asked) next f → back ≡ d
-taken_back true d next back f ordered fresh there here =
+undone true d next back f ordered fresh there here =
     here ∙ ap (λ (n : Network). asking_where false n f) there ∙ ap (asking d) (without_flow-with_flow d.asked.flows f ordered fresh)
-taken_back false d next back f ordered old there here =
+undone false d next back f ordered old there here =
     here ∙ ap (λ (n : Network). asking_where true n f) there ∙ ap (asking d) (with_flow-without_flow d.asked.flows f ordered old)
 
 -- The same network with the same policy.
-pub policed_again : (d e : Network) (j k : Judged) (p : Policed) → e ≡ d → k ≡ j → record { network = d; policy = policy_in j } ≡ p
+pub policed_again : (d e : Network) (j k : Evaluation) (p : Policed) → e ≡ d → k ≡ j → record { network = d; policy = policy_in j } ≡ p
     → record { network = e; policy = policy_in k } ≡ p
 policed_again d e j k p same kept is = (λ i. record { network = same i; policy = policy_in (kept i) }) ∙ is
 
-pub judged_again : (d e : Network) (j k : Judged) → e ≡ d → k ≡ j → IsJudged d j → IsJudged e k
-judged_again d e j k same kept is = subst (λ (n : Network). IsJudged n k) (sym same) (subst (λ (i : Judged). IsJudged d i) (sym kept) is)
+pub judged_again : (d e : Network) (j k : Evaluation) → e ≡ d → k ≡ j → IsEvaluation d j → IsEvaluation e k
+judged_again d e j k same kept is = subst (λ (n : Network). IsEvaluation n k) (sym same) (subst (λ (i : Evaluation). IsEvaluation d i) (sym kept) is)
 
 -- ---- tests
 

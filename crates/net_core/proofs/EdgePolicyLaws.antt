@@ -4,7 +4,7 @@ use Rattle.std.proofs.Common.{◌≡◌, ℕ, inl, inr, Bool, true, false, List,
 use Rattle.std.specs.Prelude.{◌↔◌, IsTrue, IsFalse}
 use Rattle.std.proofs.lemmas.Bool.{false≢true, or_cases, or_left, or_right}
 use Rattle.flow_set.specs.inner.Downward.{IsEdgeWise}
-use Rattle.flow_set.specs.Flow.{IsFlow, back_of, same_flow}
+use Rattle.flow_set.specs.Flow.{IsFlow, reverse_of, same_flow}
 use Rattle.flow_set.specs.FlowSet.{has, IsSubset, with_back, with_flow}
 use Rattle.flow_set.specs.inner.FlowSetView.{IsFlowSet, without_flow}
 use Rattle.flow_set.specs.laws.FlowLaws.{has_first, has_nothing, has-with_back, same_fact}
@@ -17,7 +17,7 @@ use Rattle.net_core.specs.inner.Asking.{asking_for, not_asking_for}
 use Rattle.net_core.proofs.AskingLaws.{network_where}
 use Rattle.net_core.specs.inner.Fitting.{IsNetwork}
 use Rattle.net_core.specs.Network.{Network}
-use Rattle.net_core.specs.Policies.{answerable, holds_on, edge_mark, IsPolicyOf, IsStateful, JudgesFlowsAlone, MeetsAll, MeetsStrict, Policy}
+use Rattle.net_core.specs.Policies.{answerable, holds_on, edge_mark, IsPolicyOf, IsStateful, IsEdgeWiseNetwork, MeetsAll, MeetsStrict, Policy}
 use Rattle.net_core.proofs.PolicyLaws.{answerable_within}
 use Rattle.permit_core.proofs.PolicyLaws.{AllHold-edge_wise}
 use Rattle.net_core.specs.inner.EdgePolicies.{AreMarked, IsAdmitted, IsAnswered, IsEdgePolicy}
@@ -27,13 +27,13 @@ use Rattle.net_core.proofs.MarkedLaws.{absent_from, first_marked, marked_first, 
 pub edge_wise_at : (n : ℕ) (inv : AnyInv) → (meaning_of inv).size ≡ n → IsTrue (edge_mark inv) → IsEdgeWise n (holds_on inv)
 edge_wise_at n inv sized marked = subst (λ m. IsEdgeWise m (holds_on inv)) sized ((lawful inv).mark_is_right marked)
 
-pub each_edge_wise : (d : Network) → IsNetwork d → JudgesFlowsAlone d → All (λ inv. IsEdgeWise d.asked.size (holds_on inv)) d.invariants
+pub each_edge_wise : (d : Network) → IsNetwork d → IsEdgeWiseNetwork d → All (λ inv. IsEdgeWise d.asked.size (holds_on inv)) d.invariants
 each_edge_wise d network alone k e within = edge_wise_at d.asked.size _ (network.invariants k e within ∙ sym network.sized) (alone k e within)
 
-pub all_edge_wise : (d : Network) → IsNetwork d → JudgesFlowsAlone d → IsEdgeWise d.asked.size (MeetsAll d)
+pub all_edge_wise : (d : Network) → IsNetwork d → IsEdgeWiseNetwork d → IsEdgeWise d.asked.size (MeetsAll d)
 all_edge_wise d network alone = AllHold-edge_wise d.asked.size holds_on d.invariants (each_edge_wise d network alone)
 
-strict_edge_wise : (d : Network) → IsNetwork d → JudgesFlowsAlone d → IsEdgeWise d.asked.size (MeetsStrict d)
+strict_edge_wise : (d : Network) → IsNetwork d → IsEdgeWiseNetwork d → IsEdgeWise d.asked.size (MeetsStrict d)
 strict_edge_wise d network alone e set =
     (λ hold f there k x within strict. (each_edge_wise d network alone k x within e set).0 (hold k x within strict) f there, λ single k x within strict. (each_edge_wise d network alone k x within e set).1 (λ f there. single f there k x within strict))
 
@@ -46,17 +46,17 @@ one_flow : (n : ℕ) (p : List Flow) (f : Flow) → IsFlowSet n p → IsFlow n f
 one_flow n p f p_set flow = IsFlowSet-with_flow n [] f (IsFlowSet-nothing n p_set.small) flow
 
 grown : (p e : List Flow) (f g : Flow) → IsTrue (has e f) → IsTrue (has (with_back p (f ∷ [])) g) → IsTrue (has (with_back p e) g)
-grown p e f g there member = has-with_back p e g ∙ elim (or_cases (has p g) (has (f ∷ []) (back_of g)) (sym (has-with_back p (f ∷ []) g) ∙ member)) [
+grown p e f g there member = has-with_back p e g ∙ elim (or_cases (has p g) (has (f ∷ []) (reverse_of g)) (sym (has-with_back p (f ∷ []) g) ∙ member)) [
   | inl old ↦ or_left _ _ old
-  | inr answer ↦ or_right _ _ (elim (or_cases (same_flow f (back_of g)) false answer) [
-    | inl same ↦ same_fact (λ h. IsTrue (has e h)) f (back_of g) same there
+  | inr answer ↦ or_right _ _ (elim (or_cases (same_flow f (reverse_of g)) false answer) [
+    | inl same ↦ same_fact (λ h. IsTrue (has e h)) f (reverse_of g) same there
     | inr impossible ↦ absurd (false≢true impossible)
   ])
 ]
 
 -- The answer of a flow is a member of the policy with answers.
-answer_there : (p : List Flow) (g : Flow) → IsTrue (has (with_back p (back_of g ∷ [])) g)
-answer_there p g = has-with_back p (back_of g ∷ []) g ∙ or_right _ _ (has_first (back_of g) [])
+answer_there : (p : List Flow) (g : Flow) → IsTrue (has (with_back p (reverse_of g ∷ [])) g)
+answer_there p g = has-with_back p (reverse_of g ∷ []) g ∙ or_right _ _ (has_first (reverse_of g) [])
 
 answered_edge_wise : (n : ℕ) (Strict : List Flow → Type 0) (p : List Flow) → IsEdgeWise n Strict → IsFlowSet n p → Strict p
     → IsEdgeWise n (λ s. Strict (with_back p s))
@@ -65,23 +65,23 @@ answered_edge_wise n Strict p edge_wise p_set holds e set =
     let set_of_one : (f : Flow) → IsTrue (has e f) → IsFlowSet n (with_back p (f ∷ [])) =
     λ f there. IsFlowSet-with_back n p (f ∷ []) p_set (one_flow n p f p_set (set.flows f there)) in (
       λ whole f there. (edge_wise (with_back p (f ∷ [])) (set_of_one f there)).1 (λ g member. (edge_wise (with_back p e) whole_set).0 whole g (grown p e f g there member)),
-      λ single. (edge_wise (with_back p e) whole_set).1 (λ g member. elim (or_cases (has p g) (has e (back_of g)) (sym (has-with_back p e g) ∙ member)) [
+      λ single. (edge_wise (with_back p e) whole_set).1 (λ g member. elim (or_cases (has p g) (has e (reverse_of g)) (sym (has-with_back p e g) ∙ member)) [
         | inl old ↦ (edge_wise p p_set).0 holds g old
-        | inr answer ↦ (edge_wise (with_back p (back_of g ∷ [])) (set_of_one (back_of g) answer)).0 (single (back_of g) answer) g (answer_there p g)
+        | inr answer ↦ (edge_wise (with_back p (reverse_of g ∷ [])) (set_of_one (reverse_of g) answer)).0 (single (reverse_of g) answer) g (answer_there p g)
       ]),
     )
 
 -- If an edge-wise condition holds for the policy, it holds with one answer if and only if it holds for that single
 -- answer.
 answer_alone : (n : ℕ) (Strict : List Flow → Type 0) (p : List Flow) (f : Flow) → IsEdgeWise n Strict → IsFlowSet n p → Strict p → IsFlow n f
-    → Strict (with_back p (f ∷ [])) ↔ Strict (back_of f ∷ [])
+    → Strict (with_back p (f ∷ [])) ↔ Strict (reverse_of f ∷ [])
 answer_alone n Strict p f edge_wise p_set holds flow =
     let set : IsFlowSet n (with_back p (f ∷ [])) = IsFlowSet-with_back n p (f ∷ []) p_set (one_flow n p f p_set flow) in (
-      λ whole. (edge_wise (with_back p (f ∷ [])) set).0 whole (back_of f) (has-with_back p (f ∷ []) (back_of f) ∙ or_right _ _ (has_first f [])),
-      λ answer. (edge_wise (with_back p (f ∷ [])) set).1 (λ g member. elim (or_cases (has p g) (has (f ∷ []) (back_of g)) (sym (has-with_back p (f ∷ []) g) ∙ member)) [
+      λ whole. (edge_wise (with_back p (f ∷ [])) set).0 whole (reverse_of f) (has-with_back p (f ∷ []) (reverse_of f) ∙ or_right _ _ (has_first f [])),
+      λ answer. (edge_wise (with_back p (f ∷ [])) set).1 (λ g member. elim (or_cases (has p g) (has (f ∷ []) (reverse_of g)) (sym (has-with_back p (f ∷ []) g) ∙ member)) [
         | inl old ↦ (edge_wise p p_set).0 holds g old
-        | inr is ↦ elim (or_cases (same_flow f (back_of g)) false is) [
-          | inl same ↦ same_fact (λ h. Strict (back_of h ∷ [])) f (back_of g) same answer
+        | inr is ↦ elim (or_cases (same_flow f (reverse_of g)) false is) [
+          | inl same ↦ same_fact (λ h. Strict (reverse_of h ∷ [])) f (reverse_of g) same answer
           | inr impossible ↦ absurd (false≢true impossible)
         ]
       ]),
@@ -117,7 +117,7 @@ module _ (d : Network) (p : List Flow) (edge_wise : IsEdgeWise d.asked.size (Mee
       marked_first d.asked.size (λ t. MeetsStrict d (with_back p t)) (answerable d.answers p) s (answerable_set d.answers d.asked.size p set) (answered_edge_wise d.asked.size (MeetsStrict d) p edge_wise set holds) sub
       (marked_same (IsAnswered d) (λ f. MeetsStrict d (with_back p (f ∷ []))) (answerable d.answers p) s (λ f there. (one_answer f there).1) (λ f there. (one_answer f there).0) are)
 
-pub IsEdgePolicy-policy : (d : Network) (policy : Policy) → IsNetwork d → JudgesFlowsAlone d → IsPolicyOf d policy → IsEdgePolicy d policy
+pub IsEdgePolicy-policy : (d : Network) (policy : Policy) → IsNetwork d → IsEdgeWiseNetwork d → IsPolicyOf d policy → IsEdgePolicy d policy
 IsEdgePolicy-policy d policy network alone is =
     let p_set = IsFlowSet-subset d.asked.size policy.permitted.flows d.asked.flows network.asked is.permitted.within in
     record {
@@ -131,7 +131,7 @@ IsEdgePolicy-policy d policy network alone is =
           policy.stateful.flows is.stateful;
     }
 
-pub policy-IsEdgePolicy : (d : Network) (policy : Policy) → IsNetwork d → JudgesFlowsAlone d → IsEdgePolicy d policy → IsPolicyOf d policy
+pub policy-IsEdgePolicy : (d : Network) (policy : Policy) → IsNetwork d → IsEdgeWiseNetwork d → IsEdgePolicy d policy → IsPolicyOf d policy
 policy-IsEdgePolicy d policy network alone is =
     let p_set = IsFlowSet-subset d.asked.size policy.permitted.flows d.asked.flows network.asked is.permitted_within in
     let permitted = marked_first d.asked.size (MeetsAll d) d.asked.flows policy.permitted.flows network.asked (all_edge_wise d network alone) is.permitted_within is.permitted in
@@ -212,14 +212,14 @@ one_less d policy f is = record {
 -- ---- the policies themselves
 
 -- A flow that is no longer asked for.
-pub policy_less : (d : Network) (policy : Policy) (f : Flow) → IsNetwork d → JudgesFlowsAlone d → IsFlow d.asked.size f → IsPolicyOf d policy
+pub policy_less : (d : Network) (policy : Policy) (f : Flow) → IsNetwork d → IsEdgeWiseNetwork d → IsFlow d.asked.size f → IsPolicyOf d policy
     → IsPolicyOf (not_asking_for d f) (WithFlows (without_flow policy.permitted.flows f) (without_flow policy.stateful.flows f) policy)
 policy_less d policy f network alone flow is =
     policy-IsEdgePolicy (not_asking_for d f) (WithFlows (without_flow policy.permitted.flows f) (without_flow policy.stateful.flows f) policy)
     (network_where false d f flow network) alone (one_less d policy f (IsEdgePolicy-policy d policy network alone is))
 
 -- An asked flow that is admitted, with its answers.
-pub policy_answered : (d : Network) (policy : Policy) (f : Flow) → IsNetwork d → JudgesFlowsAlone d → IsFlow d.asked.size f → IsFalse (has d.asked.flows f)
+pub policy_answered : (d : Network) (policy : Policy) (f : Flow) → IsNetwork d → IsEdgeWiseNetwork d → IsFlow d.asked.size f → IsFalse (has d.asked.flows f)
     → IsAdmitted d f → IsTrue d.answers → IsAnswered d f → IsPolicyOf d policy
     → IsPolicyOf (asking_for d f) (WithFlows (with_flow policy.permitted.flows f) (with_flow policy.stateful.flows f) policy)
 policy_answered d policy f network alone flow fresh admitted on answered is =
@@ -231,7 +231,7 @@ policy_answered d policy f network alone flow fresh admitted on answered is =
     (answered_more d.answers (IsAnswered d) policy.permitted.flows policy.stateful.flows f on answered edge.stateful))
 
 -- Without its answers.
-pub policy_unanswered : (d : Network) (policy : Policy) (f : Flow) → IsNetwork d → JudgesFlowsAlone d → IsFlow d.asked.size f → IsFalse (has d.asked.flows f)
+pub policy_unanswered : (d : Network) (policy : Policy) (f : Flow) → IsNetwork d → IsEdgeWiseNetwork d → IsFlow d.asked.size f → IsFalse (has d.asked.flows f)
     → IsAdmitted d f → (IsTrue d.answers → IsAnswered d f → ⊥) → IsPolicyOf d policy
     → IsPolicyOf (asking_for d f) (WithFlows (with_flow policy.permitted.flows f) policy.stateful.flows policy)
 policy_unanswered d policy f network alone flow fresh admitted unanswered is =

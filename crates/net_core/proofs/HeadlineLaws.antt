@@ -9,13 +9,13 @@ use Rattle.flow_set.specs.inner.FlowSetView.{IsFlowSet}
 use Rattle.flow_set.proofs.SubsetLaws.{IsFlowSet-subset}
 use Rattle.flow_set.specs.declared.flow.Flow.{Flow}
 use Rattle.inv_any.specs.declared.any_inv.AnyInv.{AnyInv}
-use Rattle.net_core.specs.Policies.{holds_on, strategy_of, edge_mark, MeetsAll, JudgesFlowsAlone, Policy, IsPolicyOf, CompliesWithAll, IsGreatestPolicy}
+use Rattle.net_core.specs.Policies.{holds_on, strategy_of, edge_mark, MeetsAll, IsEdgeWiseNetwork, Policy, IsPolicyOf, CompliesWithAll, IsGreatestPolicy}
 use Rattle.net_core.proofs.EdgePolicyLaws.{all_edge_wise, edge_wise_at}
 use Rattle.net_core.proofs.PolicyLaws.{IsSubset-stateful}
 use Rattle.state_core.proofs.StatefulLaws.{Complies-from_strict}
 
 -- If every invariant is edge-wise, the permitted flows contain every other policy.
-pub IsGreatestPolicy-from_policy : (d : Network) (policy : Policy) → IsNetwork d → IsPolicyOf d policy → JudgesFlowsAlone d
+pub IsGreatestPolicy-from_policy : (d : Network) (policy : Policy) → IsNetwork d → IsPolicyOf d policy → IsEdgeWiseNetwork d
     → IsGreatestPolicy d policy
 IsGreatestPolicy-from_policy d policy network is_policy alone =
     first_greatest d.asked.size (MeetsAll d) d.asked.flows policy.permitted.flows network.asked (all_edge_wise d network alone) is_policy.permitted

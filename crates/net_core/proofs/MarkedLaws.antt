@@ -7,7 +7,7 @@ use Rattle.flow_set.specs.declared.flow.Flow.{Flow}
 use Rattle.flow_set.specs.Flow.{before, same_flow}
 use Rattle.flow_set.specs.FlowSet.{has, IsOrdered, IsSubset, with_flow}
 use Rattle.flow_set.specs.inner.FlowSetView.{IsFlowSet, without_flow}
-use Rattle.flow_set.specs.Conditions.{DiffersFirstIn, IsFirst}
+use Rattle.flow_set.specs.Conditions.{PrecedesAtFirstDifference, IsFirst}
 use Rattle.flow_set.specs.inner.Downward.{IsEdgeWise}
 use Rattle.flow_set.specs.laws.FlowLaws.{before_trans, before_self, has_nothing, has_first, has-with_flow, has-without_flow, same_fact, same_flow_sym, flows_ext, IsOrdered-with_flow, IsOrdered-without_flow, after_not_same}
 use Rattle.flow_set.proofs.SubsetLaws.{IsFlowSet-subset}
@@ -48,7 +48,7 @@ same_test false true f g = g refl
 same_test false false f g = refl
 
 -- A set compared with one of its subsets.
-differs_or_same : (xs ys : List Flow) → IsOrdered xs → IsSubset ys xs → (ys ≡ xs) ⊎ DiffersFirstIn xs ys
+differs_or_same : (xs ys : List Flow) → IsOrdered xs → IsSubset ys xs → (ys ≡ xs) ⊎ PrecedesAtFirstDifference xs ys
 differs_or_same xs ys o sub = elim (lacking xs ys o) [
   | inl all ↦ inl (flows_ext ys xs sub.ordered o (λ f. same_test (has ys f) (has xs f) (sub.within f) (all f)))
   | inr d ↦ inr (record {

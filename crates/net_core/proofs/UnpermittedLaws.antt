@@ -4,7 +4,7 @@ use Rattle.std.proofs.Common.{◌≡◌, ℕ, inl, inr, not, List, [], ◌∷◌
 use Rattle.std.specs.Prelude.{IsTrue, IsFalse}
 use Rattle.std.proofs.lemmas.Bool.{and_from, both_ways, cases_Bool, or_cases}
 use Rattle.flow_set.specs.Conditions.{IsFirst}
-use Rattle.flow_set.specs.inner.Downward.{IsDownward}
+use Rattle.flow_set.specs.inner.Downward.{IsDownwardClosed}
 use Rattle.flow_set.specs.Flow.{IsFlow, same_flow}
 use Rattle.flow_set.specs.laws.FlowLaws.{has-with_flow, has-without_flow, same_fact, same_flow_sym}
 use Rattle.flow_set.specs.FlowSet.{IsOrdered, IsSubset, has, with_flow}
@@ -46,7 +46,7 @@ first_less Holds all xs f ordered absent is = record {
 }
 
 -- A set for which the condition holds does not contain a flow for which it fails.
-lacks : (n : ℕ) (Holds : List Flow → Type 0) (ys : List Flow) (f : Flow) → IsDownward n Holds → IsFlowSet n ys → (Holds (f ∷ []) → ⊥) → Holds ys
+lacks : (n : ℕ) (Holds : List Flow → Type 0) (ys : List Flow) (f : Flow) → IsDownwardClosed n Holds → IsFlowSet n ys → (Holds (f ∷ []) → ⊥) → Holds ys
     → IsFalse (has ys f)
 lacks n Holds ys f downward set fails holds = elim (cases_Bool (has ys f)) [
   | inl there ↦ absurd (fails (downward ys (f ∷ []) set (alone ys f there) holds))
@@ -62,7 +62,7 @@ within_old ys all f absent sub = record {
   ];
 }
 
-first_more : (n : ℕ) (Holds : List Flow → Type 0) (all xs : List Flow) (f : Flow) → IsDownward n Holds → IsFlowSet n (with_flow all f)
+first_more : (n : ℕ) (Holds : List Flow → Type 0) (all xs : List Flow) (f : Flow) → IsDownwardClosed n Holds → IsFlowSet n (with_flow all f)
     → (Holds (f ∷ []) → ⊥) → IsFirst Holds all xs → IsFirst Holds (with_flow all f) xs
 first_more n Holds all xs f downward set fails is = record {
   within = within_more xs all f is.within;
@@ -74,10 +74,10 @@ first_more n Holds all xs f downward set fails is = record {
 
 -- ---- the policy
 
-downward_at : (n : ℕ) (inv : AnyInv) → (meaning_of inv).size ≡ n → IsDownward n (holds_on inv)
-downward_at n inv sized = subst (λ m. IsDownward m (holds_on inv)) sized (lawful inv).downward
+downward_at : (n : ℕ) (inv : AnyInv) → (meaning_of inv).size ≡ n → IsDownwardClosed n (holds_on inv)
+downward_at n inv sized = subst (λ m. IsDownwardClosed m (holds_on inv)) sized (lawful inv).downward
 
-meets_downward : (d : Network) → IsNetwork d → IsDownward d.asked.size (MeetsAll d)
+meets_downward : (d : Network) → IsNetwork d → IsDownwardClosed d.asked.size (MeetsAll d)
 meets_downward d network =
     AllHold-downward d.asked.size holds_on d.invariants (λ k inv within. downward_at d.asked.size _ (network.invariants k inv within ∙ sym network.sized))
 

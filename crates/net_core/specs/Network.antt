@@ -3,7 +3,7 @@
 use Rattle.std.specs.Prelude.{Bool, List}
 use Rattle.flow_set.specs.FlowSet.{SetOfFlows}
 use Rattle.host_net.specs.Host.{Host}
-use Rattle.host_net.specs.Services.{NarrowedFlow}
+use Rattle.host_net.specs.Services.{RestrictedFlow}
 use Rattle.host_net.specs.Site.{Site, site_with}
 use Rattle.inv_any.specs.declared.any_inv.AnyInv.{AnyInv}
 
@@ -12,7 +12,7 @@ use Rattle.inv_any.specs.declared.any_inv.AnyInv.{AnyInv}
 pub record Network : Type 0 where
   pub hosts : List Host
   pub asked : SetOfFlows
-  pub services : List NarrowedFlow
+  pub services : List RestrictedFlow
   pub given : Bool
   pub answers : Bool
   pub invariants : List AnyInv

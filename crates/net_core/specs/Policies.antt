@@ -34,8 +34,8 @@ abbrev pub MeetsStrict : Network → List Flow → Type 0
 MeetsStrict d flows = StrictHold strategy_of edge_mark holds_on d.invariants flows
 
 -- Every invariant of the network is edge-wise.
-abbrev pub JudgesFlowsAlone : Network → Type 0
-JudgesFlowsAlone d = All (λ inv. IsTrue (edge_mark inv)) d.invariants
+abbrev pub IsEdgeWiseNetwork : Network → Type 0
+IsEdgeWiseNetwork d = All (λ inv. IsTrue (edge_mark inv)) d.invariants
 
 -- p is the set of permitted flows: the first subset of the asked flows on which every invariant holds.
 abbrev pub IsPermitted : Network → List Flow → Type 0

@@ -5,7 +5,7 @@ ghost use Rattle.flow_set.specs.inner.Downward.{IsEdgeWise};
 ghost use Rattle.flow_set.specs.inner.FlowSetView.{IsFlowSet};
 ghost use Rattle.flow_set.specs.declared.flow.Flow.{Flow as Meant};
 ghost use Rattle.net_core.specs.inner.Fitting.{IsNetwork};
-ghost use Rattle.net_core.specs.Policies.{JudgesFlowsAlone, holds_on};
+ghost use Rattle.net_core.specs.Policies.{IsEdgeWiseNetwork, holds_on};
 ghost use Rattle.net_core.specs.FailingFlows.{AreFailing};
 ghost use Rattle.net_core.specs.inner.FailingFlows.{AreFailingFlows, FailsOn};
 
@@ -33,7 +33,7 @@ pub(crate) fn count_failed(alloc: Global, description: &Description) -> Result<u
 /// fails.
 pub(crate) fn count_failing(description: &Description, failing: &[FlowSet]) -> u16
     requires network { IsNetwork description.now }
-    requires alone { JudgesFlowsAlone description.now }
+    requires alone { IsEdgeWiseNetwork description.now }
     requires failing { AreFailingFlows description.now failing.now }
     ensures { AreFailing description.now.invariants description.now.asked.flows result }
 {

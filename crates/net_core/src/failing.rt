@@ -5,7 +5,7 @@ ghost use Rattle.flow_set.specs.Flow.{IsFlow};
 ghost use Rattle.flow_set.specs.FlowSet.{has};
 ghost use Rattle.inv_any.specs.Templates.{meaning_of};
 ghost use Rattle.net_core.specs.inner.Asking.{asking_where, flows_where};
-ghost use Rattle.net_core.specs.Policies.{JudgesFlowsAlone, edge_mark};
+ghost use Rattle.net_core.specs.Policies.{IsEdgeWiseNetwork, edge_mark};
 ghost use Rattle.net_core.specs.inner.FailingFlows.{AreFailingFlows, FailsIn};
 
 use crate::description::Description;
@@ -21,7 +21,7 @@ pub(crate) fn failing_flows(
     alloc: Global,
     description: &Description,
 ) -> Result<Vec<FlowSet>, AllocError>
-    requires { JudgesFlowsAlone description.now }
+    requires { IsEdgeWiseNetwork description.now }
     ensures { IfOk result (λ failing. AreFailingFlows description.now failing.items) }
 {
     let asked = description.asked();

@@ -4,13 +4,13 @@
 
 mod counts;
 mod description;
+mod evaluation;
 mod failing;
-mod judged;
+mod network_with_policy;
 mod one_flow;
-mod policed;
 mod policy;
 mod steps;
 
 pub use description::Description;
-pub use policed::PolicedNetwork;
+pub use network_with_policy::NetworkWithPolicy;
 pub use policy::{Policy, policy_of};

@@ -2,7 +2,7 @@
 
 ghost use Rattle.std.specs.Prelude.{◌≡◌, length, IfOk};
 ghost use Rattle.flow_set.specs.FlowSet.{IsSubset};
-ghost use Rattle.net_core.specs.Policies.{CompliesWithAll, IsGreatestPolicy, IsPolicyOf, IsStateful, JudgesFlowsAlone, MeetsAll};
+ghost use Rattle.net_core.specs.Policies.{CompliesWithAll, IsGreatestPolicy, IsPolicyOf, IsStateful, IsEdgeWiseNetwork, MeetsAll};
 
 use crate::description::Description;
 use flow_set::FlowSet;
@@ -61,7 +61,7 @@ pub fn policy_of(alloc: Global, description: &Description) -> Result<Policy, All
         × (policy.stateful.size ≡ length description.now.hosts)) }
     ensures policy { IfOk result (λ policy. IsPolicyOf description.now policy) }
     // If every invariant is edge-wise, no other policy permits more.
-    ensures greatest { JudgesFlowsAlone description.now → IfOk result (λ policy. IsGreatestPolicy description.now policy) }
+    ensures greatest { IsEdgeWiseNetwork description.now → IfOk result (λ policy. IsGreatestPolicy description.now policy) }
     // The policy with its answers complies with every invariant.
     ensures complies { IfOk result (λ policy. CompliesWithAll description.now policy) }
 {

@@ -6,7 +6,7 @@ ghost use Rattle.flow_set.specs.FlowSet.{has};
 ghost use Rattle.net_core.specs.inner.Asking.{asking_for, asking_where, not_asking_for};
 ghost use Rattle.net_core.specs.inner.Fitting.{IsNetwork};
 ghost use Rattle.inv_any.specs.Templates.{meaning_of};
-ghost use Rattle.net_core.specs.Policies.{IsPolicyOf, JudgesFlowsAlone, edge_mark, holds_on, strategy_of};
+ghost use Rattle.net_core.specs.Policies.{IsPolicyOf, IsEdgeWiseNetwork, edge_mark, holds_on, strategy_of};
 ghost use Rattle.net_core.specs.inner.EdgePolicies.{IsAdmitted, IsAnswered};
 ghost use Rattle.state_core.specs.Stateful.{is_strict};
 
@@ -25,7 +25,7 @@ pub(crate) fn change_flow(
     asked: bool,
 )
     requires network { IsNetwork description.now }
-    requires alone { JudgesFlowsAlone description.now }
+    requires alone { IsEdgeWiseNetwork description.now }
     requires flow { IsFlow description.now.asked.size flow }
     requires fresh { IsTrue asked → IsFalse (has description.now.asked.flows flow) }
     requires policy { IsPolicyOf description.now (record { permitted = permitted.old; stateful = stateful.old }) }
@@ -42,7 +42,7 @@ pub(crate) fn change_flow(
 /// they are admitted as well.
 fn add_flow(description: &Description, permitted: &mut FlowSet, stateful: &mut FlowSet, flow: Flow)
     requires network { IsNetwork description.now }
-    requires alone { JudgesFlowsAlone description.now }
+    requires alone { IsEdgeWiseNetwork description.now }
     requires flow { IsFlow description.now.asked.size flow }
     requires fresh { IsFalse (has description.now.asked.flows flow) }
     requires policy { IsPolicyOf description.now (record { permitted = permitted.old; stateful = stateful.old }) }
@@ -66,7 +66,7 @@ fn remove_flow(
     flow: Flow,
 )
     requires network { IsNetwork description.now }
-    requires alone { JudgesFlowsAlone description.now }
+    requires alone { IsEdgeWiseNetwork description.now }
     requires flow { IsFlow description.now.asked.size flow }
     requires policy { IsPolicyOf description.now (record { permitted = permitted.old; stateful = stateful.old }) }
     ensures { IsPolicyOf (not_asking_for description.now flow) (record { permitted = permitted.new; stateful = stateful.new }) }
@@ -77,8 +77,8 @@ fn remove_flow(
 }
 
 /// Whether every invariant is edge-wise.
-pub(crate) fn judges_flows_alone(description: &Description) -> bool
-    ensures { IsTrue result ↔ JudgesFlowsAlone description.now }
+pub(crate) fn is_edge_wise_network(description: &Description) -> bool
+    ensures { IsTrue result ↔ IsEdgeWiseNetwork description.now }
 {
     for invariant in description.invariants() {
         if !invariant.edge_wise() {

@@ -6,7 +6,7 @@ use Rattle.std.proofs.lemmas.List.{take-append-drop}
 use Rattle.std.proofs.lemmas.List.Elements.{filter-append}
 use Rattle.std.proofs.lemmas.List.Splits.{slice_split-cons_yes, slice_split-cons_no, length-slice_split}
 use Rattle.text_core.proofs.StepsLaws.{bytes_same, split_bool}
-use Rattle.ofp_read.specs.Grammar.{is_separator, has_bytes, fields, ends_apart}
+use Rattle.ofp_read.specs.Grammar.{is_separator, has_bytes, fields, ends_with_separator}
 use Rattle.ofp_read.specs.inner.Cut.{begins_action}
 
 -- 1. The pieces of a text, between its separators.
@@ -42,18 +42,18 @@ fields_ended front s is = fields_both front s [] is ∙ append-nil (fields front
 
 -- 2. A text after which a field may begin.
 
-last_separates : (b : ℕ) (bs : List ℕ) → ends_apart (b ∷ bs) ≡ true
+last_separates : (b : ℕ) (bs : List ℕ) → ends_with_separator (b ∷ bs) ≡ true
     → (front : List ℕ) × (s : ℕ) × (b ∷ bs ≡ front ++ s ∷ []) × (is_separator s ≡ true)
 last_separates b [] apart = ([], b, refl, apart)
 last_separates b (c ∷ cs) apart = let last = last_separates c cs apart in (b ∷ last.0, last.1, ap (λ xs. b ∷ xs) last.2, last.3)
 
-pub separator_last : (front : List ℕ) (s : ℕ) → is_separator s ≡ true → ends_apart (front ++ s ∷ []) ≡ true
+pub separator_last : (front : List ℕ) (s : ℕ) → is_separator s ≡ true → ends_with_separator (front ++ s ∷ []) ≡ true
 separator_last [] s is = is
 separator_last (b ∷ []) s is = is
 separator_last (b ∷ c ∷ cs) s is = separator_last (c ∷ cs) s is
 
 -- Its fields, and those of the rest.
-pub fields_apart : (front rest : List ℕ) → ends_apart front ≡ true → fields (front ++ rest) ≡ fields front ++ fields rest
+pub fields_apart : (front rest : List ℕ) → ends_with_separator front ≡ true → fields (front ++ rest) ≡ fields front ++ fields rest
 fields_apart [] rest apart = refl
 fields_apart (b ∷ bs) rest apart =
     let last = last_separates b bs apart in
@@ -110,13 +110,13 @@ no_fields (b ∷ bs) more begins none =
     (slice_split-cons_no is_separator b bs (ap is_separator first) ∙ ap (onto_first b) piece.2) in
     let clash = sym none ∙ some in cc
 
-nothing_between : (front between rest more : List ℕ) → ends_apart front ≡ true → fields (front ++ between) ≡ fields front
+nothing_between : (front between rest more : List ℕ) → ends_with_separator front ≡ true → fields (front ++ between) ≡ fields front
     → begins_action rest ≡ true → rest ≡ between ++ more → rest ≡ more
 nothing_between front between rest more apart same begins is =
     let none = nothing_more (fields front) (fields between) (sym (fields_apart front between apart) ∙ same) in
     is ∙ ap (λ xs. xs ++ more) (no_fields between more (ap begins_action (sym is) ∙ begins) none)
 
-pub same_rest : (front rest other more : List ℕ) → front ++ rest ≡ other ++ more → ends_apart front ≡ true → ends_apart other ≡ true
+pub same_rest : (front rest other more : List ℕ) → front ++ rest ≡ other ++ more → ends_with_separator front ≡ true → ends_with_separator other ≡ true
     → fields front ≡ fields other → begins_action rest ≡ true → begins_action more ≡ true → rest ≡ more
 same_rest front rest other more whole apart also same begins too = elim (prefixes front rest other more whole) [
   | inl longer ↦ nothing_between front longer.0 rest more apart (ap fields (sym longer.1) ∙ sym same) begins longer.2

@@ -2,7 +2,7 @@
 use Rattle.std.proofs.Common.{◌≡◌, inl, inr, ℕ, ◌+◌, List, [], ◌∷◌, ◌++◌, refl, sym, ap, subst, ◌∙◌, arith}
 use Rattle.text_core.specs.Lines.{lines}
 use Rattle.text_core.specs.Reading.{Follows}
-use Rattle.text_core.proofs.TextByLinesLaws.{IsSettled, one_reading as reading_once, one_fault as fault_once, no_reading_with_fault as reading_or_fault_alone}
+use Rattle.text_core.proofs.LineFormatLaws.{IsSettled, one_reading as reading_once, one_fault as fault_once, no_reading_with_fault as reading_or_fault_alone}
 use Rattle.ofp_rules.specs.declared.entry.Entry.{Entry}
 use Rattle.ofp_rules.specs.Ambiguity.{Contradict}
 use Rattle.ofp_rules.specs.inner.Build.{IsTable}

@@ -14,7 +14,7 @@ use Rattle.ofp_read.specs.declared.given.Given.{Given}
 use Rattle.ofp_read.specs.inner.Cut.{begins_action, IsCut}
 use Rattle.ofp_read.specs.inner.FieldTable.{with_piece}
 use Rattle.ofp_read.specs.inner.FlowLine.{nothing_given, action_of, entry_of, with_action}
-use Rattle.ofp_read.specs.Grammar.{is_separator, has_bytes, fields, ends_apart, AreFieldsOf, HasFlow, Writes}
+use Rattle.ofp_read.specs.Grammar.{is_separator, has_bytes, fields, ends_with_separator, AreFieldsOf, HasFlow, Writes}
 use Rattle.ofp_read.specs.Unwritten.{IsUnwritten, bad_field, no_action, unknown_action, needs_ip}
 use Rattle.ofp_read.proofs.ActionLaws.{action_said, action_read, word_of_text}
 use Rattle.ofp_read.proofs.ApartLaws.{fields_ended, separator_last, fields_apart, action_begins}
@@ -61,13 +61,13 @@ behind_shorter text piece behind some cut = elim cut.cut [
 pub record IsBehind (line rest : List ℕ) (g : Given) : Type 0 where
   pub front : List ℕ
   pub whole : line ≡ front ++ rest
-  pub apart : (ends_apart front ≡ true) ⊎ (rest ≡ [])
+  pub apart : (ends_with_separator front ≡ true) ⊎ (rest ≡ [])
   pub reads : Reads g (fields front)
 
 pub at_start : (line : List ℕ) → IsBehind line line nothing_given
 at_start line = record { front = []; whole = refl; apart = inl refl; reads = reads_none }
 
-apart_at : (front rest : List ℕ) → 0 < length rest → (ends_apart front ≡ true) ⊎ (rest ≡ []) → ends_apart front ≡ true
+apart_at : (front rest : List ℕ) → 0 < length rest → (ends_with_separator front ≡ true) ⊎ (rest ≡ []) → ends_with_separator front ≡ true
 apart_at front rest some (inl apart) = apart
 apart_at front rest some (inr none) = absurd (omega (arith, some, ap length none))
 

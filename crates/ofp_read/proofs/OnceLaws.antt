@@ -11,7 +11,7 @@ use Rattle.ofp_read.specs.declared.fault.OfpWhy.TheVariants.{BadLine, NeedsIp, U
 use Rattle.ofp_read.specs.inner.Cut.{begins_action}
 use Rattle.ofp_read.specs.inner.FieldTable.{key_named}
 use Rattle.ofp_read.specs.inner.FlowLine.{action_of}
-use Rattle.ofp_read.specs.Grammar.{Part, kind, protocol, fields, EachSays, no_field, one_part, two_parts, IsNoneOf, AreDistinct, AreFieldsOf, ends_apart, HasFlow, Writes}
+use Rattle.ofp_read.specs.Grammar.{Part, kind, protocol, fields, EachSays, no_field, one_part, two_parts, IsNoneOf, AreDistinct, AreFieldsOf, ends_with_separator, HasFlow, Writes}
 use Rattle.ofp_read.specs.Unwritten.{IsAbout, AreNew, IsBadField, unknown, twice, valueless, IsUnwritten, bad_field, no_action, unknown_action, needs_ip}
 use Rattle.ofp_read.proofs.NamedLaws.{some_same}
 use Rattle.ofp_read.proofs.KeyLaws.{parts_in, parts_about, one_about, each_about}
@@ -161,8 +161,8 @@ one_stop said (here ∷ behind) o p (inl a) (inr b) = absurd (not_both a.0 b.1)
 one_stop said (here ∷ behind) o p (inr a) (inl b) = absurd (not_both b.0 a.1)
 one_stop said (here ∷ behind) o p (inr a) (inr b) = a.3 ∙ ap (λ w. Some w) (one_bad said here a.0 b.0 a.2 b.2) ∙ sym b.3
 
-one_outcome : (texts front other : List (List ℕ)) (o p : Option OfpWhy) → Stops texts front o → Stops texts other p → o ≡ p
-one_outcome texts front other o p a b =
+deterministic : (texts front other : List (List ℕ)) (o p : Option OfpWhy) → Stops texts front o → Stops texts other p → o ≡ p
+deterministic texts front other o p a b =
     let same = one_front texts front other o p a b in
     let fields_same : AreFieldsOf b.entry front = subst (AreFieldsOf b.entry) (sym same) b.of_fields in
     let behind_same = append_cancel_left front b.behind a.behind (ap (λ fs. fs ++ b.behind) same ∙ sym b.whole ∙ a.whole) in
@@ -177,7 +177,7 @@ one_outcome texts front other o p a b =
 -- A line splits into the fields of an entry and a text that begins like an action.
 pub record Splits (line front rest : List ℕ) (e : Entry) : Type 0 where
   pub whole : line ≡ front ++ rest
-  pub apart : ends_apart front ≡ true
+  pub apart : ends_with_separator front ≡ true
   pub of_fields : AreFieldsOf e (fields front)
   pub begins : begins_action rest ≡ true
 
@@ -251,7 +251,7 @@ outcome line why (needs_ip e flow asks) =
 
 some_none : (line : List ℕ) (front other : List (List ℕ)) (why : OfpWhy) → Stops (fields line) front (Some why)
     → Stops (fields line) other None → ⊥
-some_none line front other why a b = let same = one_outcome (fields line) front other (Some why) None a b in cc
+some_none line front other why a b = let same = deterministic (fields line) front other (Some why) None a b in cc
 
 one_late : (line : List ℕ) (w v : OfpWhy) → IsLate line w → IsLate line v → w ≡ v
 one_late line w v (inl a) (inl b) = a.0 ∙ sym b.0
@@ -260,7 +260,7 @@ one_late line w v (inr a) (inl b) = absurd (b.1 a.1.0 a.1.1)
 one_late line w v (inr a) (inr b) = a.0 ∙ sym b.0
 
 by_outcome : (line : List ℕ) (w v : OfpWhy) → Outcome line w → Outcome line v → w ≡ v
-by_outcome line w v (inl a) (inl b) = some_same w v (one_outcome (fields line) a.0 b.0 (Some w) (Some v) a.1 b.1)
+by_outcome line w v (inl a) (inl b) = some_same w v (deterministic (fields line) a.0 b.0 (Some w) (Some v) a.1 b.1)
 by_outcome line w v (inl a) (inr b) = absurd (some_none line a.0 b.0.0 w a.1 b.0.1)
 by_outcome line w v (inr a) (inl b) = absurd (some_none line b.0 a.0.0 v b.1 a.0.1)
 by_outcome line w v (inr a) (inr b) = one_late line w v a.1 b.1

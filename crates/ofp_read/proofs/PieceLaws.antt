@@ -21,7 +21,7 @@ use Rattle.ofp_rules.specs.inner.Ranges.{address_fits, number_fits}
 use Rattle.ofp_read.specs.declared.given.Given.{Given}
 use Rattle.ofp_read.specs.inner.FieldTable.{with_field}
 use Rattle.ofp_read.specs.inner.FlowLine.{nothing_given}
-use Rattle.ofp_read.specs.Grammar.{protocol, is_separator, has_bytes, fields, ends_apart}
+use Rattle.ofp_read.specs.Grammar.{protocol, is_separator, has_bytes, fields, ends_with_separator}
 use Rattle.ofp_read.proofs.PartWords.{one_named}
 use Rattle.ofp_read.proofs.ApartLaws.{separator_last}
 use Rattle.ofp_read.proofs.FieldLaws.{entry_with, read_kind, read_protocol, read_of_says}
@@ -109,7 +109,7 @@ pub record IsPiece (g h : Given) (text : List ℕ) : Type 0 where
   pub texts : List (List ℕ)
   pub read : (before : List (List ℕ)) → Reads g before → Reads h (before ++ texts)
   pub cut : (rest : List ℕ) → fields (text ++ rest) ≡ texts ++ fields rest
-  pub apart : ends_apart text ≡ true
+  pub apart : ends_with_separator text ≡ true
   pub one_line : lacks 10 text ≡ true
 
 no_piece : (g : Given) → IsPiece g g []
@@ -121,7 +121,7 @@ no_piece g = record {
   one_line = refl;
 }
 
-apart_both : (xs ys : List ℕ) → ends_apart xs ≡ true → ends_apart ys ≡ true → ends_apart (xs ++ ys) ≡ true
+apart_both : (xs ys : List ℕ) → ends_with_separator xs ≡ true → ends_with_separator ys ≡ true → ends_with_separator (xs ++ ys) ≡ true
 apart_both [] ys a b = b
 apart_both (x ∷ []) [] a b = a
 apart_both (x ∷ []) (y ∷ ys) a b = b

@@ -114,8 +114,8 @@ IsActionText Normal text = (text ≡ codes "actions=NORMAL") ⊎ (text ≡ codes
 IsActionText Drop text = text ≡ codes "actions=drop"
 
 -- A field may begin after this prefix: the prefix is empty, or ends with a comma or blank.
-abbrev pub ends_apart : List ℕ → Bool
-ends_apart front = option_map_or is_separator (last_or None front) true
+abbrev pub ends_with_separator : List ℕ → Bool
+ends_with_separator front = option_map_or is_separator (last_or None front) true
 
 -- A line has the flow of an entry: its fields, then its action, then only blanks.
 pub record HasFlow (line : List ℕ) (e : Entry) : Type 0 where
@@ -123,7 +123,7 @@ pub record HasFlow (line : List ℕ) (e : Entry) : Type 0 where
   pub action : List ℕ
   pub blanks : List ℕ
   pub written : line ≡ front ++ (action ++ blanks)
-  pub apart : IsTrue (ends_apart front)
+  pub apart : IsTrue (ends_with_separator front)
   pub of_fields : AreFieldsOf e (fields front)
   pub of_action : IsActionText e.action action
   pub blank : IsTrue (list_all is_blank blanks)

@@ -1,6 +1,6 @@
 -- The format of a flow file: the entries that it defines, and the reasons why a line is rejected.
 use Rattle.std.specs.Prelude.{◌≡◌, ◌<◌, ◌≤◌, ℕ, List, [], Some, length, slice_get}
-use Rattle.text_core.specs.TextByLines.{TextByLines, IsReading as IsReadingOf, HasFault as HasFaultOf}
+use Rattle.text_core.specs.LineFormat.{LineFormat, IsReading as IsReadingOf, HasFault as HasFaultOf}
 use Rattle.ofp_rules.specs.declared.entry.Entry.{Entry}
 use Rattle.ofp_rules.specs.Ambiguity.{Contradict, most_entries}
 use Rattle.ofp_read.specs.declared.fault.OfpWhy.{OfpWhy}
@@ -17,15 +17,15 @@ pub data IsBad (before : List Entry) (line : List ℕ) : OfpWhy → Type 0 where
       → Contradict f e → IsBad before line Ambiguous
 
 -- A flow file as a line-oriented format: it defines entries, and may end after any line.
-abbrev pub flows_text : TextByLines (List Entry) OfpWhy
+abbrev pub flows_text : LineFormat (List Entry) OfpWhy
 flows_text = record {
   byte_limit = 67108864;
-  when_longer = TooLong;
+  too_long_reason = TooLong;
   start = [];
   IsLine = AddsEntry;
   IsBadLine = λ n. IsBad;
-  MayEnd = λ entries. Unit {0};
-  EndsBadly = λ n entries line why. ⊥;
+  MayEndIn = λ entries. Unit {0};
+  HasEndFault = λ n entries line why. ⊥;
 }
 
 -- The parse result of a file.

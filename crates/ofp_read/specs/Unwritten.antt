@@ -7,7 +7,7 @@ use Rattle.ofp_rules.specs.declared.entry.Entry.{Entry}
 use Rattle.ofp_rules.specs.Matching.{asks_of_ip}
 use Rattle.ofp_read.specs.declared.fault.OfpWhy.{OfpWhy}
 use Rattle.ofp_read.specs.declared.fault.OfpWhy.TheVariants.{BadLine, UnknownField, BadValue, NeedsIp, UnknownAction}
-use Rattle.ofp_read.specs.Grammar.{Part, kind, protocol, about, fields, EachSays, IsNoneOf, AreFieldsOf, ends_apart, HasFlow}
+use Rattle.ofp_read.specs.Grammar.{Part, kind, protocol, about, fields, EachSays, IsNoneOf, AreFieldsOf, ends_with_separator, HasFlow}
 
 -- A field specifies these parts, regardless of its value: it begins with their name, or it is a name without a value.
 pub data IsAbout : List Part → List ℕ → Type 0 where
@@ -44,6 +44,6 @@ pub record HasBadField (line : List ℕ) (why : OfpWhy) : Type 0 where
 pub data IsUnwritten (line : List ℕ) : OfpWhy → Type 0 where
   bad_field : {why : OfpWhy} → HasBadField line why → IsUnwritten line why
   no_action : (e : Entry) → AreFieldsOf e (fields line) → IsUnwritten line BadLine
-  unknown_action : (e : Entry) (front text : List ℕ) → line ≡ front ++ (codes "actions=" ++ text) → IsTrue (ends_apart front)
+  unknown_action : (e : Entry) (front text : List ℕ) → line ≡ front ++ (codes "actions=" ++ text) → IsTrue (ends_with_separator front)
       → AreFieldsOf e (fields front) → ((f : Entry) → HasFlow line f → ⊥) → IsUnwritten line UnknownAction
   needs_ip : (e : Entry) → HasFlow line e → IsFalse (asks_of_ip e) → IsUnwritten line NeedsIp

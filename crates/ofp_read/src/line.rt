@@ -16,7 +16,7 @@ use crate::given::Given;
 use ofp_rules::{Action, Entry, FrameKind};
 use text_core::Words;
 
-const NOTHING_GIVEN: Given = Given {
+const EMPTY_FIELDS: Given = Given {
     priority: None,
     table: false,
     kind: None,
@@ -123,7 +123,7 @@ pub(crate) fn read_flow(line: &[u8]) -> Result<Entry, OfpWhy>
     ensures ok { IfOk result (Writes line.now) }
     ensures err { IfErr result (IsUnwritten line.now) }
 {
-    let mut given = NOTHING_GIVEN;
+    let mut given = EMPTY_FIELDS;
     let mut rest = line;
     while !rest.is_empty() {
         if begins_action(rest) {

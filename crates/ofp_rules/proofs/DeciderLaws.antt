@@ -10,7 +10,7 @@ use Rattle.ofp_rules.specs.declared.entry.Entry.{Entry}
 use Rattle.ofp_rules.specs.declared.entry.Frame.{Frame}
 use Rattle.ofp_rules.specs.Deciders.{DecidesAt, IsDecider, decided}
 use Rattle.ofp_rules.specs.Matching.{matches}
-use Rattle.ofp_rules.specs.Meaning.{IsOneOf, HasVerdict, verdict_of}
+use Rattle.ofp_rules.specs.Semantics.{IsOneOf, HasVerdict, verdict_of}
 use Rattle.ofp_rules.specs.inner.Deciding.{DecidesTo, IsFoundTo, found_with, is_higher, place_of}
 use Rattle.ofp_rules.proofs.HighestLaws.{one_of_at}
 

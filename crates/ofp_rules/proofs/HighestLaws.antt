@@ -5,7 +5,7 @@ use Rattle.host_net.specs.declared.packet.Verdict.{Verdict}
 use Rattle.ofp_rules.specs.declared.entry.Frame.{Frame}
 use Rattle.ofp_rules.specs.declared.entry.Entry.{Entry}
 use Rattle.ofp_rules.specs.Matching.{matches}
-use Rattle.ofp_rules.specs.Meaning.{IsOneOf, IsHighest, HasVerdict}
+use Rattle.ofp_rules.specs.Semantics.{IsOneOf, IsHighest, HasVerdict}
 use Rattle.ofp_rules.specs.inner.Highest.{IsFound, is_above, higher, verdict_by}
 
 -- ys has the entries of xs, and x.

@@ -3,7 +3,7 @@ use Rattle.std.proofs.Common.{◌≡◌, ℕ, zero, suc, ◌+◌, ◌-◌, ◌^�
 use Rattle.std.proofs.lemmas.Bool.{and_from, and_parts, false_from_ne_true}
 use Rattle.std.proofs.lemmas.List.{take_more}
 use Rattle.std.proofs.lemmas.Option.{same_Some, slice_get_within, slice_get_cases}
-use Rattle.host_net.specs.declared.cover.Covers.{Covers}
+use Rattle.host_net.specs.declared.tuple_space.TupleSpaceIndex.{TupleSpaceIndex}
 use Rattle.host_net.specs.declared.prefix.Prefix.{Prefix}
 use Rattle.host_net.specs.inner.Cover.{IsFirstFrom, covers_both, part_covers}
 use Rattle.host_net.specs.inner.CoverView.{IsIndexOf, key_of}
@@ -58,7 +58,7 @@ next_is entries frame from (Some at) first = record {
 }
 
 -- Each entry of an index has a 32-bit position.
-pub at_small : (entries : List Entry) (index : Covers) → IsIndexOf (all_ends entries) index → (at : ℕ) → at < length entries → at < 2 ^ 32
+pub at_small : (entries : List Entry) (index : TupleSpaceIndex) → IsIndexOf (all_ends entries) index → (at : ℕ) → at < length entries → at < 2 ^ 32
 at_small entries index is at within = elim (slice_get_cases entries at).1 [
   | inl (e, low, there, same) ↦ (is.order.small (key_of (ends_of e) at) (is.every at (ends_of e) (ends_at entries at e there))).place
   | inr (past, there) ↦ absurd (omega (arith, past, within))

@@ -12,7 +12,7 @@ use Rattle.ofp_rules.specs.Matching.{matches, asks_of_ip}
 use Rattle.ofp_rules.specs.Ambiguity.{IsFrame, Contradict, ContradictsNone, most_entries}
 use Rattle.ofp_rules.specs.inner.Build.{IsUnambiguous, IsTable}
 use Rattle.ofp_rules.proofs.AddingLaws.{accepted_more}
-use Rattle.ofp_rules.specs.Meaning.{IsOneOf, HasVerdict, verdict_of}
+use Rattle.ofp_rules.specs.Semantics.{IsOneOf, HasVerdict, verdict_of}
 use Rattle.ofp_rules.specs.inner.Ranges.{AreInRange, in_range}
 use Rattle.ofp_rules.proofs.HighestLaws.{has_verdict}
 

@@ -6,7 +6,7 @@ use Rattle.host_net.specs.declared.packet.Verdict.TheVariants.{Drop as Dropped}
 use Rattle.ofp_rules.specs.declared.entry.Entry.{Entry}
 use Rattle.ofp_rules.specs.declared.entry.Frame.{Frame}
 use Rattle.ofp_rules.specs.Matching.{matches}
-use Rattle.ofp_rules.specs.Meaning.{verdict_of}
+use Rattle.ofp_rules.specs.Semantics.{verdict_of}
 
 -- The entry at index k decides the frame: it matches, no matching entry has a higher priority, and each earlier matching entry has a
 -- lower priority.

@@ -1,6 +1,6 @@
 pub mod Ambiguity
 pub mod Deciders
 pub mod Matching
-pub mod Meaning
+pub mod Semantics
 pub mod Text
 pub mod inner

@@ -8,7 +8,7 @@ ghost use Rattle.header_space.specs.Boxes.{IsBox, IsIn, Narrows};
 ghost use Rattle.header_space.specs.Matching.{field_fits, fits};
 ghost use Rattle.ofp_rules.specs.declared.entry.Frame.TheVariants.{Ipv4};
 ghost use Rattle.ofp_rules.specs.Matching.{matches, number_matches, packet_matches, part_matches};
-ghost use Rattle.ofp_rules.specs.Meaning.{HasVerdict};
+ghost use Rattle.ofp_rules.specs.Semantics.{HasVerdict};
 ghost use Rattle.ofp_rules.specs.inner.Highest.{IsFound, higher};
 
 use crate::entry::{Entry, FrameKind};

@@ -6,7 +6,7 @@ ghost use Rattle.host_net.specs.declared.packet.Packet.{Packet};
 ghost use Rattle.header_space.specs.Boxes.{IsBox, IsIn, Narrows};
 ghost use Rattle.ofp_rules.specs.declared.entry.Frame.TheVariants.{Ipv4};
 ghost use Rattle.ofp_rules.specs.Deciders.{IsDecider, decided};
-ghost use Rattle.ofp_rules.specs.Meaning.{HasVerdict};
+ghost use Rattle.ofp_rules.specs.Semantics.{HasVerdict};
 ghost use Rattle.ofp_rules.specs.inner.Deciding.{found_with, is_higher, place_of};
 
 use crate::entry::Entry;

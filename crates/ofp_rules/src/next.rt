@@ -7,7 +7,7 @@ ghost use Rattle.ofp_rules.specs.Matching.{matches};
 ghost use Rattle.ofp_rules.specs.inner.Next.{IsNext, all_ends, destination_of, ends_of, source_of};
 
 use crate::entry::{Entry, Frame, FrameKind};
-use host_net::{Covers, Ends};
+use host_net::{Ends, TupleSpaceIndex};
 
 impl Entry {
     /// Returns the prefixes that the entry matches on.
@@ -47,7 +47,7 @@ fn destination_of(frame: &Frame) -> u32
 
 /// Returns the index of the first entry from index `from` that may match the frame. The skipped entries
 /// do not match it.
-pub(crate) fn next_entry(index: &Covers, from: usize, frame: &Frame) -> Option<usize>
+pub(crate) fn next_entry(index: &TupleSpaceIndex, from: usize, frame: &Frame) -> Option<usize>
     ensures { (entries : List Entry) → IsIndexOf (all_ends entries) index.now → IsNext (matches frame.now) entries from result }
 {
     index.first(from, source_of(frame), destination_of(frame))

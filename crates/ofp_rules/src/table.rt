@@ -7,14 +7,14 @@ ghost use Rattle.ofp_rules.specs.declared.entry.Entry.{Entry};
 ghost use Rattle.ofp_rules.specs.Matching.{asks_of_ip};
 ghost use Rattle.ofp_rules.specs.Ambiguity.{Contradict};
 ghost use Rattle.ofp_rules.specs.inner.Build.{IsNotAdded, IsRefused, IsTable};
-ghost use Rattle.ofp_rules.specs.Meaning.{HasVerdict, verdict_of};
+ghost use Rattle.ofp_rules.specs.Semantics.{HasVerdict, verdict_of};
 ghost use Rattle.ofp_rules.specs.inner.Highest.{IsFound, higher, is_above, verdict_by};
 ghost use Rattle.ofp_rules.specs.inner.Next.{all_ends};
 ghost use Rattle.host_net.specs.inner.CoverView.{IsIndexOf};
 
 use crate::entry::{Action, Entry, Frame};
 use crate::next::next_entry;
-use host_net::{Covers, Verdict};
+use host_net::{TupleSpaceIndex, Verdict};
 use std::alloc::{AllocError, Global};
 use std::marker::Model;
 
@@ -51,7 +51,7 @@ impl From<AllocError> for TableRefusal {
 pub struct Table {
     pub(crate) entries: Vec<Entry>,
     // The index of the prefixes that the entries match on.
-    index: Covers,
+    index: TupleSpaceIndex,
 }
 
 impl Model for Table {
@@ -78,7 +78,7 @@ impl Table {
         let entries = Vec::with_capacity(alloc, FIRST_ROOM)?;
         Ok(Table {
             entries,
-            index: Covers::new(alloc),
+            index: TupleSpaceIndex::new(alloc),
         })
     }
 
@@ -178,7 +178,7 @@ fn first_against(earlier: &[Entry], entry: &Entry) -> Option<usize>
 }
 
 /// Returns the matching entry of the highest priority, the first if there are several.
-fn highest<'a>(entries: &'a [Entry], index: &Covers, frame: &Frame) -> Option<&'a Entry>
+fn highest<'a>(entries: &'a [Entry], index: &TupleSpaceIndex, frame: &Frame) -> Option<&'a Entry>
     requires { IsIndexOf (all_ends entries.now) index.now }
     ensures { IsFound entries.now frame.now (option_copied result) }
 {

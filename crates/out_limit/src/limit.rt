@@ -89,7 +89,7 @@ impl Invariant for OutLimit {
 
     ghost holds_on_none = { KeepsLimits-nothing };
 
-    ghost reset_mends_nothing = { KeepsLimits-reset };
+    ghost reset_preserves_violation = { KeepsLimits-reset };
 
     ghost mark_is_right = { λ _ marked. absurd (false≢true marked) };
 }

@@ -57,7 +57,7 @@ impl<I: Stepwise> Invariant for StepsOnly<I> {
 
     ghost holds_on_none = { λ x. I.holds_on_none x.inner };
 
-    ghost reset_mends_nothing = { λ x. I.reset_mends_nothing x.inner };
+    ghost reset_preserves_violation = { λ x. I.reset_preserves_violation x.inner };
 
     ghost mark_is_right = { λ x. I.mark_is_right x.inner };
 }

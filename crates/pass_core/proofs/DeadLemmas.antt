@@ -8,7 +8,7 @@ use Rattle.ipt_rules.specs.declared.marks.Place.{Place}
 use Rattle.ipt_rules.specs.Chain.{Chain, rules_of}
 use Rattle.ipt_rules.specs.Marks.{is_marked}
 use Rattle.ipt_rules.specs.Meets.{IsMet}
-use Rattle.ipt_rules.specs.inner.OneOutcome.{EachGivesOne}
+use Rattle.ipt_rules.specs.inner.OneOutcome.{AreDeterministic}
 use Rattle.ipt_rules.proofs.DeadRuleLaws.{same_verdicts}
 use Rattle.audit_core.proofs.FaultLaws.{in_every, packet_in_every}
 use Rattle.pass_core.specs.Dead.{AreAscending, AreDead, AreRemovable, ComesBefore, HasForwardRule, IsDead, is_listed, same_place}
@@ -225,6 +225,6 @@ module _ (chains : List Chain) (b : PacketBox) (old new : MetRules) (same : old.
       → AreDead chains places
   dead_by marks places is are = are_dead places (subst (λ (x : List (List Bool)). AreUnmarkedBefore chains x (at (length chains) 0) places) is are)
 
-pub are_removable : (chains : List Chain) (places : List Place) → EachGivesOne chains → AreDead chains places → AreRemovable chains places
+pub are_removable : (chains : List Chain) (places : List Place) → AreDeterministic chains → AreDead chains places → AreRemovable chains places
 are_removable chains places each dead p state v is =
     same_verdicts (is_listed places) chains p state each (λ place on met. ((dead.exact place).0 on).1 p state is met) v

@@ -7,8 +7,8 @@ use Rattle.flow_set.specs.declared.flow.Flow.{Flow}
 use Rattle.flow_set.specs.Flow.{before, same_flow}
 use Rattle.flow_set.specs.FlowSet.{has, IsOrdered, IsSubset, with_flow, without}
 use Rattle.flow_set.specs.inner.FlowSetView.{IsFlowSet, without_flow}
-use Rattle.flow_set.specs.Conditions.{IsMinimalOffending, DiffersFirstIn, IsFirst, IsGreatest}
-use Rattle.flow_set.specs.inner.Downward.{IsDownward, IsEdgeWise}
+use Rattle.flow_set.specs.Conditions.{IsMinimalOffending, PrecedesAtFirstDifference, IsFirst, IsGreatest}
+use Rattle.flow_set.specs.inner.Downward.{IsDownwardClosed, IsEdgeWise}
 use Rattle.flow_set.proofs.ConditionLaws.{edge_wise-with_flow}
 use Rattle.flow_set.specs.laws.FlowLaws.{has_nothing, same_flow_self, same_fact, after_not_same, before_trans, same_flow_from_order, has-with_flow, has-without_flow, has-without, has-append, has_first, flows_ext, IsOrdered-without_flow, IsOrdered-without, front_before, with_flow-without_flow, without_flow_absent}
 use Rattle.flow_set.proofs.SubsetLaws.{IsFlowSet-subset, subset_self, subset_trans, subset_without, subset_without_flow, subset_front, with_flow_within, nothing_within}
@@ -70,15 +70,15 @@ rest_within xs ys f sub = record {
       ];
 }
 
-rest_holds : (n : ℕ) (Holds : List Flow → Type 0) (xs ys : List Flow) (f : Flow) → IsFlowSet n (xs ++ f ∷ []) → IsDownward n Holds
+rest_holds : (n : ℕ) (Holds : List Flow → Type 0) (xs ys : List Flow) (f : Flow) → IsFlowSet n (xs ++ f ∷ []) → IsDownwardClosed n Holds
     → IsSubset ys (xs ++ f ∷ []) → Holds ys → Holds (without_flow ys f)
 rest_holds n Holds xs ys f set downward sub holds =
     downward ys (without_flow ys f) (IsFlowSet-subset n ys (xs ++ f ∷ []) set sub) (subset_without_flow ys f sub.ordered) holds
 
 -- A set that differs from kept in a flow before f also differs there from kept with f, regardless of whether it
 -- contains f.
-differs_earlier : (kept ys : List Flow) (f : Flow) (d : DiffersFirstIn kept (without_flow ys f)) → IsTrue (before d.flow f)
-    → DiffersFirstIn kept ys
+differs_earlier : (kept ys : List Flow) (f : Flow) (d : PrecedesAtFirstDifference kept (without_flow ys f)) → IsTrue (before d.flow f)
+    → PrecedesAtFirstDifference kept ys
 differs_earlier kept ys f d early = record {
   flow = d.flow;
   here = d.here;
@@ -86,8 +86,8 @@ differs_earlier kept ys f d early = record {
   same_before = λ g earlier. d.same_before g earlier ∙ sym (same_but_last ys f g (before_trans g d.flow f earlier early));
 }
 
-differs_still : (kept ys : List Flow) (f : Flow) (d : DiffersFirstIn kept ys) → IsTrue (before d.flow f)
-    → DiffersFirstIn (with_flow kept f) ys
+differs_still : (kept ys : List Flow) (f : Flow) (d : PrecedesAtFirstDifference kept ys) → IsTrue (before d.flow f)
+    → PrecedesAtFirstDifference (with_flow kept f) ys
 differs_still kept ys f d early = record {
   flow = d.flow;
   here = has-with_flow kept f d.flow ∙ or_right _ _ d.here;
@@ -96,7 +96,7 @@ differs_still kept ys f d early = record {
 }
 
 -- f is the difference if ys lacks f and is otherwise equal to kept.
-differs_last : (kept ys : List Flow) (f : Flow) → without_flow ys f ≡ kept → IsFalse (has ys f) → DiffersFirstIn (with_flow kept f) ys
+differs_last : (kept ys : List Flow) (f : Flow) → without_flow ys f ≡ kept → IsFalse (has ys f) → PrecedesAtFirstDifference (with_flow kept f) ys
 differs_last kept ys f same absent = record {
   flow = f;
   here = has-with_flow kept f f ∙ or_left _ _ (same_flow_self f);
@@ -106,7 +106,7 @@ differs_last kept ys f same absent = record {
 
 -- The pass keeps f if the condition holds with it.
 pub first_kept : (n : ℕ) (Holds : List Flow → Type 0) (xs kept : List Flow) (f : Flow) → IsFlowSet n (xs ++ f ∷ [])
-    → IsDownward n Holds → IsFirst Holds xs kept → Holds (with_flow kept f) → IsFirst Holds (xs ++ f ∷ []) (with_flow kept f)
+    → IsDownwardClosed n Holds → IsFirst Holds xs kept → Holds (with_flow kept f) → IsFirst Holds (xs ++ f ∷ []) (with_flow kept f)
 unfolding differs_earlier
 first_kept n Holds xs kept f set downward p holds = record {
   within = with_flow_within kept (xs ++ f ∷ []) f (subset_trans kept xs (xs ++ f ∷ []) p.within (subset_front xs (f ∷ []) set.ordered)) (has-append xs (f ∷ []) f ∙ or_right _ _ (has_first f []));
@@ -125,7 +125,7 @@ first_kept n Holds xs kept f set downward p holds = record {
 
 -- The pass omits f if the condition fails with it.
 pub first_left : (n : ℕ) (Holds : List Flow → Type 0) (xs kept : List Flow) (f : Flow) → IsFlowSet n (xs ++ f ∷ [])
-    → IsDownward n Holds → IsFirst Holds xs kept → (Holds (with_flow kept f) → ⊥) → IsFirst Holds (xs ++ f ∷ []) kept
+    → IsDownwardClosed n Holds → IsFirst Holds xs kept → (Holds (with_flow kept f) → ⊥) → IsFirst Holds (xs ++ f ∷ []) kept
 first_left n Holds xs kept f set downward p fails = record {
   within = subset_trans kept xs (xs ++ f ∷ []) p.within (subset_front xs (f ∷ []) set.ordered);
   holds = p.holds;
@@ -169,7 +169,7 @@ first_offending Holds all xs o p fails =
     record {
       within = subset_without all xs o;
       fails = fails;
-      mended = subst Holds (sym back) p.holds;
+      holds_without = subst Holds (sym back) p.holds;
       minimal = λ g left holds.
           let parts = and_parts _ _ (sym (has-without all xs g) ∙ left) in
           first_with Holds all xs g p parts.0 (not-true _ parts.1) (subst (λ (zs : List Flow). Holds (with_flow zs g)) back holds);

@@ -4,13 +4,13 @@ use Rattle.std.proofs.Common.{◌≡◌, ℕ, Bool, List, get_or, subst}
 use Rattle.std.specs.Prelude.{All, IsTrue}
 use Rattle.flow_set.specs.declared.flow.Flow.{Flow}
 use Rattle.flow_set.specs.FlowSet.{with_flow}
-use Rattle.flow_set.specs.inner.Downward.{IsDownward, IsEdgeWise}
+use Rattle.flow_set.specs.inner.Downward.{IsDownwardClosed, IsEdgeWise}
 use Rattle.permit_core.proofs.FirstLaws.{first_with}
 use Rattle.permit_core.specs.Policy.{AllHold}
 use Rattle.permit_core.specs.inner.Denied.{IsDenied}
 
 pub AllHold-downward : {X : Type 0} (n : ℕ) (HoldsOn : X → List Flow → Type 0) (invs : List X)
-    → All (λ inv. IsDownward n (HoldsOn inv)) invs → IsDownward n (AllHold HoldsOn invs)
+    → All (λ inv. IsDownwardClosed n (HoldsOn inv)) invs → IsDownwardClosed n (AllHold HoldsOn invs)
 AllHold-downward n HoldsOn invs downward e s set sub hold = λ k d within. downward k d within e s set sub (hold k d within)
 
 pub AllHold-edge_wise : {X : Type 0} (n : ℕ) (HoldsOn : X → List Flow → Type 0) (invs : List X)

@@ -10,7 +10,7 @@ use Rattle.flow_set.specs.Conditions.{IsFirst}
 use Rattle.flow_set.specs.laws.FlowLaws.{before_self, has-append, has_first, front_before, without_flow-with_flow}
 use Rattle.flow_set.proofs.SubsetLaws.{IsFlowSet-subset, subset_trans, subset_front}
 use Rattle.flow_set.specs.laws.WalkLaws.{walk_next}
-use Rattle.permit_core.specs.inner.Grown.{IsGrown, IsNew}
+use Rattle.permit_core.specs.inner.Grown.{IsExtended, IsNew}
 
 -- The flows so far together with f are a set.
 pub walked : (n : ℕ) (xs left rest whole : List Flow) (f : Flow) → IsFlowSet n whole → xs ++ left ≡ whole → left ≡ f ∷ rest
@@ -43,7 +43,7 @@ kept_new n xs kept f set sub = record {
 
 -- The kept flows together with f are a set that satisfied the condition, with one more flow.
 pub kept_grown : (n m : ℕ) (Holds : List Flow → Type 0) (xs kept fs : List Flow) (f : Flow) → n ≡ m → IsFlowSet n (xs ++ f ∷ [])
-    → IsFirst Holds xs kept → fs ≡ with_flow kept f → IsGrown m Holds fs f
+    → IsFirst Holds xs kept → fs ≡ with_flow kept f → IsExtended m Holds fs f
 kept_grown n m Holds xs kept fs f same set p grown = record {
   old = kept;
   set = subst (λ k. IsFlowSet k kept) same (kept_set n xs kept f set p.within);

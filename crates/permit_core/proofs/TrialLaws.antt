@@ -1,22 +1,22 @@
 -- Lemmas on lists of invariants with their trials.
 use Rattle.std.proofs.Common.{◌≡◌, ℕ, ◌<◌, List, length, set, get_or, None, inl, inr, sym, ◌∙◌, ap, subst, arith}
 use Rattle.flow_set.specs.declared.flow.Flow.{Flow}
-use Rattle.flow_set.specs.inner.Steps.{TriedFlows}
+use Rattle.flow_set.specs.inner.Steps.{UndoableFlows}
 use Rattle.std.proofs.lemmas.Bool.{cases_eq}
 use Rattle.std.proofs.lemmas.List.{get_or-set_same, get_or-set_other, get_or_read, length-set}
 use Rattle.permit_core.specs.inner.Trials.{AreTried}
 
 -- A trial in the list has the flows.
-pub flows_read : {X T : Type 0} (Fits : X → T → Type 0) (tried : T → TriedFlows) (invs : List X) (trials : List T) (e : List Flow) (i : ℕ) (inv : X) (t : T)
+pub flows_read : {X T : Type 0} (Fits : X → T → Type 0) (tried : T → UndoableFlows) (invs : List X) (trials : List T) (e : List Flow) (i : ℕ) (inv : X) (t : T)
     → AreTried Fits tried invs trials e → i < length invs → t ≡ get_or trials i t → (tried t).flows ≡ e
 flows_read Fits tried invs trials e i inv t are within read = ap (λ u. (tried u).flows) read ∙ are.flows i inv t within
 
 -- The trials after one of them made a step and undid it.
-pub AreTried-asked : {X T : Type 0} (Fits : X → T → Type 0) (tried : T → TriedFlows) (invs : List X) (trials : List T) (e : List Flow) (i : ℕ) (inv : X) (old t : T)
+pub AreTried-asked : {X T : Type 0} (Fits : X → T → Type 0) (tried : T → UndoableFlows) (invs : List X) (trials : List T) (e : List Flow) (i : ℕ) (inv : X) (old t : T)
     → AreTried Fits tried invs trials e → i < length invs → inv ≡ get_or invs i inv → old ≡ get_or trials i old → Fits inv t → tried t ≡ record (tried old) { before_step = None }
     → AreTried Fits tried invs (set trials i t) e
 AreTried-asked Fits tried invs trials e i inv old t are within read read_old fits again =
-    let flows : (tried t).flows ≡ e = ap (λ (w : TriedFlows). w.flows) again ∙ flows_read Fits tried invs trials e i inv old are within read_old in
+    let flows : (tried t).flows ≡ e = ap (λ (w : UndoableFlows). w.flows) again ∙ flows_read Fits tried invs trials e i inv old are within read_old in
     let room : i < length trials = omega (arith, within, are.counted) in
     record {
       counted = length-set trials i t ∙ are.counted;

@@ -10,9 +10,9 @@ use Rattle.flow_set.specs.Flow.{IsFlow}
 use Rattle.flow_set.specs.FlowSet.{with_flow}
 use Rattle.flow_set.specs.inner.FlowSetView.{IsFlowSet}
 use Rattle.flow_set.specs.inner.Downward.{IsEdgeWise}
-use Rattle.flow_set.specs.inner.Steps.{TriedFlows}
+use Rattle.flow_set.specs.inner.Steps.{UndoableFlows}
 use Rattle.flow_set.proofs.ConditionLaws.{edge_wise-with_flow}
-use Rattle.permit_core.specs.inner.Tried.{Became, CanTake, ChosenTried, Tried, invariants_of}
+use Rattle.permit_core.specs.inner.Tried.{AllStep, CanTake, ChosenTried, Tried, invariants_of}
 use Rattle.permit_core.specs.inner.Trials.{ChosenHold}
 
 -- ---- chosen invariants and those that have trials
@@ -43,9 +43,9 @@ All-tried P chosen invs trials same = (
 -- ---- changes of the flows of trials
 
 -- One change followed by another.
-pub Became-then : {X T : Type 0} (Fits : X → T → Type 0) (tried : T → TriedFlows) (become : List Flow → List Flow) (old mid new : List (Tried X T))
-    → Became Fits tried (λ fs. fs) old mid → Became Fits tried become mid new → Became Fits tried become old new
-Became-then Fits tried become old mid new first then = record {
+pub AllStep-then : {X T : Type 0} (Fits : X → T → Type 0) (tried : T → UndoableFlows) (become : List Flow → List Flow) (old mid new : List (Tried X T))
+    → AllStep Fits tried (λ fs. fs) old mid → AllStep Fits tried become mid new → AllStep Fits tried become old new
+AllStep-then Fits tried become old mid new first then = record {
   counted = then.counted ∙ first.counted;
   invariants = then.invariants ∙ first.invariants;
   fits = then.fits;
@@ -59,8 +59,8 @@ same_invariant old new k t same below there =
     sym (get_or-map (λ u. u.invariant) new k t t.invariant below) ∙ ap (λ xs. get_or xs k t.invariant) same ∙ get_or-map (λ u. u.invariant) old k t t.invariant there
 
 -- The trials can take a flow as before if their flows are unchanged.
-pub CanTake-again : {X T : Type 0} (size_of : X → ℕ) (HoldsOn : X → List Flow → Type 0) (Fits : X → T → Type 0) (tried : T → TriedFlows) (f : Flow) (old new : List (Tried X T))
-    → Became Fits tried (λ fs. fs) old new → All (CanTake size_of HoldsOn Fits tried f) old → All (CanTake size_of HoldsOn Fits tried f) new
+pub CanTake-again : {X T : Type 0} (size_of : X → ℕ) (HoldsOn : X → List Flow → Type 0) (Fits : X → T → Type 0) (tried : T → UndoableFlows) (f : Flow) (old new : List (Tried X T))
+    → AllStep Fits tried (λ fs. fs) old new → All (CanTake size_of HoldsOn Fits tried f) old → All (CanTake size_of HoldsOn Fits tried f) new
 CanTake-again size_of HoldsOn Fits tried f old new same can k t below =
     let there : k < length old = omega (arith, below, same.counted) in
     let inv : (get_or new k t).invariant ≡ (get_or old k t).invariant = same_invariant old new k t same.invariants below there in
@@ -71,8 +71,8 @@ CanTake-again size_of HoldsOn Fits tried f old new same can k t below =
     }
 
 -- An invariant holds for one more flow if it did for the previous flows of its trial.
-pub holds_again : {X T : Type 0} (HoldsOn : X → List Flow → Type 0) (Fits : X → T → Type 0) (tried : T → TriedFlows) (f : Flow) (old new : List (Tried X T)) (i : ℕ) (t : Tried X T)
-    → Became Fits tried (λ fs. fs) old new → i < length old → t ≡ get_or new i t
+pub holds_again : {X T : Type 0} (HoldsOn : X → List Flow → Type 0) (Fits : X → T → Type 0) (tried : T → UndoableFlows) (f : Flow) (old new : List (Tried X T)) (i : ℕ) (t : Tried X T)
+    → AllStep Fits tried (λ fs. fs) old new → i < length old → t ≡ get_or new i t
     → HoldsOn t.invariant (with_flow (tried t.trial).flows f) ↔ HoldsOn (get_or old i t).invariant (with_flow (tried (get_or old i t).trial).flows f)
 holds_again HoldsOn Fits tried f old new i t same below read =
     let there : i < length new = omega (arith, below, same.counted) in
@@ -83,10 +83,10 @@ holds_again HoldsOn Fits tried f old new i t same below read =
     )
 
 -- The trials after one of them was tested and its flows were restored.
-pub Became-asked : {X T : Type 0} (Fits : X → T → Type 0) (tried : T → TriedFlows) (old trials : List (Tried X T)) (i : ℕ) (t new : Tried X T)
-    → Became Fits tried (λ fs. fs) old trials → i < length trials → t ≡ get_or trials i t → new.invariant ≡ t.invariant
-    → Fits new.invariant new.trial → (tried new.trial).flows ≡ (tried t.trial).flows → Became Fits tried (λ fs. fs) old (set trials i new)
-Became-asked Fits tried old trials i t new same within read inv fits flows = record {
+pub AllStep-asked : {X T : Type 0} (Fits : X → T → Type 0) (tried : T → UndoableFlows) (old trials : List (Tried X T)) (i : ℕ) (t new : Tried X T)
+    → AllStep Fits tried (λ fs. fs) old trials → i < length trials → t ≡ get_or trials i t → new.invariant ≡ t.invariant
+    → Fits new.invariant new.trial → (tried new.trial).flows ≡ (tried t.trial).flows → AllStep Fits tried (λ fs. fs) old (set trials i new)
+AllStep-asked Fits tried old trials i t new same within read inv fits flows = record {
   counted = length-set trials i new ∙ same.counted;
   invariants = map-set_same (λ u. u.invariant) trials i new t (inv ∙ ap (λ u. u.invariant) read) ∙ same.invariants;
   fits = All-set (λ u. Fits u.invariant u.trial) trials i new fits same.fits;
@@ -101,8 +101,8 @@ Became-asked Fits tried old trials i t new same within read inv fits flows = rec
 }
 
 -- The trials of the chosen invariants after a step that all of them take, or that none of them takes.
-pub ChosenTried-step : {X T : Type 0} (Fits : X → T → Type 0) (tried : T → TriedFlows) (chosen : X → Bool) (invs : List X) (old new : List (Tried X T)) (e : List Flow) (f : Flow) (b : Bool)
-    → ChosenTried Fits tried chosen invs old e → Became Fits tried (λ fs. cond b (with_flow fs f) fs) old new
+pub ChosenTried-step : {X T : Type 0} (Fits : X → T → Type 0) (tried : T → UndoableFlows) (chosen : X → Bool) (invs : List X) (old new : List (Tried X T)) (e : List Flow) (f : Flow) (b : Bool)
+    → ChosenTried Fits tried chosen invs old e → AllStep Fits tried (λ fs. cond b (with_flow fs f) fs) old new
     → ChosenTried Fits tried chosen invs new (cond b (with_flow e f) e)
 ChosenTried-step Fits tried chosen invs old new e f b are step = record {
   invariants = step.invariants ∙ are.invariants;
@@ -114,7 +114,7 @@ ChosenTried-step Fits tried chosen invs old new e f b are step = record {
 
 -- ---- creation of trials
 
-pub ChosenTried-with : {X T : Type 0} (Fits : X → T → Type 0) (tried : T → TriedFlows) (chosen : X → Bool) (invs : List X) (trials : List (Tried X T)) (e : List Flow) (i : ℕ) (inv : X) (new : Tried X T)
+pub ChosenTried-with : {X T : Type 0} (Fits : X → T → Type 0) (tried : T → UndoableFlows) (chosen : X → Bool) (invs : List X) (trials : List (Tried X T)) (e : List Flow) (i : ℕ) (inv : X) (new : Tried X T)
     → ChosenTried Fits tried chosen (take i invs) trials e → i < length invs → inv ≡ get_or invs i inv → IsTrue (chosen inv)
     → new.invariant ≡ inv → Fits inv new.trial → (tried new.trial).flows ≡ e → ChosenTried Fits tried chosen (take (i + 1) invs) (trials ++ new ∷ []) e
 ChosenTried-with Fits tried chosen invs trials e i inv new are within read is same fits flows =
@@ -126,7 +126,7 @@ ChosenTried-with Fits tried chosen invs trials e i inv new are within read is sa
       flows = All-push (λ u. (tried u.trial).flows ≡ e) trials new are.flows flows;
     }
 
-pub ChosenTried-skip : {X T : Type 0} (Fits : X → T → Type 0) (tried : T → TriedFlows) (chosen : X → Bool) (invs : List X) (trials : List (Tried X T)) (e : List Flow) (i : ℕ) (inv : X)
+pub ChosenTried-skip : {X T : Type 0} (Fits : X → T → Type 0) (tried : T → UndoableFlows) (chosen : X → Bool) (invs : List X) (trials : List (Tried X T)) (e : List Flow) (i : ℕ) (inv : X)
     → ChosenTried Fits tried chosen (take i invs) trials e → i < length invs → inv ≡ get_or invs i inv → IsFalse (chosen inv)
     → ChosenTried Fits tried chosen (take (i + 1) invs) trials e
 ChosenTried-skip Fits tried chosen invs trials e i inv are within read out =
@@ -141,7 +141,7 @@ ChosenTried-skip Fits tried chosen invs trials e i inv are within read out =
 -- ---- one more flow
 
 -- The chosen invariants that are not edge-wise can take a flow if all chosen ones hold so far.
-pub CanTake-chosen : {X T : Type 0} (n : ℕ) (size_of : X → ℕ) (HoldsOn : X → List Flow → Type 0) (Fits : X → T → Type 0) (tried : T → TriedFlows) (chosen mark : X → Bool) (invs : List X) (trials : List (Tried X T)) (e : List Flow) (f : Flow)
+pub CanTake-chosen : {X T : Type 0} (n : ℕ) (size_of : X → ℕ) (HoldsOn : X → List Flow → Type 0) (Fits : X → T → Type 0) (tried : T → UndoableFlows) (chosen mark : X → Bool) (invs : List X) (trials : List (Tried X T)) (e : List Flow) (f : Flow)
     → All (λ inv. size_of inv ≡ n) invs → IsFlow n f → ChosenHold chosen HoldsOn invs e
     → ChosenTried Fits tried (λ inv. chosen inv && not (mark inv)) invs trials e → All (CanTake size_of HoldsOn Fits tried f) trials
 CanTake-chosen n size_of HoldsOn Fits tried chosen mark invs trials e f sizes flow hold are k t below =
@@ -158,7 +158,7 @@ CanTake-chosen n size_of HoldsOn Fits tried chosen mark invs trials e f sizes fl
 
 -- The chosen invariants, which hold so far, hold with one more flow if the edge-wise ones hold for this flow individually, and the others
 -- hold for the flows of their trials with this flow.
-pub ChosenHold-step : {X T : Type 0} (n : ℕ) (HoldsOn : X → List Flow → Type 0) (Fits : X → T → Type 0) (tried : T → TriedFlows) (chosen mark : X → Bool) (invs : List X) (trials : List (Tried X T)) (e : List Flow) (f : Flow)
+pub ChosenHold-step : {X T : Type 0} (n : ℕ) (HoldsOn : X → List Flow → Type 0) (Fits : X → T → Type 0) (tried : T → UndoableFlows) (chosen mark : X → Bool) (invs : List X) (trials : List (Tried X T)) (e : List Flow) (f : Flow)
     → All (λ inv. IsTrue (mark inv) → IsEdgeWise n (HoldsOn inv)) invs → IsFlowSet n e → IsFlow n f → ChosenHold chosen HoldsOn invs e
     → ChosenTried Fits tried (λ inv. chosen inv && not (mark inv)) invs trials e
     → (ChosenHold (λ inv. chosen inv && mark inv) HoldsOn invs (f ∷ []) × All (λ t. HoldsOn t.invariant (with_flow (tried t.trial).flows f)) trials)

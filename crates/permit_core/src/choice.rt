@@ -25,14 +25,14 @@ impl<I> Choice<I> for Every {
 }
 
 /// Whether the invariant is chosen and edge-wise.
-pub(crate) fn judges_alone<I: Invariant, C: Choice<I>>(choice: &C, inv: &I) -> bool
+pub(crate) fn is_chosen_edge_wise<I: Invariant, C: Choice<I>>(choice: &C, inv: &I) -> bool
     ensures { result ≡ (C.chosen choice.now inv.now && I.edge_mark inv.now) }
 {
     choice.chooses(inv) && inv.edge_wise()
 }
 
 /// Whether the invariant is chosen and not edge-wise.
-pub(crate) fn judges_together<I: Invariant, C: Choice<I>>(choice: &C, inv: &I) -> bool
+pub(crate) fn is_chosen_path_based<I: Invariant, C: Choice<I>>(choice: &C, inv: &I) -> bool
     ensures { result ≡ (C.chosen choice.now inv.now && not (I.edge_mark inv.now)) }
 {
     choice.chooses(inv) && !inv.edge_wise()

@@ -4,10 +4,10 @@
 ghost use Rattle.std.specs.Prelude.{◌≡◌, ◌↔◌, ◌&&◌, ◌∷◌, [], All, not, IsTrue, IfOk, if◌then◌else◌};
 ghost use Rattle.flow_set.specs.Flow.{IsFlow};
 ghost use Rattle.flow_set.specs.FlowSet.{with_flow};
-ghost use Rattle.permit_core.specs.inner.Tried.{Became, CanTake, ChosenTried};
+ghost use Rattle.permit_core.specs.inner.Tried.{AllStep, CanTake, ChosenTried};
 ghost use Rattle.permit_core.specs.inner.Trials.{ChosenHold};
 
-use crate::choice::{Choice, judges_alone, judges_together};
+use crate::choice::{Choice, is_chosen_edge_wise, is_chosen_path_based};
 use crate::tried::TriedInvariant;
 use flow_set::{Flow, FlowSet};
 use inv_law::{Invariant, Stepwise};
@@ -26,7 +26,7 @@ pub fn trials_together<'a, I: Stepwise, C: Choice<I>>(
 {
     let mut trials = Vec::with_capacity(alloc, invs.len())?;
     for inv in invs {
-        if judges_together(choice, inv) {
+        if is_chosen_path_based(choice, inv) {
             trials.push(TriedInvariant::new(alloc, inv, e)?)?;
         }
     }
@@ -46,7 +46,7 @@ pub fn step_chosen<'a, I: Stepwise, C: Choice<I>>(
     ensures answer { IsTrue result
         ↔ (ChosenHold (λ inv. C.chosen choice.now inv && I.edge_mark inv) I.holds_on invs.now (f ∷ [])
         × All (λ t. I.holds_on t.invariant (with_flow (I.Tried.tried t.trial).flows f)) trials.old.items) }
-    ensures flows { Became I.fits I.Tried.tried (λ fs. if result then with_flow fs f else fs) trials.old.items trials.new.items }
+    ensures flows { AllStep I.fits I.Tried.tried (λ fs. if result then with_flow fs f else fs) trials.old.items trials.new.items }
 {
     // Edge-wise invariants are evaluated first, because they are cheapest.
     if !chosen_admit(choice, invs, f) {
@@ -66,7 +66,7 @@ fn chosen_admit<I: Invariant, C: Choice<I>>(choice: &C, invs: &[I], f: Flow) -> 
         ↔ ChosenHold (λ inv. C.chosen choice.now inv && I.edge_mark inv) I.holds_on invs.now (f ∷ []) }
 {
     for inv in invs {
-        if judges_alone(choice, inv) {
+        if is_chosen_edge_wise(choice, inv) {
             if !inv.admits(f) {
                 return false;
             }
@@ -83,7 +83,7 @@ fn all_hold_with<'a, I: Stepwise>(
     requires { All (CanTake I.size_of I.holds_on I.fits I.Tried.tried f) trials.old.items }
     ensures answer { IsTrue result
         ↔ All (λ t. I.holds_on t.invariant (with_flow (I.Tried.tried t.trial).flows f)) trials.old.items }
-    ensures flows { Became I.fits I.Tried.tried (λ fs. fs) trials.old.items trials.new.items }
+    ensures flows { AllStep I.fits I.Tried.tried (λ fs. fs) trials.old.items trials.new.items }
 {
     for i in 0..trials.len() {
         if !trials[i].holds_with(f) {
@@ -96,7 +96,7 @@ fn all_hold_with<'a, I: Stepwise>(
 // Adds the flow to each trial.
 fn step_all<'a, I: Stepwise>(trials: &mut Vec<TriedInvariant<'a, I, I::Tried>>, f: Flow)
     requires { All (CanTake I.size_of I.holds_on I.fits I.Tried.tried f) trials.old.items }
-    ensures { Became I.fits I.Tried.tried (λ fs. with_flow fs f) trials.old.items trials.new.items }
+    ensures { AllStep I.fits I.Tried.tried (λ fs. with_flow fs f) trials.old.items trials.new.items }
 {
     for i in 0..trials.len() {
         trials[i].step(f);

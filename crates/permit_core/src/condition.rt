@@ -2,7 +2,7 @@
 
 ghost use Rattle.std.specs.Prelude.{◌≡◌, ◌↔◌, ℕ, List, IsTrue, IfOk};
 ghost use Rattle.flow_set.specs.declared.flow.Flow.{Flow};
-ghost use Rattle.permit_core.specs.inner.Grown.{IsGrown};
+ghost use Rattle.permit_core.specs.inner.Grown.{IsExtended};
 
 use flow_set::{Flow, FlowSet};
 use std::alloc::{AllocError, Global};
@@ -23,6 +23,6 @@ pub trait Condition {
     fn meets(&self, alloc: Global, set: &FlowSet, added: Flow) -> Result<bool, AllocError>
         requires can { can_meet self.now }
         requires size { set.now.size ≡ size_of self.now }
-        requires grown { IsGrown (size_of self.now) (meets_on self.now) set.now.flows added }
+        requires grown { IsExtended (size_of self.now) (meets_on self.now) set.now.flows added }
         ensures { IfOk result (λ met. IsTrue met ↔ meets_on self.now set.now.flows) };
 }

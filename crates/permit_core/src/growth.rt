@@ -2,7 +2,7 @@
 //! only, so a pass does not iterate over the whole set for each flow.
 
 ghost use Rattle.std.specs.Prelude.{◌≡◌, ◌↔◌, All, IsTrue, IfOk};
-ghost use Rattle.permit_core.specs.inner.Grown.{IsGrown};
+ghost use Rattle.permit_core.specs.inner.Grown.{IsExtended};
 ghost use Rattle.permit_core.specs.inner.Trials.{ChosenHold};
 
 use crate::choice::Choice;
@@ -19,7 +19,7 @@ pub fn chosen_still_hold<I: Invariant, C: Choice<I>>(
     added: Flow,
 ) -> Result<bool, AllocError>
     requires sizes { All (λ inv. I.size_of inv ≡ set.now.size) invs.now }
-    requires grown { IsGrown set.now.size (ChosenHold (C.chosen choice.now) I.holds_on invs.now) set.now.flows added }
+    requires grown { IsExtended set.now.size (ChosenHold (C.chosen choice.now) I.holds_on invs.now) set.now.flows added }
     ensures { IfOk result (λ answer. IsTrue answer ↔ ChosenHold (C.chosen choice.now) I.holds_on invs.now set.now.flows) }
 {
     for inv in invs {
@@ -40,7 +40,7 @@ pub fn still_holds<I: Invariant>(
     added: Flow,
 ) -> Result<bool, AllocError>
     requires size { set.now.size ≡ I.size_of inv.now }
-    requires grown { IsGrown (I.size_of inv.now) (I.holds_on inv.now) set.now.flows added }
+    requires grown { IsExtended (I.size_of inv.now) (I.holds_on inv.now) set.now.flows added }
     ensures { IfOk result (λ answer. IsTrue answer ↔ I.holds_on inv.now set.now.flows) }
 {
     if inv.edge_wise() {

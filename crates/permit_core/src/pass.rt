@@ -4,7 +4,7 @@
 ghost use Rattle.std.specs.Prelude.{◌≡◌, [], IfOk};
 ghost use Rattle.flow_set.specs.inner.FlowSetView.{IsFlowSet};
 ghost use Rattle.flow_set.specs.Conditions.{IsFirst};
-ghost use Rattle.flow_set.specs.inner.Downward.{IsDownward};
+ghost use Rattle.flow_set.specs.inner.Downward.{IsDownwardClosed};
 
 use crate::condition::Condition;
 use flow_set::FlowSet;
@@ -19,7 +19,7 @@ pub fn first_subset<C: Condition>(
 ) -> Result<FlowSet, AllocError>
     requires can { C.can_meet condition.now }
     requires size { all.now.size ≡ C.size_of condition.now }
-    requires downward { IsDownward all.now.size (C.meets_on condition.now) }
+    requires downward { IsDownwardClosed all.now.size (C.meets_on condition.now) }
     requires nothing { C.meets_on condition.now [] }
     ensures size { IfOk result (λ first. first.size ≡ all.now.size) }
     ensures set { IfOk result (λ first. IsFlowSet first.size first.flows) }

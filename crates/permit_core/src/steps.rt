@@ -6,7 +6,7 @@ ghost use Rattle.flow_set.specs.declared.flow.Flow.{Flow};
 ghost use Rattle.flow_set.specs.FlowSet.{with_flow};
 ghost use Rattle.flow_set.specs.inner.FlowSetView.{IsFlowSet};
 ghost use Rattle.flow_set.specs.Conditions.{IsFirst};
-ghost use Rattle.flow_set.specs.inner.Downward.{IsDownward};
+ghost use Rattle.flow_set.specs.inner.Downward.{IsDownwardClosed};
 ghost use Rattle.permit_core.specs.inner.Grown.{IsNew};
 
 use flow_set::{Flow, FlowSet};
@@ -44,7 +44,7 @@ pub fn first_subset_by_steps<C: SteppedCondition>(
 ) -> Result<FlowSet, AllocError>
     requires begin { C.has_come_to condition.now state.old [] }
     requires size { all.now.size ≡ C.size_of condition.now }
-    requires downward { IsDownward all.now.size (C.meets_on condition.now) }
+    requires downward { IsDownwardClosed all.now.size (C.meets_on condition.now) }
     requires nothing { C.meets_on condition.now [] }
     ensures size { IfOk result (λ first. first.size ≡ all.now.size) }
     ensures set { IfOk result (λ first. IsFlowSet first.size first.flows) }

@@ -8,23 +8,23 @@ use Rattle.pkt_core.specs.declared.event.Event.{Event}
 use Rattle.pkt_core.specs.declared.event.Event.TheVariants.{Seen, Forget}
 use Rattle.pkt_core.specs.Events.{SeenAt}
 use Rattle.pkt_core.specs.laws.EventLaws.{get_back, get_before, get_last, seen_behind_forget}
-use Rattle.pkt_core.specs.Tracking.{Kept, Runs, after_forget, after_seen, nothing_kept, same_packet, state_of, with_kept}
-use Rattle.pkt_core.specs.inner.Kept.{kept_after}
+use Rattle.pkt_core.specs.Tracking.{ConnectionTable, Runs, after_forget, after_seen, no_connections, same_packet, state_of, with_connection}
+use Rattle.pkt_core.specs.inner.ConnectionTable.{kept_after}
 use Rattle.pkt_core.specs.laws.TrackingLaws.{same_packet-is, same_packet-not, same_packet-self, same_packet-swap}
 use Rattle.pkt_core.specs.Connections.{IsFirstPacket}
-use Rattle.pkt_core.specs.inner.Connections.{KeepsConnections, WasAnswered}
+use Rattle.pkt_core.specs.inner.Connections.{TracksConnections, WasAnswered}
 use Rattle.pkt_core.specs.Firewall.{Filter, may_pass}
 use Rattle.pkt_core.specs.inner.FirewallFor.{AllKnown, IsFirewallFor, StatefulArePermitted}
 use Rattle.pkt_core.specs.inner.PolicyRuns.{TracksAsExpected}
 use Rattle.pkt_core.proofs.ExpectedLaws.{runs_as_expected, some_run}
-use Rattle.pkt_core.specs.laws.KeptLaws.{Fits, Fits-forget, Fits-seen, Fits-start, kept_behind_forget}
-use Rattle.pkt_core.proofs.FirstPacketLaws.{IsFirstPacket-stays, IsNew, IsFirstPacket-behind_seen, IsFirstPacket-kept, IsFirstPacket-behind_forget, none_at, KeepsFirst-seen, KeepsFirst-forget, KeepsFirst-start}
+use Rattle.pkt_core.specs.laws.ConnectionTableLaws.{Fits, Fits-forget, Fits-seen, Fits-start, kept_behind_forget}
+use Rattle.pkt_core.proofs.FirstPacketLaws.{IsFirstPacket-stays, IsNew, IsFirstPacket-behind_seen, IsFirstPacket-kept, IsFirstPacket-behind_forget, none_at, TracksFirstPackets-seen, TracksFirstPackets-forget, TracksFirstPackets-start}
 
 some_true : (o : Option Bool) → o ≡ Some true → is_some o ≡ true
 some_true o h = ap is_some h
 
 -- The marks after a packet.
-marked_behind_seen : (kept : Kept) (p : Packet) (passes : Bool) (q : Packet) → after_seen kept p passes q ≡ Some true → (kept q ≡ Some true) ⊎ ((p ≡ swap_of q) × (is_some (kept q) ≡ true))
+marked_behind_seen : (kept : ConnectionTable) (p : Packet) (passes : Bool) (q : Packet) → after_seen kept p passes q ≡ Some true → (kept q ≡ Some true) ⊎ ((p ≡ swap_of q) × (is_some (kept q) ≡ true))
 marked_behind_seen kept p passes q = by_tests (kept (swap_of p)) (passes && not (is_some (kept p))) refl
   where
     marks : (b : Bool) → same_packet (swap_of p) q ≡ b → is_some (kept (swap_of p)) ≡ true → (if b then Some true else kept q) ≡ Some true → (kept q ≡ Some true) ⊎ ((p ≡ swap_of q) × (is_some (kept q) ≡ true))
@@ -36,12 +36,12 @@ marked_behind_seen kept p passes q = by_tests (kept (swap_of p)) (passes && not 
     begins false h = h
 
     by_tests : (other : Option Bool) (new : Bool) → kept (swap_of p) ≡ other →
-        (if is_some other then with_kept kept (swap_of p) (Some true) else (if new then with_kept kept p (Some false) else kept)) q ≡ Some true → (kept q ≡ Some true) ⊎ ((p ≡ swap_of q) × (is_some (kept q) ≡ true))
+        (if is_some other then with_connection kept (swap_of p) (Some true) else (if new then with_connection kept p (Some false) else kept)) q ≡ Some true → (kept q ≡ Some true) ⊎ ((p ≡ swap_of q) × (is_some (kept q) ≡ true))
     by_tests (Some m) new is h = marks (same_packet (swap_of p) q) refl (ap is_some is) h
     by_tests None true is h = inl (begins (same_packet p q) h)
     by_tests None false is h = inl h
 
-mark_stays : (kept : Kept) (p : Packet) (passes : Bool) (q : Packet) → kept q ≡ Some true → after_seen kept p passes q ≡ Some true
+mark_stays : (kept : ConnectionTable) (p : Packet) (passes : Bool) (q : Packet) → kept q ≡ Some true → after_seen kept p passes q ≡ Some true
 mark_stays kept p passes q h = by_tests (kept (swap_of p)) (kept p) passes refl
   where
     set : (b : Bool) → (if b then Some true else kept q) ≡ Some true
@@ -56,24 +56,24 @@ mark_stays kept p passes q h = by_tests (kept (swap_of p)) (kept p) passes refl
     other_key false is none = h
 
     by_tests : (other own : Option Bool) (a : Bool) → kept p ≡ own →
-        (if is_some other then with_kept kept (swap_of p) (Some true) else (if a && not (is_some own) then with_kept kept p (Some false) else kept)) q ≡ Some true
+        (if is_some other then with_connection kept (swap_of p) (Some true) else (if a && not (is_some own) then with_connection kept p (Some false) else kept)) q ≡ Some true
     by_tests (Some m) own a is = set (same_packet (swap_of p) q)
     by_tests None None true is = other_key (same_packet p q) refl is
     by_tests None (Some m) true is = h
     by_tests None own false is = h
 
-mark_now : (kept : Kept) (p : Packet) (passes : Bool) (q : Packet) → p ≡ swap_of q → is_some (kept q) ≡ true → after_seen kept p passes q ≡ Some true
+mark_now : (kept : ConnectionTable) (p : Packet) (passes : Bool) (q : Packet) → p ≡ swap_of q → is_some (kept q) ≡ true → after_seen kept p passes q ≡ Some true
 mark_now kept p passes q is there = by_test (is_some (kept (swap_of p))) (ap (λ (r : Packet). is_some (kept (swap_of r))) is ∙ there)
   where
     own : (b : Bool) → b ≡ true → (if b then Some true else kept q) ≡ Some true
     own true h = refl
     own false h = absurd (true≢false (sym h))
 
-    by_test : (b : Bool) → b ≡ true → (if b then with_kept kept (swap_of p) (Some true) else (if passes && not (is_some (kept p)) then with_kept kept p (Some false) else kept)) q ≡ Some true
+    by_test : (b : Bool) → b ≡ true → (if b then with_connection kept (swap_of p) (Some true) else (if passes && not (is_some (kept p)) then with_connection kept p (Some false) else kept)) q ≡ Some true
     by_test true h = own (same_packet (swap_of p) q) (ap (λ (r : Packet). same_packet (swap_of r) q) is ∙ same_packet-self q)
     by_test false h = absurd (true≢false (sym h))
 
-marked_behind_forget : (kept : Kept) (p q : Packet) → after_forget kept p q ≡ Some true → kept q ≡ Some true
+marked_behind_forget : (kept : ConnectionTable) (p q : Packet) → after_forget kept p q ≡ Some true → kept q ≡ Some true
 marked_behind_forget kept p q h = by_tests (same_packet (swap_of p) q) (same_packet p q) h
   where
     by_tests : (turned same : Bool) → (if turned then None else (if same then None else kept q)) ≡ Some true → kept q ≡ Some true
@@ -81,7 +81,7 @@ marked_behind_forget kept p q h = by_tests (same_packet (swap_of p) q) (same_pac
     by_tests false true h = cc
     by_tests false false h = h
 
-mark_kept : (kept : Kept) (p q : Packet) → p ≢ q → p ≢ swap_of q → kept q ≡ Some true → after_forget kept p q ≡ Some true
+mark_kept : (kept : ConnectionTable) (p q : Packet) → p ≢ q → p ≢ swap_of q → kept q ≡ Some true → after_forget kept p q ≡ Some true
 mark_kept kept p q apart turned h = by_tests (same_packet (swap_of p) q) (same_packet p q) (same_packet-swap p q ∙ same_packet-not p (swap_of q) turned) (same_packet-not p q apart)
   where
     by_tests : (b a : Bool) → b ≡ false → a ≡ false → (if b then None else (if a then None else kept q)) ≡ Some true
@@ -89,11 +89,11 @@ mark_kept kept p q apart turned h = by_tests (same_packet (swap_of p) q) (same_p
     by_tests false true x y = absurd (true≢false y)
     by_tests false false x y = h
 
-KeepsConnections-seen : {Known : Packet → Type 0} (permitted stateful : Packet → Bool) (past : List Event) (kept : Kept) (p : Packet) → Fits Known permitted past kept → KeepsConnections permitted past kept →
-    KeepsConnections permitted (past ++ Seen p ∷ []) (after_seen kept p (may_pass permitted stateful (state_of kept p) p))
+TracksConnections-seen : {Known : Packet → Type 0} (permitted stateful : Packet → Bool) (past : List Event) (kept : ConnectionTable) (p : Packet) → Fits Known permitted past kept → TracksConnections permitted past kept →
+    TracksConnections permitted (past ++ Seen p ∷ []) (after_seen kept p (may_pass permitted stateful (state_of kept p) p))
 unfolding IsNew
-KeepsConnections-seen {Known} permitted stateful past kept p fits keeps = record {
-  first = KeepsFirst-seen permitted stateful past kept p fits keeps.first;
+TracksConnections-seen {Known} permitted stateful past kept p fits keeps = record {
+  first = TracksFirstPackets-seen permitted stateful past kept p fits keeps.first;
   answered = λ q. ((λ h. marked q h), (λ h. is_marked q h.0 h.1 h.2.0 h.2.1 h.2.2));
 }
   where
@@ -140,9 +140,9 @@ KeepsConnections-seen {Known} permitted stateful past kept p fits keeps = record
         same : (p q : Packet) → Seen p ≡ Seen q → p ≡ q
         same p q h = cc
 
-KeepsConnections-forget : (permitted : Packet → Bool) (past : List Event) (kept : Kept) (p : Packet) → KeepsConnections permitted past kept → KeepsConnections permitted (past ++ Forget p ∷ []) (after_forget kept p)
-KeepsConnections-forget permitted past kept p keeps = record {
-  first = KeepsFirst-forget permitted past kept p keeps.first;
+TracksConnections-forget : (permitted : Packet → Bool) (past : List Event) (kept : ConnectionTable) (p : Packet) → TracksConnections permitted past kept → TracksConnections permitted (past ++ Forget p ∷ []) (after_forget kept p)
+TracksConnections-forget permitted past kept p keeps = record {
+  first = TracksFirstPackets-forget permitted past kept p keeps.first;
   answered = λ q. ((λ h. marked q h), (λ h. is_marked q h.0 h.1 h.2.0 h.2.1 h.2.2));
 }
   where
@@ -160,9 +160,9 @@ KeepsConnections-forget permitted past kept p keeps = record {
         let old = IsFirstPacket-behind_forget permitted past p k q first in
         mark_kept kept p q old.1 old.2 ((keeps.answered q).1 (k, old.0, (later, behind, seen_behind_forget past p (swap_of q) later there)))
 
-KeepsConnections-start : (permitted : Packet → Bool) → KeepsConnections permitted [] nothing_kept
-KeepsConnections-start permitted = record {
-  first = KeepsFirst-start permitted;
+TracksConnections-start : (permitted : Packet → Bool) → TracksConnections permitted [] no_connections
+TracksConnections-start permitted = record {
+  first = TracksFirstPackets-start permitted;
   answered = λ q. ((λ h. absurd (unmarked h)), (λ h. absurd (none_at h.0 q h.1.seen)));
 }
   where
@@ -171,37 +171,37 @@ KeepsConnections-start permitted = record {
 
 -- After every run from the empty table, the table has exactly the connections.
 connections_behind : (filter : Filter) (Known : Packet → Type 0) (permitted stateful : Packet → Bool) → IsFirewallFor filter Known permitted stateful →
-    (past : List Event) (kept : Kept) → Fits Known permitted past kept → KeepsConnections permitted past kept → (events : List Event) → AllKnown Known events → (answers : List (Option Bool)) → Runs filter kept events answers →
-    KeepsConnections permitted (past ++ events) (kept_after kept events answers)
-connections_behind filter Known permitted stateful firewall past kept fits keeps [] known [] run = subst (λ (es : List Event). KeepsConnections permitted es kept) (sym (append-nil past)) keeps
+    (past : List Event) (kept : ConnectionTable) → Fits Known permitted past kept → TracksConnections permitted past kept → (events : List Event) → AllKnown Known events → (answers : List (Option Bool)) → Runs filter kept events answers →
+    TracksConnections permitted (past ++ events) (kept_after kept events answers)
+connections_behind filter Known permitted stateful firewall past kept fits keeps [] known [] run = subst (λ (es : List Event). TracksConnections permitted es kept) (sym (append-nil past)) keeps
 connections_behind filter Known permitted stateful firewall past kept fits keeps [] known (answer ∷ answers) run = absurd run
 connections_behind filter Known permitted stateful firewall past kept fits keeps (Seen p ∷ events) known [] run = absurd run
 connections_behind filter Known permitted stateful firewall past kept fits keeps (Forget p ∷ events) known [] run = absurd run
 connections_behind filter Known permitted stateful firewall past kept fits keeps (Seen p ∷ events) known (None ∷ answers) run = absurd run
 connections_behind filter Known permitted stateful firewall past kept fits keeps (Seen p ∷ events) known (Some passes ∷ answers) run =
     let is : passes ≡ may_pass permitted stateful (state_of kept p) p = firewall.only (state_of kept p) p passes (known zero p refl) run.0 in
-    subst (λ (es : List Event). KeepsConnections permitted es (kept_after (after_seen kept p passes) events answers)) (append_assoc past (Seen p ∷ []) events)
+    subst (λ (es : List Event). TracksConnections permitted es (kept_after (after_seen kept p passes) events answers)) (append_assoc past (Seen p ∷ []) events)
     (connections_behind filter Known permitted stateful firewall (past ++ Seen p ∷ []) (after_seen kept p passes)
     (subst (λ (b : Bool). Fits Known permitted (past ++ Seen p ∷ []) (after_seen kept p b)) (sym is) (Fits-seen permitted stateful past kept p (known zero p refl) fits))
-    (subst (λ (b : Bool). KeepsConnections permitted (past ++ Seen p ∷ []) (after_seen kept p b)) (sym is) (KeepsConnections-seen permitted stateful past kept p fits keeps))
+    (subst (λ (b : Bool). TracksConnections permitted (past ++ Seen p ∷ []) (after_seen kept p b)) (sym is) (TracksConnections-seen permitted stateful past kept p fits keeps))
     events (λ k q there. known (suc k) q there) answers run.1)
 connections_behind filter Known permitted stateful firewall past kept fits keeps (Forget p ∷ events) known (Some passes ∷ answers) run = absurd run
 connections_behind filter Known permitted stateful firewall past kept fits keeps (Forget p ∷ events) known (None ∷ answers) run =
-    subst (λ (es : List Event). KeepsConnections permitted es (kept_after (after_forget kept p) events answers)) (append_assoc past (Forget p ∷ []) events)
+    subst (λ (es : List Event). TracksConnections permitted es (kept_after (after_forget kept p) events answers)) (append_assoc past (Forget p ∷ []) events)
     (connections_behind filter Known permitted stateful firewall (past ++ Forget p ∷ []) (after_forget kept p)
-    (Fits-forget permitted past kept p fits) (KeepsConnections-forget permitted past kept p keeps) events (λ k q there. known (suc k) q there) answers run)
+    (Fits-forget permitted past kept p fits) (TracksConnections-forget permitted past kept p keeps) events (λ k q there. known (suc k) q there) answers run)
 
 pub runs_keep_connections : (filter : Filter) (Known : Packet → Type 0) (permitted stateful : Packet → Bool) → IsFirewallFor filter Known permitted stateful →
-    (events : List Event) → AllKnown Known events → (answers : List (Option Bool)) → Runs filter nothing_kept events answers → KeepsConnections permitted events (kept_after nothing_kept events answers)
+    (events : List Event) → AllKnown Known events → (answers : List (Option Bool)) → Runs filter no_connections events answers → TracksConnections permitted events (kept_after no_connections events answers)
 runs_keep_connections filter Known permitted stateful firewall events known answers run =
-    connections_behind filter Known permitted stateful firewall [] nothing_kept (Fits-start permitted) (KeepsConnections-start permitted) events known answers run
+    connections_behind filter Known permitted stateful firewall [] no_connections (Fits-start permitted) (TracksConnections-start permitted) events known answers run
 
 -- Both lemmas for the verdicts of a policy.
-pub tracks_from_nothing : TracksAsExpected nothing_kept
+pub tracks_from_nothing : TracksAsExpected no_connections
 tracks_from_nothing = record {
   answers = λ permitted stateful policy events answers run. runs_as_expected _ (λ p. ⊤) permitted stateful (verdicts permitted stateful policy) events (λ k p there. tt) answers run;
   connections = λ permitted stateful policy events answers run. runs_keep_connections _ (λ p. ⊤) permitted stateful (verdicts permitted stateful policy) events (λ k p there. tt) answers run;
-  some = λ permitted stateful policy events. some_run _ (λ p. ⊤) permitted stateful (verdicts permitted stateful policy) nothing_kept events (λ k p there. tt);
+  some = λ permitted stateful policy events. some_run _ (λ p. ⊤) permitted stateful (verdicts permitted stateful policy) no_connections events (λ k p there. tt);
 }
   where
     verdicts : (permitted stateful : Packet → Bool) → StatefulArePermitted (λ p. ⊤) permitted stateful → IsFirewallFor (λ state p passes. passes ≡ may_pass permitted stateful state p) (λ p. ⊤) permitted stateful

@@ -5,10 +5,10 @@ use Rattle.std.specs.Option.{unwrap_or}
 use Rattle.host_net.specs.declared.packet.Packet.{Packet}
 use Rattle.host_net.specs.declared.packet.CtState.TheVariants.{New, Established}
 use Rattle.host_net.specs.Packet.{swap_of}
-use Rattle.pkt_core.specs.inner.Kept.{connection_by, connection_of, state_by}
-use Rattle.pkt_core.specs.Tracking.{Kept, state_of}
+use Rattle.pkt_core.specs.inner.ConnectionTable.{connection_by, connection_of, state_by}
+use Rattle.pkt_core.specs.Tracking.{ConnectionTable, state_of}
 
-pub state_is : (kept : Kept) (p : Packet) → state_by (connection_of kept p) ≡ state_of kept p
+pub state_is : (kept : ConnectionTable) (p : Packet) → state_by (connection_of kept p) ≡ state_of kept p
 state_is kept p = by_marks (kept (swap_of p)) (kept p)
   where
     by_marks : (other own : Option Bool) → state_by (connection_by other own) ≡ (if (is_some other || unwrap_or own false) then Established else New)

@@ -4,17 +4,17 @@ use Rattle.std.proofs.Common.{◌≡◌, ◌≢◌, ℕ, false, List, [], ◌∷
 use Rattle.std.specs.Prelude.{codes, Result, Ok, Err, bytes_eq, slice_get}
 use Rattle.std.specs.Option.{option_map, ok_or}
 use Rattle.text_core.specs.Lines.{words}
-use Rattle.text_core.specs.ListText.{IsBad, bad_line, bad_value, by_lines}
-use Rattle.text_core.specs.inner.ListAnswers.{TellsOne, TellsFormed}
-use Rattle.text_core.proofs.ListTextLaws.{list_settled}
-use Rattle.text_core.proofs.TextByLinesLaws.{IsSettled, same_ok}
+use Rattle.text_core.specs.ListFormat.{IsBad, bad_line, bad_value, by_lines}
+use Rattle.text_core.specs.inner.ListAnswers.{EncodesAtMostOne, EncodesOnlyWellFormed}
+use Rattle.text_core.proofs.ListFormatLaws.{list_settled}
+use Rattle.text_core.proofs.LineFormatLaws.{IsSettled, same_ok}
 use Rattle.text_core.proofs.StepsLaws.{if_parts, bytes_same}
 use Rattle.text_core.specs.declared.faults.ListWhy.{ListWhy}
 use Rattle.text_core.specs.declared.faults.ListWhy.TheVariants.{BadLine, BadValue}
 use Rattle.host_net.specs.declared.packet.Packet.{Packet}
 use Rattle.pkt_core.specs.declared.event.Event.{Event}
 use Rattle.pkt_core.specs.declared.event.Event.TheVariants.{Seen, Forget}
-use Rattle.pkt_core.specs.EventsText.{TellsEvent, AreVerbAndFive, events_text}
+use Rattle.pkt_core.specs.EventsText.{EncodesEvent, AreVerbAndFive, events_text}
 use Rattle.pkt_core.specs.inner.EventSteps.{packet_of, event_by, event_of}
 use Rattle.pkt_core.proofs.EventsTextLaws.{told_event}
 
@@ -74,17 +74,17 @@ explained (a ∷ b ∷ c ∷ d ∷ x ∷ y ∷ z ∷ ws) why h = bad_count (a �
 
 -- 2. A line encodes at most one event. If it encodes one, it has a verb and five fields.
 
-tells_one : (ws : List (List ℕ)) (x y : Event) → TellsEvent ws x → TellsEvent ws y → x ≡ y
+tells_one : (ws : List (List ℕ)) (x y : Event) → EncodesEvent ws x → EncodesEvent ws y → x ≡ y
 tells_one ws x y p q = same_ok (event_of ws) x y (told_event ws x p) (told_event ws y q)
 
-told_form : (ws : List (List ℕ)) (e : Event) → TellsEvent ws e → AreVerbAndFive ws
+told_form : (ws : List (List ℕ)) (e : Event) → EncodesEvent ws e → AreVerbAndFive ws
 told_form ws (Seen p) told = (ap length told.written, inl (ap (λ (xs : List (List ℕ)). slice_get xs 0) told.written))
 told_form ws (Forget p) told = (ap length told.written, inr (ap (λ (xs : List (List ℕ)). slice_get xs 0) told.written))
 
-pub event_lines_tell_one : TellsOne events_text
+pub event_lines_tell_one : EncodesAtMostOne events_text
 event_lines_tell_one n line x y p q = tells_one (words line) x y p q
 
-pub event_lines_have_form : TellsFormed events_text
+pub event_lines_have_form : EncodesOnlyWellFormed events_text
 event_lines_have_form n line x told = told_form (words line) x told
 
 -- A file has either a parse result or a first error.
@@ -93,7 +93,7 @@ events_settled = list_settled events_text event_lines_tell_one event_lines_have_
 
 -- 3. A rejected line is bad, regardless of the lines before it.
 
-not_told : (ws : List (List ℕ)) (why : ListWhy) → event_of ws ≡ Err why → (e : Event) → TellsEvent ws e → ⊥
+not_told : (ws : List (List ℕ)) (why : ListWhy) → event_of ws ≡ Err why → (e : Event) → EncodesEvent ws e → ⊥
 not_told ws why refused e told = let read : event_of ws ≡ Ok e = told_event ws e told in cc
 
 pub refused_is_bad : (n : ℕ) (before : List Event) (line : List ℕ) (why : ListWhy) → event_of (words line) ≡ Err why

@@ -18,7 +18,7 @@ use Rattle.host_net.proofs.PrefixTextLaws.{address_of-address_text, address_text
 use Rattle.host_net.proofs.ServiceStepsLemmas.{protocol_told as named_told}
 use Rattle.pkt_core.specs.declared.event.Event.{Event}
 use Rattle.pkt_core.specs.declared.event.Event.TheVariants.{Seen, Forget}
-use Rattle.pkt_core.specs.EventsText.{TellsPacket, TellsEvent}
+use Rattle.pkt_core.specs.EventsText.{EncodesPacket, EncodesEvent}
 use Rattle.pkt_core.specs.inner.EventSteps.{protocol_of, packet_of, event_by, event_of}
 
 -- The token of a protocol.
@@ -34,7 +34,7 @@ protocol_told : (word : List ℕ) (n : ℕ) → protocol_of word ≡ Some n → 
 protocol_told word n read = protocol_by word n (named_protocol word) refl read
 
 packet_told : (verb src dst protocol sport dport : List ℕ) (p : Packet) → packet_of src dst protocol sport dport ≡ Some p
-    → TellsPacket verb (verb ∷ src ∷ dst ∷ protocol ∷ sport ∷ dport ∷ []) p
+    → EncodesPacket verb (verb ∷ src ∷ dst ∷ protocol ∷ sport ∷ dport ∷ []) p
 unfolding packet_of
 packet_told verb src dst protocol sport dport p read =
     let a = bind_some (address_of src) _ p read in
@@ -48,7 +48,7 @@ packet_told verb src dst protocol sport dport p read =
     let source = decimal_of_number 65535 sport x.0 (omega arith) x.1 in
     let target = decimal_of_number 65535 dport y.0 (omega arith) y.1 in
     let whole : ◌≡◌ {A = Packet} (record { src = a.0; dst = b.0; proto = n.0; sport = x.0; dport = y.0 }) p = cc in
-    subst (λ (q : Packet). TellsPacket verb (verb ∷ src ∷ dst ∷ protocol ∷ sport ∷ dport ∷ []) q) whole
+    subst (λ (q : Packet). EncodesPacket verb (verb ∷ src ∷ dst ∷ protocol ∷ sport ∷ dport ∷ []) q) whole
     (record {
       protocol = protocol;
       named = named.0;
@@ -57,25 +57,25 @@ packet_told verb src dst protocol sport dport p read =
     })
 
 told_by : (verb src dst protocol sport dport : List ℕ) (e : Event) → event_by verb (packet_of src dst protocol sport dport) ≡ Ok e
-    → TellsEvent (verb ∷ src ∷ dst ∷ protocol ∷ sport ∷ dport ∷ []) e
+    → EncodesEvent (verb ∷ src ∷ dst ∷ protocol ∷ sport ∷ dport ∷ []) e
 unfolding event_by
 told_by verb src dst protocol sport dport e read = elim (if_parts (bytes_eq verb (codes "packet")) _ _ (Ok e) read) [
   | inl seen ↦
       let p = map_parts Seen (packet_of src dst protocol sport dport) e (ok_or_parts (option_map Seen (packet_of src dst protocol sport dport)) BadValue e seen.1) in
-      subst (TellsEvent (verb ∷ src ∷ dst ∷ protocol ∷ sport ∷ dport ∷ [])) p.2
-      (subst (λ (v : List ℕ). TellsPacket v (verb ∷ src ∷ dst ∷ protocol ∷ sport ∷ dport ∷ []) p.0) (bytes_same verb (codes "packet") seen.0)
+      subst (EncodesEvent (verb ∷ src ∷ dst ∷ protocol ∷ sport ∷ dport ∷ [])) p.2
+      (subst (λ (v : List ℕ). EncodesPacket v (verb ∷ src ∷ dst ∷ protocol ∷ sport ∷ dport ∷ []) p.0) (bytes_same verb (codes "packet") seen.0)
       (packet_told verb src dst protocol sport dport p.0 p.1))
   | inr rest ↦ elim (if_parts (bytes_eq verb (codes "forget")) _ _ (Ok e) rest.1) [
     | inl forgotten ↦
         let p = map_parts Forget (packet_of src dst protocol sport dport) e (ok_or_parts (option_map Forget (packet_of src dst protocol sport dport)) BadValue e forgotten.1) in
-        subst (TellsEvent (verb ∷ src ∷ dst ∷ protocol ∷ sport ∷ dport ∷ [])) p.2
-        (subst (λ (v : List ℕ). TellsPacket v (verb ∷ src ∷ dst ∷ protocol ∷ sport ∷ dport ∷ []) p.0) (bytes_same verb (codes "forget") forgotten.0)
+        subst (EncodesEvent (verb ∷ src ∷ dst ∷ protocol ∷ sport ∷ dport ∷ [])) p.2
+        (subst (λ (v : List ℕ). EncodesPacket v (verb ∷ src ∷ dst ∷ protocol ∷ sport ∷ dport ∷ []) p.0) (bytes_same verb (codes "forget") forgotten.0)
         (packet_told verb src dst protocol sport dport p.0 p.1))
     | inr bad ↦ cc
   ]
 ]
 
-pub event_told : (ws : List (List ℕ)) (e : Event) → event_of ws ≡ Ok e → TellsEvent ws e
+pub event_told : (ws : List (List ℕ)) (e : Event) → event_of ws ≡ Ok e → EncodesEvent ws e
 unfolding event_of
 event_told [] e read = cc
 event_told (a ∷ []) e read = cc
@@ -108,7 +108,7 @@ protocol_read : (word : List ℕ) (n : ℕ) → (word ≡ protocol_text n) ⊎ (
 protocol_read word n (inl name) fits = name_read word n (sym name) fits
 protocol_read word n (inr number_text) fits = number_read word n number_text fits
 
-packet_read : (verb : List ℕ) (ws : List (List ℕ)) (p : Packet) → TellsPacket verb ws p
+packet_read : (verb : List ℕ) (ws : List (List ℕ)) (p : Packet) → EncodesPacket verb ws p
     → (src : List ℕ) × (dst : List ℕ) × (protocol : List ℕ) × (sport : List ℕ) ×
     (dport : List ℕ) × (ws ≡ verb ∷ src ∷ dst ∷ protocol ∷ sport ∷ dport ∷ []) × (packet_of src dst protocol sport dport ≡ Some p)
 unfolding packet_of
@@ -122,7 +122,7 @@ packet_read verb ws p told = (
   rw (address_of-address_text p.src told.is_packet.0, address_of-address_text p.dst told.is_packet.1, protocol_read told.protocol p.proto told.named told.is_packet.2, number-decimal 65535 p.sport (omega (arith, told.is_packet.3)) (omega (arith, told.is_packet.3)), number-decimal 65535 p.dport (omega (arith, told.is_packet.4)) (omega (arith, told.is_packet.4))) refl,
 )
 
-pub told_event : (ws : List (List ℕ)) (e : Event) → TellsEvent ws e → event_of ws ≡ Ok e
+pub told_event : (ws : List (List ℕ)) (e : Event) → EncodesEvent ws e → event_of ws ≡ Ok e
 unfolding event_of event_by
 told_event ws (Seen p) told =
     let parts = packet_read (codes "packet") ws p told in

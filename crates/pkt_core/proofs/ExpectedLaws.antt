@@ -8,15 +8,15 @@ use Rattle.host_net.specs.Packet.{swap_of}
 use Rattle.pkt_core.specs.declared.event.Event.{Event}
 use Rattle.pkt_core.specs.declared.event.Event.TheVariants.{Seen, Forget}
 use Rattle.pkt_core.specs.Events.{ForgottenAt, SeenAt}
-use Rattle.pkt_core.specs.Tracking.{Kept, Runs, after_forget, after_seen, nothing_kept, state_of}
+use Rattle.pkt_core.specs.Tracking.{ConnectionTable, Runs, after_forget, after_seen, no_connections, state_of}
 use Rattle.pkt_core.specs.Firewall.{Filter, is_established, may_pass}
 use Rattle.pkt_core.specs.inner.FirewallFor.{AllKnown, IsFirewallFor, StatefulArePermitted}
-use Rattle.pkt_core.specs.laws.KeptLaws.{Fits, Fits-forget, Fits-seen, Fits-start, answer_is_established, established_by}
+use Rattle.pkt_core.specs.laws.ConnectionTableLaws.{Fits, Fits-forget, Fits-seen, Fits-start, answer_is_established, established_by}
 use Rattle.pkt_core.specs.Expected.{AreExpected, Expected}
 
 -- A packet passes if and only if it is expected.
 pub passes_as_expected : {Known : Packet → Type 0} (permitted stateful : Packet → Bool) → StatefulArePermitted Known permitted stateful →
-    (past : List Event) (kept : Kept) → Fits Known permitted past kept → (p : Packet)
+    (past : List Event) (kept : ConnectionTable) → Fits Known permitted past kept → (p : Packet)
     → IsTrue (may_pass permitted stateful (state_of kept p) p) ↔ Expected permitted stateful past p
 passes_as_expected permitted stateful policy past kept fits p = (λ h. sound h, λ h. complete h)
   where
@@ -155,7 +155,7 @@ expected_once permitted stateful events answers others first second =
 
 run_behind : (filter : Filter) (Known : Packet → Type 0) (permitted stateful : Packet → Bool)
     → IsFirewallFor filter Known permitted stateful →
-    (past : List Event) (kept : Kept) → Fits Known permitted past kept → (events : List Event) → AllKnown Known events
+    (past : List Event) (kept : ConnectionTable) → Fits Known permitted past kept → (events : List Event) → AllKnown Known events
     → (answers : List (Option Bool)) → Runs filter kept events answers →
     AreExpectedBehind permitted stateful past events answers
 run_behind filter Known permitted stateful firewall past kept fits [] known [] run = none_expected permitted stateful past
@@ -179,15 +179,15 @@ run_behind filter Known permitted stateful firewall past kept fits (Forget p ∷
 -- Every run from the empty table has the expected results.
 pub runs_as_expected : (filter : Filter) (Known : Packet → Type 0) (permitted stateful : Packet → Bool)
     → IsFirewallFor filter Known permitted stateful →
-    (events : List Event) → AllKnown Known events → (answers : List (Option Bool)) → Runs filter nothing_kept events answers
+    (events : List Event) → AllKnown Known events → (answers : List (Option Bool)) → Runs filter no_connections events answers
     → AreExpected permitted stateful events answers
 runs_as_expected filter Known permitted stateful firewall events known answers run =
-    all_expected permitted stateful events answers (run_behind filter Known permitted stateful firewall [] nothing_kept (Fits-start permitted) events known answers run)
+    all_expected permitted stateful events answers (run_behind filter Known permitted stateful firewall [] no_connections (Fits-start permitted) events known answers run)
 
 -- A run exists, for every table.
 pub some_run : (filter : Filter) (Known : Packet → Type 0) (permitted stateful : Packet → Bool)
     → IsFirewallFor filter Known permitted stateful →
-    (kept : Kept) (events : List Event) → AllKnown Known events → (answers : List (Option Bool)) × Runs filter kept events answers
+    (kept : ConnectionTable) (events : List Event) → AllKnown Known events → (answers : List (Option Bool)) × Runs filter kept events answers
 some_run filter Known permitted stateful firewall kept [] known = ([], tt)
 some_run filter Known permitted stateful firewall kept (Seen p ∷ events) known =
     let passes = may_pass permitted stateful (state_of kept p) p in

@@ -5,20 +5,20 @@ use Rattle.std.proofs.lemmas.Bool.{and_parts, and_from}
 use Rattle.host_net.specs.declared.packet.Packet.{Packet}
 use Rattle.host_net.specs.Packet.{IsPacket}
 use Rattle.host_net.specs.Service.{is_served}
-use Rattle.host_net.specs.Services.{NarrowedFlow, services_of}
+use Rattle.host_net.specs.Services.{RestrictedFlow, services_of}
 use Rattle.host_net.specs.Site.{Site}
 use Rattle.flow_set.specs.declared.flow.Flow.{Flow}
 use Rattle.flow_set.specs.FlowSet.{has, IsSubset}
 use Rattle.pkt_core.specs.declared.event.Event.{Event}
 use Rattle.pkt_core.specs.Expected.{AreExpected}
 use Rattle.pkt_core.proofs.ExpectedLaws.{expected_once, runs_as_expected, some_run}
-use Rattle.pkt_core.specs.Filter.{ArePackets, Enforces, ForwardsExpected, RunsFromNothing}
+use Rattle.pkt_core.specs.Filter.{ArePackets, Enforces, ForwardsAsExpected, RunsFromNoConnections}
 use Rattle.pkt_core.specs.Firewall.{Filter}
 use Rattle.pkt_core.specs.inner.FirewallFor.{IsFirewallFor}
 use Rattle.pkt_core.specs.FlowPolicy.{flow_of, is_of}
-use Rattle.pkt_core.specs.Tracking.{nothing_kept}
+use Rattle.pkt_core.specs.Tracking.{no_connections}
 
-of_more : (services : List NarrowedFlow) (s p : List Flow) (packet : Packet) (flow : Option Flow) → IsSubset s p
+of_more : (services : List RestrictedFlow) (s p : List Flow) (packet : Packet) (flow : Option Flow) → IsSubset s p
     → option_map_or (λ f. has s f && is_served (services_of services f.from f.to) packet) flow false ≡ true
     → option_map_or (λ f. has p f && is_served (services_of services f.from f.to) packet) flow false ≡ true
 of_more services s p packet None subset h = h
@@ -39,10 +39,10 @@ firewall_for filter site p s subset enforces = record {
   policy = λ packet is stateful. is_of-within site s p packet subset stateful;
 }
 
-pub enforced_expected : (filter : Filter) (site : Site) (p s : List Flow) → IsSubset s p → Enforces filter site p s → ForwardsExpected filter site p s
+pub enforced_expected : (filter : Filter) (site : Site) (p s : List Flow) → IsSubset s p → Enforces filter site p s → ForwardsAsExpected filter site p s
 enforced_expected filter site p s subset enforces = record {
   expected = expected;
-  some = λ events packets. some_run filter IsPacket (is_of site p) (is_of site s) firewall nothing_kept events packets;
+  some = λ events packets. some_run filter IsPacket (is_of site p) (is_of site s) firewall no_connections events packets;
   one = λ events answers others packets run other.
       expected_once (is_of site p) (is_of site s) events answers others (expected events answers packets run) (expected events others packets other);
 }
@@ -50,6 +50,6 @@ enforced_expected filter site p s subset enforces = record {
     firewall : IsFirewallFor filter IsPacket (is_of site p) (is_of site s)
     firewall = firewall_for filter site p s subset enforces
 
-    expected : (events : List Event) (answers : List (Option Bool)) → ArePackets events → RunsFromNothing filter events answers
+    expected : (events : List Event) (answers : List (Option Bool)) → ArePackets events → RunsFromNoConnections filter events answers
         → AreExpected (is_of site p) (is_of site s) events answers
     expected events answers packets run = runs_as_expected filter IsPacket (is_of site p) (is_of site s) firewall events packets answers run

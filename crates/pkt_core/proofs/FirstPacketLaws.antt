@@ -11,10 +11,10 @@ use Rattle.pkt_core.specs.declared.event.Event.{Event}
 use Rattle.pkt_core.specs.declared.event.Event.TheVariants.{Seen, Forget}
 use Rattle.pkt_core.specs.Events.{SeenAt, UnforgottenSince, WasSeen}
 use Rattle.pkt_core.specs.laws.EventLaws.{get_back, get_before, get_last, seen_behind_forget, unforgotten-behind_forget, unforgotten-forget, unforgotten-seen, unforgotten_back, unforgotten_last}
-use Rattle.pkt_core.specs.Tracking.{Kept, after_forget, after_seen, nothing_kept, state_of}
-use Rattle.pkt_core.specs.Connections.{IsFirstPacket, KeepsFirst}
+use Rattle.pkt_core.specs.Tracking.{ConnectionTable, after_forget, after_seen, no_connections, state_of}
+use Rattle.pkt_core.specs.Connections.{IsFirstPacket, TracksFirstPackets}
 use Rattle.pkt_core.specs.Firewall.{may_pass}
-use Rattle.pkt_core.specs.laws.KeptLaws.{Fits, begins_behind_seen, kept_behind_forget, kept_behind_seen, new_permitted, stays_behind_forget, stays_behind_seen}
+use Rattle.pkt_core.specs.laws.ConnectionTableLaws.{Fits, begins_behind_seen, kept_behind_forget, kept_behind_seen, new_permitted, stays_behind_forget, stays_behind_seen}
 
 -- The events before an index are unchanged by one more event.
 past_before : (past : List Event) (e : Event) (k : ℕ) (q : Packet) → SeenAt past k q → take k (past ++ e ∷ []) ≡ take k past
@@ -91,11 +91,11 @@ IsFirstPacket-behind_forget permitted past p k q first =
     let apart = unforgotten-behind_forget past p k q (slice_get_within past k (Seen q) there) first.unforgotten in
     (IsFirstPacket-earlier permitted past (Forget p) k q there first, apart.0, apart.1)
 
-pub KeepsFirst-seen : {Known : Packet → Type 0} (permitted stateful : Packet → Bool) (past : List Event) (kept : Kept) (p : Packet)
-    → Fits Known permitted past kept → KeepsFirst permitted past kept →
-    KeepsFirst permitted (past ++ Seen p ∷ []) (after_seen kept p (may_pass permitted stateful (state_of kept p) p))
+pub TracksFirstPackets-seen : {Known : Packet → Type 0} (permitted stateful : Packet → Bool) (past : List Event) (kept : ConnectionTable) (p : Packet)
+    → Fits Known permitted past kept → TracksFirstPackets permitted past kept →
+    TracksFirstPackets permitted (past ++ Seen p ∷ []) (after_seen kept p (may_pass permitted stateful (state_of kept p) p))
 unfolding IsNew
-KeepsFirst-seen {Known} permitted stateful past kept p fits first q = ((λ h. begun q h), (λ h. is_begun q h.0 h.1))
+TracksFirstPackets-seen {Known} permitted stateful past kept p fits first q = ((λ h. begun q h), (λ h. is_begun q h.0 h.1))
   where
     passes : Bool
     passes = may_pass permitted stateful (state_of kept p) p
@@ -140,10 +140,10 @@ KeepsFirst-seen {Known} permitted stateful past kept p fits first q = ((λ h. be
     ]
 
 -- The table still tracks exactly the first packets after a packet that is not permitted and not tracked.
-pub KeepsFirst-untaken : (permitted : Packet → Bool) (past : List Event) (kept : Kept) (p : Packet) → permitted p ≡ false
-    → KeepsFirst permitted past kept → KeepsFirst permitted (past ++ Seen p ∷ []) kept
+pub TracksFirstPackets-untaken : (permitted : Packet → Bool) (past : List Event) (kept : ConnectionTable) (p : Packet) → permitted p ≡ false
+    → TracksFirstPackets permitted past kept → TracksFirstPackets permitted (past ++ Seen p ∷ []) kept
 unfolding IsNew
-KeepsFirst-untaken permitted past kept p barred first q = ((λ h. begun h), (λ h. is_begun h.0 h.1))
+TracksFirstPackets-untaken permitted past kept p barred first q = ((λ h. begun h), (λ h. is_begun h.0 h.1))
   where
     begun : is_some (kept q) ≡ true → (place : ℕ) × IsFirstPacket permitted (past ++ Seen p ∷ []) place q
     begun h = let before = (first q).0 h in (before.0, IsFirstPacket-stays permitted past p before.0 q before.1)
@@ -154,9 +154,9 @@ KeepsFirst-untaken permitted past kept p barred first q = ((λ h. begun h), (λ 
       | inr new ↦ absurd (true≢false (sym new.2 ∙ ap permitted (sym new.1) ∙ barred))
     ]
 
-pub KeepsFirst-forget : (permitted : Packet → Bool) (past : List Event) (kept : Kept) (p : Packet) → KeepsFirst permitted past kept
-    → KeepsFirst permitted (past ++ Forget p ∷ []) (after_forget kept p)
-KeepsFirst-forget permitted past kept p first q = ((λ h. begun q h), (λ h. is_begun q h.0 h.1))
+pub TracksFirstPackets-forget : (permitted : Packet → Bool) (past : List Event) (kept : ConnectionTable) (p : Packet) → TracksFirstPackets permitted past kept
+    → TracksFirstPackets permitted (past ++ Forget p ∷ []) (after_forget kept p)
+TracksFirstPackets-forget permitted past kept p first q = ((λ h. begun q h), (λ h. is_begun q h.0 h.1))
   where
     both : List Event
     both = past ++ Forget p ∷ []
@@ -175,5 +175,5 @@ KeepsFirst-forget permitted past kept p first q = ((λ h. begun q h), (λ h. is_
 pub none_at : (k : ℕ) (q : Packet) → SeenAt [] k q → ⊥
 none_at k q h = cc
 
-pub KeepsFirst-start : (permitted : Packet → Bool) → KeepsFirst permitted [] nothing_kept
-KeepsFirst-start permitted q = ((λ h. absurd (true≢false (sym h))), (λ h. absurd (none_at h.0 q h.1.seen)))
+pub TracksFirstPackets-start : (permitted : Packet → Bool) → TracksFirstPackets permitted [] no_connections
+TracksFirstPackets-start permitted q = ((λ h. absurd (true≢false (sym h))), (λ h. absurd (none_at h.0 q h.1.seen)))

@@ -7,8 +7,8 @@ use Rattle.std.specs.Ordering.{is_eq, nat_cmp, ordering_then}
 use Rattle.std.proofs.lemmas.Bool.Decides.{nat_tests}
 use Rattle.host_net.specs.declared.packet.Packet.{Packet}
 use Rattle.host_net.specs.contracts.packet.PacketOrd.TheImpl as order
-use Rattle.pkt_core.specs.inner.Kept.{kept_in}
-use Rattle.pkt_core.specs.Tracking.{same_packet, with_kept}
+use Rattle.pkt_core.specs.inner.ConnectionTable.{kept_in}
+use Rattle.pkt_core.specs.Tracking.{same_packet, with_connection}
 
 below_is_other : (a b : ℕ) → nat_lt a b ≡ true → (a == b) ≡ true → ⊥
 below_is_other a b = grind (arith, nat_tests)
@@ -44,10 +44,10 @@ read_by_fields entries q = ap (λ (test : Packet → Bool). lookup test entries)
 -- The lookups of a map after a change at p.
 pub kept_in-updates : (old new : List (Packet × Bool)) (p : Packet) (now : Option Bool) →
     ((q : Packet) → lookup (is_at ((order.cmp-value).it q)) new ≡ cond (is_at ((order.cmp-value).it p) q) now (lookup (is_at ((order.cmp-value).it q)) old)) →
-    kept_in new ≡ with_kept (kept_in old) p now
+    kept_in new ≡ with_connection (kept_in old) p now
 kept_in-updates old new p now updates = λ i q. at q i
   where
-    at : (q : Packet) → kept_in new q ≡ with_kept (kept_in old) p now q
+    at : (q : Packet) → kept_in new q ≡ with_connection (kept_in old) p now q
     at q =
         sym (read_by_fields new q) ∙ updates q
         ∙ ap (λ t. cond t now (lookup (is_at ((order.cmp-value).it q)) old)) (is_at-cmp p q)

@@ -7,12 +7,12 @@ use Rattle.pkt_core.specs.declared.event.Event.{Event}
 use Rattle.pkt_core.specs.declared.event.Event.TheVariants.{Seen, Forget}
 use Rattle.pkt_core.specs.Events.{SeenAt}
 use Rattle.pkt_core.specs.laws.EventLaws.{get_back}
-use Rattle.text_core.specs.ListText.{AddsEntry}
-use Rattle.pkt_core.specs.EventsText.{TellsEvent, IsReading, events_text}
+use Rattle.text_core.specs.ListFormat.{AddsEntry}
+use Rattle.pkt_core.specs.EventsText.{EncodesEvent, IsReading, events_text}
 use Rattle.pkt_core.specs.Filter.{ArePackets}
 
 -- A parsed event of a packet.
-seen_told : (ws : List (List ℕ)) (event : Event) (p : Packet) → TellsEvent ws event → event ≡ Seen p → IsPacket p
+seen_told : (ws : List (List ℕ)) (event : Event) (p : Packet) → EncodesEvent ws event → event ≡ Seen p → IsPacket p
 seen_told ws (Seen q) p told same = subst IsPacket (only q p same) told.is_packet
   where
     only : (q p : Packet) → Seen q ≡ Seen p → q ≡ p

@@ -2,5 +2,5 @@ pub mod Connections
 pub mod EventSteps
 pub mod FirewallFor
 pub mod FlowPolicy
-pub mod Kept
+pub mod ConnectionTable
 pub mod PolicyRuns

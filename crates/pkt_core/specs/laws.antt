@@ -1,3 +1,3 @@
 pub mod EventLaws
-pub mod KeptLaws
+pub mod ConnectionTableLaws
 pub mod TrackingLaws

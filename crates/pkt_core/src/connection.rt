@@ -1,7 +1,7 @@
 //! The tracked connection to which a packet belongs.
 
 ghost use Rattle.std.specs.Prelude.{◌≡◌};
-ghost use Rattle.pkt_core.specs.inner.Kept.{state_by};
+ghost use Rattle.pkt_core.specs.inner.ConnectionTable.{state_by};
 
 use host_net::CtState;
 

@@ -3,7 +3,7 @@
 
 ghost use Rattle.std.specs.Prelude.{◌≡◌, ℕ, List, IfOk, IfErr, MatchResult};
 ghost use Rattle.text_core.specs.Lines.{words};
-ghost use Rattle.text_core.specs.ListText.{by_lines};
+ghost use Rattle.text_core.specs.ListFormat.{by_lines};
 ghost use Rattle.text_core.specs.inner.TextAnswers.{HasCause, IsFault};
 ghost use Rattle.text_core.specs.declared.faults.ListWhy.{ListWhy};
 ghost use Rattle.pkt_core.specs.declared.event.Event.{Event as Meant};

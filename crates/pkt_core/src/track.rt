@@ -2,9 +2,9 @@
 //! flag that is set when a packet in the reverse direction is seen.
 
 ghost use Rattle.std.specs.Prelude.{◌≡◌, [], Some, None, OnOk, OnErr};
-ghost use Rattle.pkt_core.specs.inner.Kept.{kept_in, Begins, connection_of, state_by};
+ghost use Rattle.pkt_core.specs.inner.ConnectionTable.{kept_in, Begins, connection_of, state_by};
 ghost use Rattle.pkt_core.specs.inner.PolicyRuns.{TracksAsExpected};
-ghost use Rattle.pkt_core.specs.Tracking.{after_forget, after_seen, state_of, with_kept};
+ghost use Rattle.pkt_core.specs.Tracking.{after_forget, after_seen, state_of, with_connection};
 
 use crate::connection::Connection;
 use host_net::{CtState, Packet};
@@ -121,7 +121,7 @@ fn keep(
     answered: bool,
 ) -> Result<(), AllocError>
     ensures kept { OnOk result (
-        kept_in kept.new.entries ≡ with_kept (kept_in kept.old.entries) packet.now (Some answered)) }
+        kept_in kept.new.entries ≡ with_connection (kept_in kept.old.entries) packet.now (Some answered)) }
     ensures unchanged { OnErr result (kept.new.entries ≡ kept.old.entries) }
     ensures refused { OnErr result (kept_in kept.old.entries packet.now ≡ None) }
 {
@@ -130,7 +130,7 @@ fn keep(
 }
 
 fn remove(kept: &mut BTreeMap<Packet, bool>, packet: &Packet)
-    ensures { kept_in kept.new.entries ≡ with_kept (kept_in kept.old.entries) packet.now None }
+    ensures { kept_in kept.new.entries ≡ with_connection (kept_in kept.old.entries) packet.now None }
 {
     kept.remove(packet);
 }

@@ -5,18 +5,18 @@ use Rattle.std.proofs.lemmas.Bool.{cases_Bool}
 use Rattle.std.proofs.lemmas.Option.{get_or_from_slice_get, slice_get-get_or, slice_get_within}
 use Rattle.std.proofs.lemmas.List.{get_or-map, length-map}
 use Rattle.flow_set.specs.inner.FlowSetView.{IsFlowSet}
-use Rattle.flow_set.proofs.SubsetLaws.{IsFlow-back_of, IsFlowSet-subset, IsFlowSet-with_back, IsFlowSet-with_flow}
+use Rattle.flow_set.proofs.SubsetLaws.{IsFlow-reverse_of, IsFlowSet-subset, IsFlowSet-with_back, IsFlowSet-with_flow}
 use Rattle.inv_any.specs.declared.any_inv.AnyInv.{AnyInv}
 use Rattle.explain_core.specs.Failing.{AreFailing, IsMinimalFailing, among}
 use Rattle.explain_core.proofs.MinimalLaws.{within_without}
-use Rattle.flow_set.specs.inner.Downward.{IsDownward}
+use Rattle.flow_set.specs.inner.Downward.{IsDownwardClosed}
 use Rattle.inv_any.specs.Templates.{meaning_of}
 use Rattle.inv_any.specs.laws.TemplateLaws.{lawful}
 use Rattle.explain_core.specs.Findings.{AreFindings}
 use Rattle.explain_core.specs.declared.finding.Finding.{Finding}
 use Rattle.explain_core.proofs.NumberLaws.{among-read}
 use Rattle.flow_set.specs.declared.flow.Flow.{Flow}
-use Rattle.flow_set.specs.Flow.{IsFlow, back_of, same_flow}
+use Rattle.flow_set.specs.Flow.{IsFlow, reverse_of, same_flow}
 use Rattle.flow_set.specs.FlowSet.{has, IsOrdered, IsSubset, with_flow, with_back}
 use Rattle.flow_set.specs.laws.FlowLaws.{flows_ext, has_first, has_later, has_nothing, has-with_flow, has-with_back, or_swap, same_flow_back, same_flow_self, IsOrdered-with_flow, IsOrdered-with_back}
 use Rattle.permit_core.specs.inner.Trials.{ChosenHold}
@@ -39,17 +39,17 @@ no_reason chosen HoldsOn invs e reasons are none =
     λ k d below counts. failing.failing.others k _ (slice_get-get_or invs k d below) counts refl
 
 -- The answers of the stateful flows with one flow more.
-pub with_back-with_flow : (p s : List Flow) (f : Flow) → IsOrdered p → with_back p (with_flow s f) ≡ with_flow (with_back p s) (back_of f)
+pub with_back-with_flow : (p s : List Flow) (f : Flow) → IsOrdered p → with_back p (with_flow s f) ≡ with_flow (with_back p s) (reverse_of f)
 with_back-with_flow p s f o =
-    flows_ext (with_back p (with_flow s f)) (with_flow (with_back p s) (back_of f))
-    (IsOrdered-with_back p (with_flow s f) o) (IsOrdered-with_flow (with_back p s) (back_of f) (IsOrdered-with_back p s o))
+    flows_ext (with_back p (with_flow s f)) (with_flow (with_back p s) (reverse_of f))
+    (IsOrdered-with_back p (with_flow s f) o) (IsOrdered-with_flow (with_back p s) (reverse_of f) (IsOrdered-with_back p s o))
     (λ g.
     has-with_back p (with_flow s f) g
-    ∙ ap (λ b. has p g || b) (has-with_flow s f (back_of g))
-    ∙ or_swap (has p g) (same_flow f (back_of g)) (has s (back_of g))
-    ∙ ap (λ b. b || (has p g || has s (back_of g))) (sym (same_flow_back f g))
-    ∙ ap (λ b. same_flow (back_of f) g || b) (sym (has-with_back p s g))
-    ∙ sym (has-with_flow (with_back p s) (back_of f) g))
+    ∙ ap (λ b. has p g || b) (has-with_flow s f (reverse_of g))
+    ∙ or_swap (has p g) (same_flow f (reverse_of g)) (has s (reverse_of g))
+    ∙ ap (λ b. b || (has p g || has s (reverse_of g))) (sym (same_flow_back f g))
+    ∙ ap (λ b. same_flow (reverse_of f) g || b) (sym (has-with_back p s g))
+    ∙ sym (has-with_flow (with_back p s) (reverse_of f) g))
 
 -- A flow that is asked for and not permitted has a reason.
 pub denied_explained : (d : Network) (p : List Flow) (f : Flow) (reasons : List Reason) → IsPermitted d p → DenyFlow holds_on d.invariants p f reasons
@@ -65,7 +65,7 @@ pub answers_denied_explained : (d : Network) (p s : List Flow) (f : Flow) (reaso
 answers_denied_explained d p s f reasons ordered stateful bar answers permitted left none =
     first_with (λ answered. MeetsStrict d (with_back p answered)) (answerable d.answers p) s f stateful
     (subst (λ b. IsTrue (has (answerable b p) f)) (sym answers) permitted) left
-    (subst (MeetsStrict d) (sym (with_back-with_flow p s f ordered)) (no_reason _ holds_on d.invariants (with_flow (with_back p s) (back_of f)) reasons bar none))
+    (subst (MeetsStrict d) (sym (with_back-with_flow p s f ordered)) (no_reason _ holds_on d.invariants (with_flow (with_back p s) (reverse_of f)) reasons bar none))
 
 -- Reasons name invariants of the list and flows between the hosts.
 pub reasons_fit : {X : Type 0} (chosen : X → Bool) (HoldsOn : X → List Flow → Type 0) (invs : List X) (n : ℕ) (e : List Flow) (reasons : List Reason)
@@ -103,8 +103,8 @@ fits_explanation d policy f x asked is_policy flow is =
       flow = subst (IsFlow n) (sym (ap (λ (y : Standing). y.flow) is.standing)) flow;
       denied_by = reasons_of_network d (λ _. true) (with_flow p f) x.denied_by.items (IsFlowSet-with_flow n p f permitted flow) is.denied;
       answers_denied_by =
-          reasons_of_network d (λ inv. is_strict (strategy_of inv) (edge_mark inv)) (with_flow (with_back p s) (back_of f)) x.answers_denied_by.items
-          (IsFlowSet-with_flow n (with_back p s) (back_of f) (IsFlowSet-with_back n p s permitted stateful) (IsFlow-back_of n f flow)) is.answers_denied;
+          reasons_of_network d (λ inv. is_strict (strategy_of inv) (edge_mark inv)) (with_flow (with_back p s) (reverse_of f)) x.answers_denied_by.items
+          (IsFlowSet-with_flow n (with_back p s) (reverse_of f) (IsFlowSet-with_back n p s permitted stateful) (IsFlow-reverse_of n f flow)) is.answers_denied;
     }
 
 -- In an explanation no denial lacks a reason.
@@ -123,7 +123,7 @@ explained_reasons d policy f x is_policy is =
     }
 
 -- A minimal failing set of a set with one flow more has this flow, if the condition holds on the set.
-has_new_flow : (n : ℕ) (Holds : List Flow → Type 0) (p w : List Flow) (f : Flow) → IsDownward n Holds → IsFlowSet n p → Holds p
+has_new_flow : (n : ℕ) (Holds : List Flow → Type 0) (p w : List Flow) (f : Flow) → IsDownwardClosed n Holds → IsFlowSet n p → Holds p
     → IsMinimalFailing Holds (with_flow p f) w → IsTrue (has w f)
 has_new_flow n Holds p w f downward set holds minimal = elim (cases_Bool (has w f)) [
   | inl there ↦ there
@@ -146,7 +146,7 @@ reasons_have d chosen p f reasons sizes set held are k r below =
     let size : (meaning_of inv).size ≡ length d.hosts = subst (λ (y : AnyInv). (meaning_of y).size ≡ length d.hosts) same (sizes (number x) inv within) in
     let holds : holds_on inv p =
     subst (λ (y : AnyInv). holds_on y p) same (held (number x) inv within (subst (λ (y : AnyInv). IsTrue (chosen y)) (sym same) found.counts)) in
-    has_new_flow (length d.hosts) (holds_on inv) p x.by.flows f (subst (λ m. IsDownward m (holds_on inv)) size (lawful inv).downward) set holds
+    has_new_flow (length d.hosts) (holds_on inv) p x.by.flows f (subst (λ m. IsDownwardClosed m (holds_on inv)) size (lawful inv).downward) set holds
     (are.minimal k r below inv found.place)
 
 pub reasons_have_flow : (d : Network) (policy : Policy) (f : Flow) (x : Explanation) → All (λ inv. (meaning_of inv).size ≡ length d.hosts) d.invariants
@@ -161,8 +161,8 @@ reasons_have_flow d policy f x sizes asked is_policy is =
     record {
       denied = subst (λ (g : Flow). All (λ r. IsTrue (has r.by.flows g)) x.denied_by.items) (sym flow)
           (reasons_have d (λ _. true) p f x.denied_by.items sizes permitted (λ k inv below counts. is_policy.permitted.holds k inv below) is.denied);
-      answers_denied = subst (λ (g : Flow). All (λ r. IsTrue (has r.by.flows (back_of g))) x.answers_denied_by.items) (sym flow)
-          (reasons_have d (λ inv. is_strict (strategy_of inv) (edge_mark inv)) (with_back p s) (back_of f) x.answers_denied_by.items sizes
+      answers_denied = subst (λ (g : Flow). All (λ r. IsTrue (has r.by.flows (reverse_of g))) x.answers_denied_by.items) (sym flow)
+          (reasons_have d (λ inv. is_strict (strategy_of inv) (edge_mark inv)) (with_back p s) (reverse_of f) x.answers_denied_by.items sizes
           (IsFlowSet-with_back n p s permitted stateful) is_policy.stateful.holds is.answers_denied);
     }
 

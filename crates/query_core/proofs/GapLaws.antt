@@ -5,11 +5,11 @@ use Rattle.std.proofs.Math.Bool.{and-true}
 use Rattle.std.proofs.lemmas.Bool.{and_parts, both_ways, cases_Bool, eqb-true, not-true, or_cases, or_left, or_right}
 use Rattle.std.proofs.lemmas.Option.{slice_get-get_or}
 use Rattle.flow_set.specs.declared.flow.Flow.{Flow}
-use Rattle.flow_set.specs.Conditions.{DiffersFirstIn, IsFirst}
+use Rattle.flow_set.specs.Conditions.{PrecedesAtFirstDifference, IsFirst}
 use Rattle.flow_set.specs.EveryFlow.{every_flow}
 use Rattle.flow_set.specs.Flow.{IsFlow, before, same_flow}
 use Rattle.flow_set.specs.FlowSet.{has, IsSubset, with_flow}
-use Rattle.flow_set.specs.inner.Downward.{IsDownward}
+use Rattle.flow_set.specs.inner.Downward.{IsDownwardClosed}
 use Rattle.flow_set.specs.inner.FlowSetView.{IsFlowSet, without_flow}
 use Rattle.flow_set.specs.laws.FlowLaws.{after_not_same, before_trans, has-with_flow, has-without_flow, same_fact, same_flow_self, with_flow-without_flow, IsOrdered-with_flow, IsOrdered-without_flow}
 use Rattle.flow_set.proofs.EveryFlowLaws.{IsFlowSet-every_flow}
@@ -60,7 +60,7 @@ other_flow all p f h sub absent there = elim (cases_Bool (same_flow f h)) [
 ]
 
 -- A set that differs first from p without f differs first from p with f.
-differs_first : (all p ys : List Flow) (f : Flow) → IsSubset p all → IsFalse (has all f) → DiffersFirstIn p (without_flow ys f) → DiffersFirstIn (with_flow p f) ys
+differs_first : (all p ys : List Flow) (f : Flow) → IsSubset p all → IsFalse (has all f) → PrecedesAtFirstDifference p (without_flow ys f) → PrecedesAtFirstDifference (with_flow p f) ys
 differs_first all p ys f sub absent d =
     let h = d.flow in
     let other : IsFalse (same_flow f h) = other_flow all p f h sub absent d.here in
@@ -97,7 +97,7 @@ differs_first all p ys f sub absent d =
     ]
 
 -- If the condition holds on the first subset with one flow more, this is the first subset of all flows with this one.
-first_with_new : (n : ℕ) (Holds : List Flow → Type 0) (all p : List Flow) (f : Flow) → IsDownward n Holds → IsFlowSet n (with_flow all f) → IsFirst Holds all p
+first_with_new : (n : ℕ) (Holds : List Flow → Type 0) (all p : List Flow) (f : Flow) → IsDownwardClosed n Holds → IsFlowSet n (with_flow all f) → IsFirst Holds all p
     → IsFalse (has all f) → Holds (with_flow p f) → IsFirst Holds (with_flow all f) (with_flow p f)
 first_with_new n Holds all p f downward set is absent holds = record {
   within = record {
@@ -127,8 +127,8 @@ first_with_new n Holds all p f downward set is absent holds = record {
 
 -- ---- gaps
 
-downward_at : (n : ℕ) (inv : AnyInv) → (meaning_of inv).size ≡ n → IsDownward n (holds_on inv)
-downward_at n inv sized = subst (λ m. IsDownward m (holds_on inv)) sized (lawful inv).downward
+downward_at : (n : ℕ) (inv : AnyInv) → (meaning_of inv).size ≡ n → IsDownwardClosed n (holds_on inv)
+downward_at n inv sized = subst (λ m. IsDownwardClosed m (holds_on inv)) sized (lawful inv).downward
 
 no_numbers : (ns : List ℕ) → length ns ≡ 0 → ns ≡ []
 no_numbers [] none = refl

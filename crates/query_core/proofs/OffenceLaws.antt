@@ -11,7 +11,7 @@ use Rattle.flow_set.specs.declared.flow.Flow.{Flow}
 use Rattle.flow_set.specs.inner.FlowSetView.{IsFlowSet}
 use Rattle.flow_set.proofs.SubsetLaws.{IsFlowSet-subset}
 use Rattle.net_core.specs.Network.{Network}
-use Rattle.query_core.specs.Offences.{IsOffenceOf}
+use Rattle.query_core.specs.Offences.{IsViolationOf}
 use Rattle.query_core.specs.declared.offence.Offence.{Offence}
 use Rattle.query_core.specs.inner.Fitting.{FitsOffence}
 use Rattle.query_core.proofs.ArrayLaws.{range_next}
@@ -19,13 +19,13 @@ use Rattle.query_core.proofs.ArrayLaws.{range_next}
 -- The offences of the first invariants, so many of them.
 pub record AreFound (d : Network) (count : ℕ) (offences : List Offence) : Type 0 where
   pub numbers : map (λ offence. offence.number) offences ≡ range_with_len 0 count
-  pub each : All (IsOffenceOf d) offences
+  pub each : All (IsViolationOf d) offences
   pub fit : All (FitsOffence d) offences
 
 pub found_none : (d : Network) → AreFound d 0 []
 found_none d = record { numbers = refl; each = λ k x below. absurd (omega (arith, below)); fit = λ k x below. absurd (omega (arith, below)) }
 
-pub found_next : (d : Network) (count : ℕ) (offences : List Offence) (x : Offence) → AreFound d count offences → x.number ≡ count → IsOffenceOf d x → FitsOffence d x
+pub found_next : (d : Network) (count : ℕ) (offences : List Offence) (x : Offence) → AreFound d count offences → x.number ≡ count → IsViolationOf d x → FitsOffence d x
     → AreFound d (count + 1) (offences ++ x ∷ [])
 found_next d count offences x found number is fits = record {
   numbers =
@@ -33,7 +33,7 @@ found_next d count offences x found number is fits = record {
       ∙ ap (λ (ns : List ℕ). ns ++ x.number ∷ []) found.numbers
       ∙ ap (λ (n : ℕ). range_with_len 0 count ++ n ∷ []) number
       ∙ sym (range_next count);
-  each = All-push (IsOffenceOf d) offences x found.each is;
+  each = All-push (IsViolationOf d) offences x found.each is;
   fit = All-push (FitsOffence d) offences x found.fit fits;
 }
 

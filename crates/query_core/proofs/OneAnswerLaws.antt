@@ -4,7 +4,7 @@ use Rattle.std.specs.Prelude.{codes, option_map, slice_get}
 use Rattle.std.specs.List.{flat_map, range_with_len}
 use Rattle.std.proofs.lemmas.List.{ext_get_or, get_or-map, length-map}
 use Rattle.flow_set.specs.declared.flow.Flow.{Flow}
-use Rattle.flow_set.specs.Flow.{back_of}
+use Rattle.flow_set.specs.Flow.{reverse_of}
 use Rattle.flow_set.specs.EveryFlow.{every_flow}
 use Rattle.flow_set.specs.FlowSet.{SetOfFlows, with_back, with_flow, without}
 use Rattle.permit_core.proofs.FirstLaws.{first_unique}
@@ -12,7 +12,7 @@ use Rattle.state_core.specs.Stateful.{is_strict}
 use Rattle.inv_any.specs.declared.any_inv.AnyInv.{AnyInv}
 use Rattle.net_core.specs.Network.{Network}
 use Rattle.net_core.specs.Policies.{Policy, edge_mark, holds_on, strategy_of}
-use Rattle.report_core.specs.CheckReport.{IsOffence}
+use Rattle.report_core.specs.CheckReport.{IsViolation}
 use Rattle.explain_core.specs.Failing.{AreDenying, AreDenyingAnswers}
 use Rattle.explain_core.specs.declared.finding.Finding.{Finding}
 use Rattle.explain_core.specs.declared.reason.Reason.{Reason}
@@ -20,7 +20,7 @@ use Rattle.explain_core.proofs.ReasonLaws.{failing_is_one, finding_parts, findin
 use Rattle.query_core.specs.Explanations.{IsExplanation}
 use Rattle.query_core.specs.Json.{answer_denial_json, array_json, bool_json, flow_json, has_no_offence, host_entry_json, invariant_at, is_gap, network_json, number_json, offence_json, offending_flows, pair_json, reason_json, separated, standing_json, why_json}
 use Rattle.query_core.specs.NetworkText.{IsNetworkText}
-use Rattle.query_core.specs.Offences.{AreOffencesOf, IsOffenceOf}
+use Rattle.query_core.specs.Offences.{AreOffencesOf, IsViolationOf}
 use Rattle.query_core.specs.Standings.{standing_of}
 use Rattle.query_core.specs.declared.explanation.Explanation.{Explanation}
 use Rattle.query_core.specs.declared.offence.Offence.{Offence}
@@ -66,7 +66,7 @@ why_is_one d policy f x y a b =
     (reasons_are_one (λ _. true) holds_on d.invariants (with_flow p f) x.denied_by.items y.denied_by.items a.denied b.denied) in
     let answers : array_json (reason_json d) x.answers_denied_by.items ≡ array_json (reason_json d) y.answers_denied_by.items =
     same_array reason_parts (reason_json d) (reason_text d) (reason_by_parts d) x.answers_denied_by.items y.answers_denied_by.items
-    (reasons_are_one (λ inv. is_strict (strategy_of inv) (edge_mark inv)) holds_on d.invariants (with_flow (with_back p s) (back_of f)) x.answers_denied_by.items y.answers_denied_by.items
+    (reasons_are_one (λ inv. is_strict (strategy_of inv) (edge_mark inv)) holds_on d.invariants (with_flow (with_back p s) (reverse_of f)) x.answers_denied_by.items y.answers_denied_by.items
     a.answers_denied b.answers_denied) in
     λ i. codes "{\"version\":1," ++ (standing_json d (standing i) ++ (codes ",\"denied_by\":" ++ (denied i ++ (codes ",\"answers_denied_by\":" ++ (answers i ++ codes "}\n")))))
 
@@ -86,8 +86,8 @@ is_none : Option (List Flow) → Bool
 is_none None = true
 is_none (Some fs) = false
 
-offence_text : Network → ℕ × Option (List Flow) → List ℕ
-offence_text d parts =
+violation_text : Network → ℕ × Option (List Flow) → List ℕ
+violation_text d parts =
     invariant_at d parts.0 ++ (codes ",\"holds\":" ++ (bool_json (is_none parts.1) ++ (codes ",\"offending\":" ++ (array_json (flow_json d.hosts) (listed_flows parts.1) ++ codes "}"))))
 
 same_flows : (o : Option SetOfFlows) → offending_flows o ≡ listed_flows (offence_flows o)
@@ -100,13 +100,13 @@ unfolding is_none offence_flows
 same_none None = refl
 same_none (Some set) = refl
 
-offence_by_parts : (d : Network) (x : Offence) → offence_json d x ≡ offence_text d (offence_parts x)
-unfolding offence_json offence_text
+offence_by_parts : (d : Network) (x : Offence) → offence_json d x ≡ violation_text d (offence_parts x)
+unfolding offence_json violation_text
 offence_by_parts d x =
     ap₂ (λ b fs. invariant_at d x.number ++ (codes ",\"holds\":" ++ (bool_json b ++ (codes ",\"offending\":" ++ (array_json (flow_json d.hosts) fs ++ codes "}")))))
     (same_none x.flows) (same_flows x.flows)
 
-offence_is_one : (Holds : List Flow → Type 0) (asked : List Flow) (o r : Option (List Flow)) → IsOffence Holds asked o → IsOffence Holds asked r → o ≡ r
+offence_is_one : (Holds : List Flow → Type 0) (asked : List Flow) (o r : Option (List Flow)) → IsViolation Holds asked o → IsViolation Holds asked r → o ≡ r
 offence_is_one Holds asked None None a b = refl
 offence_is_one Holds asked None (Some fs) a b = absurd (b.0 a)
 offence_is_one Holds asked (Some fs) None a b = absurd (a.0 b)
@@ -130,12 +130,12 @@ offences_at e d xs ys a b =
     ∙ (λ i. (same i, found_is_one d x y (a.each k e here) (b.each k e there) same i))
     ∙ sym (get_or-map offence_parts ys k e (offence_parts e) there))
   where
-    found_is_one : (d : Network) (x y : Offence) → IsOffenceOf d x → IsOffenceOf d y → x.number ≡ y.number → offence_flows x.flows ≡ offence_flows y.flows
+    found_is_one : (d : Network) (x y : Offence) → IsViolationOf d x → IsViolationOf d y → x.number ≡ y.number → offence_flows x.flows ≡ offence_flows y.flows
     found_is_one d x y p q same =
         let places : Some p.inv ≡ Some q.inv = sym p.place ∙ ap (slice_get d.invariants) same ∙ q.place in
         let invs : p.inv ≡ q.inv = cc in
         offence_is_one (holds_on q.inv) d.asked.flows (offence_flows x.flows) (offence_flows y.flows)
-        (subst (λ (inv : AnyInv). IsOffence (holds_on inv) d.asked.flows (offence_flows x.flows)) invs p.found) q.found
+        (subst (λ (inv : AnyInv). IsViolation (holds_on inv) d.asked.flows (offence_flows x.flows)) invs p.found) q.found
 
 offences_are_one : (d : Network) (xs ys : List Offence) → AreOffencesOf d xs → AreOffencesOf d ys → map offence_parts xs ≡ map offence_parts ys
 offences_are_one d [] [] a b = refl
@@ -172,13 +172,13 @@ network_is_one d policy t u a b =
     let p : List Flow = policy.permitted.flows in
     let s : List Flow = policy.stateful.flows in
     let every : List Flow = every_flow (length d.hosts) in
-    let offences = same_array offence_parts (offence_json d) (offence_text d) (offence_by_parts d) a.offences b.offences (offences_are_one d a.offences b.offences a.are_offences b.are_offences) in
+    let offences = same_array offence_parts (offence_json d) (violation_text d) (offence_by_parts d) a.offences b.offences (offences_are_one d a.offences b.offences a.are_offences b.are_offences) in
     let denials =
     same_array finding_parts (pair_json d policy) (pair_text d policy) (pair_by_parts d policy) a.denials b.denials
     (findings_are_one (AreDenying holds_on d.invariants p) (λ f. failing_is_one (λ _. true) holds_on d.invariants (with_flow p f)) every a.denials b.denials a.are_denials b.are_denials) in
     let answers =
     same_array finding_parts (answer_denial_json d) (answer_denial_text d) (answer_denial_by_parts d) a.answer_denials b.answer_denials
     (findings_are_one (AreDenyingAnswers strategy_of edge_mark holds_on d.invariants p s)
-    (λ f. failing_is_one (λ inv. is_strict (strategy_of inv) (edge_mark inv)) holds_on d.invariants (with_flow (with_back p s) (back_of f)))
+    (λ f. failing_is_one (λ inv. is_strict (strategy_of inv) (edge_mark inv)) holds_on d.invariants (with_flow (with_back p s) (reverse_of f)))
     (without p s) a.answer_denials b.answer_denials a.are_answer_denials b.are_answer_denials) in
     a.written ∙ texts_are_one d policy a.offences b.offences a.denials b.denials a.answer_denials b.answer_denials offences denials answers ∙ sym b.written

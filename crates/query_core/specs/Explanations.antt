@@ -1,7 +1,7 @@
 -- The explanation of a flow: its standing, and the invariants that deny it or its answers, each with a minimal failing set.
 use Rattle.std.specs.Prelude.{◌≡◌, [], All, IsTrue, IsFalse}
 use Rattle.flow_set.specs.declared.flow.Flow.{Flow}
-use Rattle.flow_set.specs.Flow.{back_of}
+use Rattle.flow_set.specs.Flow.{reverse_of}
 use Rattle.flow_set.specs.FlowSet.{has}
 use Rattle.net_core.specs.Network.{Network}
 use Rattle.net_core.specs.Policies.{Policy, holds_on, strategy_of, edge_mark}
@@ -25,4 +25,4 @@ pub record HasReasons (d : Network) (x : Explanation) : Type 0 where
 -- The minimal failing set of each reason has the flow, or its answer.
 pub record ReasonsHaveFlow (x : Explanation) : Type 0 where
   pub denied : All (λ reason. IsTrue (has reason.by.flows x.standing.flow)) x.denied_by.items
-  pub answers_denied : All (λ reason. IsTrue (has reason.by.flows (back_of x.standing.flow))) x.answers_denied_by.items
+  pub answers_denied : All (λ reason. IsTrue (has reason.by.flows (reverse_of x.standing.flow))) x.answers_denied_by.items

@@ -3,19 +3,19 @@ use Rattle.std.proofs.Common.{◌≡◌, ◌⊎◌, inl, inr, ℕ, List, Option,
 use Rattle.std.specs.Prelude.{IfSome}
 use Rattle.std.specs.FinMap.{get}
 use Rattle.audit_core.specs.Rules.{Rules}
-use Rattle.audit_core.specs.Sides.{ForwardAlike}
-use Rattle.edge_io.specs.Told.{Files}
+use Rattle.audit_core.specs.Sides.{AreEquivalent}
+use Rattle.edge_io.specs.Observable.{Files}
 use Rattle.host_net.specs.Host.{Host}
 use Rattle.net_core.specs.Network.{Network as Described}
 use Rattle.topos_top.specs.Audit.{OfSides, rules_in}
-use Rattle.topos_top.specs.Course.{Course, CameAlong, reads, ends}
-use Rattle.topos_top.specs.Kinds.{contents_of}
-use Rattle.topos_top.specs.Job.{Job, OneEnd, Told}
-use Rattle.topos_top.specs.Promises.{AtFile, WasRead, Wrote}
-use Rattle.topos_top.specs.Replies.{NoMemory, Stopped, StopsAt}
+use Rattle.topos_top.specs.CommandPlan.{CommandPlan, HoldsAtStop, reads, ends}
+use Rattle.topos_top.specs.FileFormats.{format_of}
+use Rattle.topos_top.specs.Outcomes.{Outcomes, AnyOutcome, EndsWithGuarantee}
+use Rattle.topos_top.specs.Promises.{HoldsAtFile, WasRead, Wrote}
+use Rattle.topos_top.specs.Replies.{NoMemory, Stopped, StopsRunAt}
 use Rattle.topos_top.specs.Reply.{Reply}
 use Rattle.topos_top.specs.Shelf.{Shelf, ShelfChange, since}
-use Rattle.topos_top.specs.Taken.{SinkChange, Took}
+use Rattle.topos_top.specs.SinkChanges.{SinkChange, Appends}
 use Rattle.topos_top.specs.declared.dialect.Dialect.{Dialect}
 use Rattle.topos_top.specs.declared.kind.Kind.{Kind}
 use Rattle.topos_top.specs.declared.kind.Kind.TheVariants.{Description}
@@ -23,42 +23,42 @@ use Rattle.topos_top.specs.declared.kind.Kind.TheVariants as kind
 use Rattle.topos_top.specs.declared.status.Status.{Status}
 use Rattle.topos_top.specs.declared.status.Status.TheVariants as status
 use Rattle.topos_top.proofs.RunLaws.{stop_status}
-use Rattle.query_top.specs.Ask.{Ask, AskFor, Changes, Compare, Flows, Network, Why}
-use Rattle.query_top.specs.Changes.{IsChangesAnswer, changes_job}
-use Rattle.query_top.specs.Commands.{course_of}
-use Rattle.query_top.specs.Compare.{TellsDifferences, compare_job, equal_json}
-use Rattle.query_top.specs.Flows.{IsFlowsAnswer, flows_job}
-use Rattle.query_top.specs.Network.{IsNetworkAnswer, network_job}
-use Rattle.query_top.specs.Promises.{AtJob, HasCause, HasRules, Keeps, KeepsDifferences}
-use Rattle.query_top.specs.Why.{IsWhy, why_job}
-use Rattle.query_top.proofs.AskLaws.{one_ask}
+use Rattle.query_top.specs.Command.{Command, ParseAs, Changes, Compare, Flows, Network, Why}
+use Rattle.query_top.specs.Changes.{IsChangesAnswer, changes_outcomes}
+use Rattle.query_top.specs.Commands.{plan_of}
+use Rattle.query_top.specs.Compare.{ReportsDifferences, compare_outcomes, equal_json}
+use Rattle.query_top.specs.Flows.{IsFlowsAnswer, flows_outcomes}
+use Rattle.query_top.specs.Network.{IsNetworkAnswer, network_outcomes}
+use Rattle.query_top.specs.Promises.{HoldsAtOutcome, HasCause, HasRules, AnswersQuestion, OutputsDifferences}
+use Rattle.query_top.specs.Why.{IsWhy, why_outcomes}
+use Rattle.query_top.proofs.ParseLaws.{one_ask}
 
--- A run along a course from this shelf, which ended in this status.
-abbrev CameFrom : Status → ShelfChange → (out err : SinkChange) → Course → Shelf → Type 0
-CameFrom s shelf out err course at = CameAlong shelf.only_failures course at
-    (λ kind file before. AtFile s err (since before shelf) kind file)
-    (λ job before. (shelf.after ≡ before) × AtJob s out err job)
+-- A run of a plan from this shelf that ended with this status.
+abbrev CameFrom : Status → ShelfChange → (out err : SinkChange) → CommandPlan → Shelf → Type 0
+CameFrom s shelf out err plan at = HoldsAtStop shelf.only_failures plan at
+    (λ kind file before. HoldsAtFile s err (since before shelf) kind file)
+    (λ outcomes before. (shelf.after ≡ before) × HoldsAtOutcome s out err outcomes)
 
 -- ---- a question on one description
 
--- A run along the course of a question on one description, which ended in this status.
-abbrev Came : Status → ShelfChange → (out err : SinkChange) → (file : List ℕ) → (Described → Job) → Type 0
-Came s shelf out err file job = CameFrom s shelf out err (reads Description file (λ d. ends (job d))) shelf.before
+-- A run of the plan of a question on one description that ended with this status.
+abbrev Came : Status → ShelfChange → (out err : SinkChange) → (file : List ℕ) → (Described → Outcomes) → Type 0
+Came s shelf out err file outcomes = CameFrom s shelf out err (reads Description file (λ d. ends (outcomes d))) shelf.before
 
 -- The status of a description that stops a run.
 stop_of : (seen : ShelfChange) (file : List ℕ) (P : Status → Type 0) (given : Reply) → P status.ReadFault → P status.Memory → P status.BadDescription
-    → StopsAt seen Description file given → P given.status
+    → StopsRunAt seen Description file given → P given.status
 stop_of seen file P given unread memory refused (NoMemory begins is) = subst (λ (r : Reply). P r.status) (sym is) memory
 stop_of seen file P given unread memory refused (Stopped None last is) = subst (λ (r : Reply). P r.status) (sym is) unread
 stop_of seen file P given unread memory refused (Stopped (Some bytes) last is) = subst (λ (r : Reply). P r.status) (sym is.replied) refused
 
--- A run that is done came to its job, and its text is on the output.
-wrote : (shelf : ShelfChange) (out err : SinkChange) (file : List ℕ) (job : Described → Job) (Is : Described → List ℕ → Type 0)
-    → ((d : Described) (text : List ℕ) → OneEnd (Told status.Done text) (job d) → Is d text)
-    → Came status.Done shelf out err file job → WasRead shelf Description file (λ d. Wrote out (Is d))
-wrote shelf out err file job Is done (inl stopped) =
+-- A run that is done reached its outcomes, and its text is on the output.
+wrote : (shelf : ShelfChange) (out err : SinkChange) (file : List ℕ) (outcomes : Described → Outcomes) (Is : Described → List ℕ → Type 0)
+    → ((d : Described) (text : List ℕ) → AnyOutcome (EndsWithGuarantee status.Done text) (outcomes d) → Is d text)
+    → Came status.Done shelf out err file outcomes → WasRead shelf Description file (λ d. Wrote out (Is d))
+wrote shelf out err file outcomes Is done (inl stopped) =
     absurd (stop_of (since shelf.before shelf) file (λ t. t ≡ status.Done → ⊥) stopped.0 (λ e. cc e) (λ e. cc e) (λ e. cc e) stopped.1 stopped.2)
-wrote shelf out err file job Is done (inr on) = record {
+wrote shelf out err file outcomes Is done (inr on) = record {
   bytes = on.bytes;
   held = on.held;
   said = on.said;
@@ -66,32 +66,32 @@ wrote shelf out err file job Is done (inr on) = record {
   so = (on.next.1.0, on.next.1.2.0, done on.said on.next.1.0 on.next.1.1);
 }
 
-why_done : (d : Described) (from to text : List ℕ) → OneEnd (Told status.Done text) (why_job d from to) → IsWhy d from to text
+why_done : (d : Described) (from to text : List ℕ) → AnyOutcome (EndsWithGuarantee status.Done text) (why_outcomes d from to) → IsWhy d from to text
 why_done d from to text (inl none) = let other = none.0.0 in cc other
 why_done d from to text (inr (inl answer)) = answer.1
 why_done d from to text (inr (inr none)) = absurd none
 
-network_done : (d : Described) (text : List ℕ) → OneEnd (Told status.Done text) (network_job d) → IsNetworkAnswer d text
+network_done : (d : Described) (text : List ℕ) → AnyOutcome (EndsWithGuarantee status.Done text) (network_outcomes d) → IsNetworkAnswer d text
 network_done d text (inl answer) = answer.1
 network_done d text (inr none) = absurd none
 
 -- ---- a question on a description and another file
 
 -- A status that no file has.
-abbrev IsOfJob : Status → Type 0
-IsOfJob s = (status.ReadFault ≡ s → ⊥) × (status.Memory ≡ s → ⊥) × (status.BadDescription ≡ s → ⊥) × (status.BadText ≡ s → ⊥)
+abbrev IsOfOutcomes : Status → Type 0
+IsOfOutcomes s = (status.ReadFault ≡ s → ⊥) × (status.Memory ≡ s → ⊥) × (status.BadDescription ≡ s → ⊥) × (status.BadText ≡ s → ⊥)
 
 -- A run that ended in such a status was stopped by no file.
-not_at_file : (s : Status) (shelf : ShelfChange) (err : SinkChange) (kind : Kind) (file : List ℕ) (at : Shelf) → IsOfJob s
-    → AtFile s err (since at shelf) kind file → ⊥
+not_at_file : (s : Status) (shelf : ShelfChange) (err : SinkChange) (kind : Kind) (file : List ℕ) (at : Shelf) → IsOfOutcomes s
+    → HoldsAtFile s err (since at shelf) kind file → ⊥
 not_at_file s shelf err kind file at none stopped =
     stop_status (since at shelf) kind file (λ t. t ≡ s → ⊥) stopped.0 none.0 none.1 none.2 none.3 stopped.1 stopped.2
 
 module _ (s : Status) (shelf : ShelfChange) (out err : SinkChange) (second : Kind) (file other : List ℕ)
-    (job : Described → (contents_of second).Said → Job) (Is : Described → (contents_of second).Said → Type 0) (none : IsOfJob s)
-    (at_job : (d : Described) (said : (contents_of second).Said) → AtJob s out err (job d said) → Is d said) where
+    (outcomes : Described → (format_of second).Said → Outcomes) (Is : Described → (format_of second).Said → Type 0) (none : IsOfOutcomes s)
+    (at_outcomes : (d : Described) (said : (format_of second).Said) → HoldsAtOutcome s out err (outcomes d said) → Is d said) where
   other_read : (d : Described) (at : Shelf) → at.told ≡ shelf.before.told
-      → CameFrom s shelf out err (reads second other (λ said. ends (job d said))) at
+      → CameFrom s shelf out err (reads second other (λ said. ends (outcomes d said))) at
       → WasRead shelf second other (Is d)
   other_read d at told (inl stopped) = absurd (not_at_file s shelf err second other at none stopped)
   other_read d at told (inr on) = record {
@@ -99,11 +99,11 @@ module _ (s : Status) (shelf : ShelfChange) (out err : SinkChange) (second : Kin
     held = subst (λ (o : Option Files). IfSome o (λ files. get files other ≡ Some on.bytes)) told on.held;
     said = on.said;
     read = on.read;
-    so = at_job d on.said on.next.1;
+    so = at_outcomes d on.said on.next.1;
   }
 
   -- Such a run read both files.
-  both_read : CameFrom s shelf out err (reads Description file (λ d. reads second other (λ said. ends (job d said)))) shelf.before
+  both_read : CameFrom s shelf out err (reads Description file (λ d. reads second other (λ said. ends (outcomes d said)))) shelf.before
       → WasRead shelf Description file (λ d. WasRead shelf second other (Is d))
   both_read (inl stopped) = absurd (not_at_file s shelf err Description file shelf.before none stopped)
   both_read (inr on) = record {
@@ -114,18 +114,18 @@ module _ (s : Status) (shelf : ShelfChange) (out err : SinkChange) (second : Kin
     so = other_read on.said on.after on.took.told on.next;
   }
 
-compare_done : (out err : SinkChange) (d : Described) (rules : Rules) → AtJob status.Done out err (compare_job d rules)
-    → OfSides d rules ForwardAlike × Took out equal_json
+compare_done : (out err : SinkChange) (d : Described) (rules : Rules) → HoldsAtOutcome status.Done out err (compare_outcomes d rules)
+    → OfSides d rules AreEquivalent × Appends out equal_json
 compare_done out err d rules at = elim at.1 [
   | inl differ ↦ let other = differ.0.0 in cc other
   | inr rest ↦ elim rest [
-    | inl agree ↦ (agree.1.0, subst (λ (text : List ℕ). Took out text) agree.1.1 at.2.0)
+    | inl agree ↦ (agree.1.0, subst (λ (text : List ℕ). Appends out text) agree.1.1 at.2.0)
     | inr none ↦ absurd none
   ]
 ]
 
-compare_differs : (out err : SinkChange) (d : Described) (rules : Rules) → AtJob status.Violated out err (compare_job d rules)
-    → Wrote out (λ text. OfSides d rules (λ sides. TellsDifferences sides text))
+compare_differs : (out err : SinkChange) (d : Described) (rules : Rules) → HoldsAtOutcome status.Violated out err (compare_outcomes d rules)
+    → Wrote out (λ text. OfSides d rules (λ sides. ReportsDifferences sides text))
 compare_differs out err d rules at = elim at.1 [
   | inl differ ↦ (at.0, at.2.0, differ.1)
   | inr rest ↦ elim rest [
@@ -134,13 +134,13 @@ compare_differs out err d rules at = elim at.1 [
   ]
 ]
 
-flows_done : (out err : SinkChange) (hosts : List Host) (rules : Rules) → AtJob status.Done out err (flows_job hosts rules) → Wrote out (IsFlowsAnswer hosts rules)
+flows_done : (out err : SinkChange) (hosts : List Host) (rules : Rules) → HoldsAtOutcome status.Done out err (flows_outcomes hosts rules) → Wrote out (IsFlowsAnswer hosts rules)
 flows_done out err hosts rules at = elim at.1 [
   | inl answer ↦ (at.0, at.2.0, answer.1)
   | inr none ↦ absurd none
 ]
 
-changes_done : (out err : SinkChange) (before after : Described) → AtJob status.Done out err (changes_job before after)
+changes_done : (out err : SinkChange) (before after : Described) → HoldsAtOutcome status.Done out err (changes_outcomes before after)
     → Wrote out (IsChangesAnswer before after false)
 changes_done out err before after at = elim at.1 [
   | inl weaken ↦ let other = weaken.0.0 in cc other
@@ -150,7 +150,7 @@ changes_done out err before after at = elim at.1 [
   ]
 ]
 
-changes_weaken : (out err : SinkChange) (before after : Described) → AtJob status.Violated out err (changes_job before after)
+changes_weaken : (out err : SinkChange) (before after : Described) → HoldsAtOutcome status.Violated out err (changes_outcomes before after)
     → Wrote out (IsChangesAnswer before after true)
 changes_weaken out err before after at = elim at.1 [
   | inl weaken ↦ (at.0, at.2.0, weaken.1)
@@ -162,69 +162,69 @@ changes_weaken out err before after at = elim at.1 [
 
 -- ---- the answer
 
-answer_kept : (shelf : ShelfChange) (out err : SinkChange) (ask : Ask) → CameFrom status.Done shelf out err (course_of ask) shelf.before → Keeps ask shelf out
+answer_kept : (shelf : ShelfChange) (out err : SinkChange) (command : Command) → CameFrom status.Done shelf out err (plan_of command) shelf.before → AnswersQuestion command shelf out
 answer_kept shelf out err (Why file from to) came =
-    wrote shelf out err file (λ d. why_job d from to) (λ d. IsWhy d from to) (λ d. why_done d from to) came
-answer_kept shelf out err (Network file) came = wrote shelf out err file network_job IsNetworkAnswer network_done came
+    wrote shelf out err file (λ d. why_outcomes d from to) (λ d. IsWhy d from to) (λ d. why_done d from to) came
+answer_kept shelf out err (Network file) came = wrote shelf out err file network_outcomes IsNetworkAnswer network_done came
 answer_kept shelf out err (Flows dialect file rules) came =
-    both_read status.Done shelf out err (kind.Rules dialect) file rules (λ d said. flows_job d.hosts (rules_in dialect said))
+    both_read status.Done shelf out err (kind.Rules dialect) file rules (λ d said. flows_outcomes d.hosts (rules_in dialect said))
     (λ d said. Wrote out (IsFlowsAnswer d.hosts (rules_in dialect said)))
     ((λ e. cc e), (λ e. cc e), (λ e. cc e), (λ e. cc e)) (λ d said. flows_done out err d.hosts (rules_in dialect said)) came
 answer_kept shelf out err (Compare dialect file rules) came =
-    both_read status.Done shelf out err (kind.Rules dialect) file rules (λ d said. compare_job d (rules_in dialect said))
-    (λ d said. OfSides d (rules_in dialect said) ForwardAlike × Took out equal_json)
+    both_read status.Done shelf out err (kind.Rules dialect) file rules (λ d said. compare_outcomes d (rules_in dialect said))
+    (λ d said. OfSides d (rules_in dialect said) AreEquivalent × Appends out equal_json)
     ((λ e. cc e), (λ e. cc e), (λ e. cc e), (λ e. cc e)) (λ d said. compare_done out err d (rules_in dialect said)) came
 answer_kept shelf out err (Changes old new) came =
-    both_read status.Done shelf out err Description old new changes_job (λ before after. Wrote out (IsChangesAnswer before after false))
+    both_read status.Done shelf out err Description old new changes_outcomes (λ before after. Wrote out (IsChangesAnswer before after false))
     ((λ e. cc e), (λ e. cc e), (λ e. cc e), (λ e. cc e)) (λ before after. changes_done out err before after) came
 
 -- The answer on the output is the answer to the question.
 pub answered_law : (words : List (List ℕ)) (shelf : ShelfChange) (out err : SinkChange) → HasCause status.Done words shelf out err
-    → (ask : Ask) → AskFor words ask → Keeps ask shelf out
-answered_law words shelf out err cause ask asked =
-    subst (λ (a : Ask). Keeps a shelf out) (one_ask words cause.ask ask cause.asked asked) (answer_kept shelf out err cause.ask cause.along)
+    → (command : Command) → ParseAs words command → AnswersQuestion command shelf out
+answered_law words shelf out err cause command asked =
+    subst (λ (a : Command). AnswersQuestion a shelf out) (one_ask words cause.command command cause.asked asked) (answer_kept shelf out err cause.command cause.along)
 
 -- ---- the statuses that not every question has
 
--- A job ends with an answer, or with the line that there is none.
-abbrev EndsInTwo : Job → Type 0
-EndsInTwo job = (ended : Status) (text : List ℕ) → OneEnd (Told ended text) job → (ended ≡ status.Done) ⊎ (ended ≡ status.NotEmittable)
+-- The outcomes are an answer, or the line that there is none.
+abbrev EndsInTwo : Outcomes → Type 0
+EndsInTwo outcomes = (ended : Status) (text : List ℕ) → AnyOutcome (EndsWithGuarantee ended text) outcomes → (ended ≡ status.Done) ⊎ (ended ≡ status.NotEmittable)
 
-why_ends : (d : Described) (from to : List ℕ) → EndsInTwo (why_job d from to)
+why_ends : (d : Described) (from to : List ℕ) → EndsInTwo (why_outcomes d from to)
 why_ends d from to ended text (inl none) = inr none.0.0
 why_ends d from to ended text (inr (inl answer)) = inl answer.0.0
 why_ends d from to ended text (inr (inr none)) = absurd none
 
-network_ends : (d : Described) → EndsInTwo (network_job d)
+network_ends : (d : Described) → EndsInTwo (network_outcomes d)
 network_ends d ended text (inl answer) = inl answer.0.0
 network_ends d ended text (inr none) = absurd none
 
--- So a question on one description ends in no status that neither its file nor its job has.
-never_violated : (shelf : ShelfChange) (out err : SinkChange) (file : List ℕ) (job : Described → Job) → ((d : Described) → EndsInTwo (job d)) → Came status.Violated shelf out err file job → ⊥
-never_violated shelf out err file job two (inl stopped) =
+-- So a question on one description ends with no status that neither its file nor its outcomes have.
+never_violated : (shelf : ShelfChange) (out err : SinkChange) (file : List ℕ) (outcomes : Described → Outcomes) → ((d : Described) → EndsInTwo (outcomes d)) → Came status.Violated shelf out err file outcomes → ⊥
+never_violated shelf out err file outcomes two (inl stopped) =
     stop_of (since shelf.before shelf) file (λ t. t ≡ status.Violated → ⊥) stopped.0 (λ e. cc e) (λ e. cc e) (λ e. cc e) stopped.1 stopped.2
-never_violated shelf out err file job two (inr on) =
+never_violated shelf out err file outcomes two (inr on) =
     elim (two on.said status.Violated on.next.1.0 on.next.1.1) [ inl is ↦ cc is | inr is ↦ cc is ]
 
-never_bad_text : (shelf : ShelfChange) (out err : SinkChange) (file : List ℕ) (job : Described → Job) → ((d : Described) → EndsInTwo (job d)) → Came status.BadText shelf out err file job → ⊥
-never_bad_text shelf out err file job two (inl stopped) =
+never_bad_text : (shelf : ShelfChange) (out err : SinkChange) (file : List ℕ) (outcomes : Described → Outcomes) → ((d : Described) → EndsInTwo (outcomes d)) → Came status.BadText shelf out err file outcomes → ⊥
+never_bad_text shelf out err file outcomes two (inl stopped) =
     stop_of (since shelf.before shelf) file (λ t. t ≡ status.BadText → ⊥) stopped.0 (λ e. cc e) (λ e. cc e) (λ e. cc e) stopped.1 stopped.2
-never_bad_text shelf out err file job two (inr on) =
+never_bad_text shelf out err file outcomes two (inr on) =
     elim (two on.said status.BadText on.next.1.0 on.next.1.1) [ inl is ↦ cc is | inr is ↦ cc is ]
 
--- A run along the course of a question on two descriptions, which ended in this status.
-abbrev CameBoth : Status → ShelfChange → (out err : SinkChange) → (old new : List ℕ) → (Described → Described → Job) → Type 0
-CameBoth s shelf out err old new job = CameFrom s shelf out err (reads Description old (λ before. reads Description new (λ after. ends (job before after)))) shelf.before
+-- A run of the plan of a question on two descriptions that ended with this status.
+abbrev CameBoth : Status → ShelfChange → (out err : SinkChange) → (old new : List ℕ) → (Described → Described → Outcomes) → Type 0
+CameBoth s shelf out err old new outcomes = CameFrom s shelf out err (reads Description old (λ before. reads Description new (λ after. ends (outcomes before after)))) shelf.before
 
--- The job of `changes` ends with an answer, which may be a violation.
-changes_ends : (before after : Described) (ended : Status) (text : List ℕ) → OneEnd (Told ended text) (changes_job before after)
+-- The outcomes of `changes` are an answer, which may be a violation.
+changes_ends : (before after : Described) (ended : Status) (text : List ℕ) → AnyOutcome (EndsWithGuarantee ended text) (changes_outcomes before after)
     → (ended ≡ status.Done) ⊎ (ended ≡ status.Violated)
 changes_ends before after ended text (inl weaken) = inr weaken.0.0
 changes_ends before after ended text (inr (inl answer)) = inl answer.0.0
 changes_ends before after ended text (inr (inr none)) = absurd none
 
 -- A description is never a bad text.
-never_bad_text_between : (shelf : ShelfChange) (out err : SinkChange) (old new : List ℕ) → CameBoth status.BadText shelf out err old new changes_job → ⊥
+never_bad_text_between : (shelf : ShelfChange) (out err : SinkChange) (old new : List ℕ) → CameBoth status.BadText shelf out err old new changes_outcomes → ⊥
 never_bad_text_between shelf out err old new (inl stopped) =
     stop_of (since shelf.before shelf) old (λ t. t ≡ status.BadText → ⊥) stopped.0 (λ e. cc e) (λ e. cc e) (λ e. cc e) stopped.1 stopped.2
 never_bad_text_between shelf out err old new (inr on) = elim on.next [
@@ -232,11 +232,11 @@ never_bad_text_between shelf out err old new (inr on) = elim on.next [
   | inr went ↦ elim (changes_ends on.said went.said status.BadText went.next.1.0 went.next.1.1) [ inl is ↦ cc is | inr is ↦ cc is ]
 ]
 
-flows_ends : (hosts : List Host) (rules : Rules) → EndsInTwo (flows_job hosts rules)
+flows_ends : (hosts : List Host) (rules : Rules) → EndsInTwo (flows_outcomes hosts rules)
 flows_ends hosts rules ended text (inl answer) = inl answer.0.0
 flows_ends hosts rules ended text (inr none) = absurd none
 
-never_violated_by_rules : (shelf : ShelfChange) (out err : SinkChange) (dialect : Dialect) (file rules : List ℕ) → CameFrom status.Violated shelf out err (course_of (Flows dialect file rules)) shelf.before → ⊥
+never_violated_by_rules : (shelf : ShelfChange) (out err : SinkChange) (dialect : Dialect) (file rules : List ℕ) → CameFrom status.Violated shelf out err (plan_of (Flows dialect file rules)) shelf.before → ⊥
 never_violated_by_rules shelf out err dialect file rules (inl stopped) =
     stop_of (since shelf.before shelf) file (λ t. t ≡ status.Violated → ⊥) stopped.0 (λ e. cc e) (λ e. cc e) (λ e. cc e) stopped.1 stopped.2
 never_violated_by_rules shelf out err dialect file rules (inr on) = elim on.next [
@@ -244,34 +244,34 @@ never_violated_by_rules shelf out err dialect file rules (inr on) = elim on.next
   | inr went ↦ elim (flows_ends on.said.hosts (rules_in dialect went.said) status.Violated went.next.1.0 went.next.1.1) [ inl is ↦ cc is | inr is ↦ cc is ]
 ]
 
-differences_kept : (shelf : ShelfChange) (out err : SinkChange) (ask : Ask) → CameFrom status.Violated shelf out err (course_of ask) shelf.before
-    → KeepsDifferences ask shelf out
-differences_kept shelf out err (Why file from to) came = never_violated shelf out err file (λ d. why_job d from to) (λ d. why_ends d from to) came
-differences_kept shelf out err (Network file) came = never_violated shelf out err file network_job network_ends came
+differences_kept : (shelf : ShelfChange) (out err : SinkChange) (command : Command) → CameFrom status.Violated shelf out err (plan_of command) shelf.before
+    → OutputsDifferences command shelf out
+differences_kept shelf out err (Why file from to) came = never_violated shelf out err file (λ d. why_outcomes d from to) (λ d. why_ends d from to) came
+differences_kept shelf out err (Network file) came = never_violated shelf out err file network_outcomes network_ends came
 differences_kept shelf out err (Flows dialect file rules) came = absurd (never_violated_by_rules shelf out err dialect file rules came)
 differences_kept shelf out err (Compare dialect file rules) came =
-    both_read status.Violated shelf out err (kind.Rules dialect) file rules (λ d said. compare_job d (rules_in dialect said))
-    (λ d said. Wrote out (λ text. OfSides d (rules_in dialect said) (λ sides. TellsDifferences sides text)))
+    both_read status.Violated shelf out err (kind.Rules dialect) file rules (λ d said. compare_outcomes d (rules_in dialect said))
+    (λ d said. Wrote out (λ text. OfSides d (rules_in dialect said) (λ sides. ReportsDifferences sides text)))
     ((λ e. cc e), (λ e. cc e), (λ e. cc e), (λ e. cc e)) (λ d said. compare_differs out err d (rules_in dialect said)) came
 differences_kept shelf out err (Changes old new) came =
-    both_read status.Violated shelf out err Description old new changes_job (λ before after. Wrote out (IsChangesAnswer before after true))
+    both_read status.Violated shelf out err Description old new changes_outcomes (λ before after. Wrote out (IsChangesAnswer before after true))
     ((λ e. cc e), (λ e. cc e), (λ e. cc e), (λ e. cc e)) (λ before after. changes_weaken out err before after) came
 
 -- Only a comparison finds differences, and only a change weakens flows. They are on the output.
 pub differences_law : (words : List (List ℕ)) (shelf : ShelfChange) (out err : SinkChange) → HasCause status.Violated words shelf out err
-    → (ask : Ask) → AskFor words ask → KeepsDifferences ask shelf out
-differences_law words shelf out err cause ask asked =
-    subst (λ (a : Ask). KeepsDifferences a shelf out) (one_ask words cause.ask ask cause.asked asked) (differences_kept shelf out err cause.ask cause.along)
+    → (command : Command) → ParseAs words command → OutputsDifferences command shelf out
+differences_law words shelf out err cause command asked =
+    subst (λ (a : Command). OutputsDifferences a shelf out) (one_ask words cause.command command cause.asked asked) (differences_kept shelf out err cause.command cause.along)
 
-rules_had : (shelf : ShelfChange) (out err : SinkChange) (ask : Ask) → CameFrom status.BadText shelf out err (course_of ask) shelf.before → HasRules ask
-rules_had shelf out err (Why file from to) came = never_bad_text shelf out err file (λ d. why_job d from to) (λ d. why_ends d from to) came
-rules_had shelf out err (Network file) came = never_bad_text shelf out err file network_job network_ends came
+rules_had : (shelf : ShelfChange) (out err : SinkChange) (command : Command) → CameFrom status.BadText shelf out err (plan_of command) shelf.before → HasRules command
+rules_had shelf out err (Why file from to) came = never_bad_text shelf out err file (λ d. why_outcomes d from to) (λ d. why_ends d from to) came
+rules_had shelf out err (Network file) came = never_bad_text shelf out err file network_outcomes network_ends came
 rules_had shelf out err (Flows dialect file rules) came = tt
 rules_had shelf out err (Compare dialect file rules) came = tt
 rules_had shelf out err (Changes old new) came = never_bad_text_between shelf out err old new came
 
 -- Only rules are a bad text.
 pub rules_law : (words : List (List ℕ)) (shelf : ShelfChange) (out err : SinkChange) → HasCause status.BadText words shelf out err
-    → (ask : Ask) → AskFor words ask → HasRules ask
-rules_law words shelf out err cause ask asked =
-    subst (λ (a : Ask). HasRules a) (one_ask words cause.ask ask cause.asked asked) (rules_had shelf out err cause.ask cause.along)
+    → (command : Command) → ParseAs words command → HasRules command
+rules_law words shelf out err cause command asked =
+    subst (λ (a : Command). HasRules a) (one_ask words cause.command command cause.asked asked) (rules_had shelf out err cause.command cause.along)

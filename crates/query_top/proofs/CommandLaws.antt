@@ -1,4 +1,4 @@
--- The jobs of the questions: each end has one text, which has what is promised, and no two ends come at once. The texts of `flows` and
+-- The outcomes of the questions: each has one text, which has what is promised, and no two are reached at once. The texts of `flows` and
 -- `changes` may be several, and each has what is promised.
 use Rattle.std.proofs.Common.{◌≡◌, ℕ, List, true, false, refl, subst}
 use Rattle.net_core.proofs.PolicyLaws.{policy_is_one}
@@ -10,10 +10,10 @@ use Rattle.query_core.specs.Json.{is_nothing}
 use Rattle.query_core.specs.NetworkText.{IsNetworkText}
 use Rattle.query_core.specs.Weakening.{IsWeakening}
 use Rattle.topos_top.proofs.CommandLaws.{IsOwedAlong}
-use Rattle.topos_top.proofs.JobLaws.{settled_writes}
-use Rattle.query_top.specs.Ask.{Ask, Changes, Compare, Flows, Network, Why}
+use Rattle.topos_top.proofs.OutcomesLaws.{settled_writes}
+use Rattle.query_top.specs.Command.{Command, Changes, Compare, Flows, Network, Why}
 use Rattle.query_top.specs.Changes.{IsChangesAnswer}
-use Rattle.query_top.specs.Commands.{course_of}
+use Rattle.query_top.specs.Commands.{plan_of}
 use Rattle.query_top.specs.Network.{IsNetworkAnswer}
 use Rattle.query_top.specs.Promises.{HasOneAnswer}
 use Rattle.query_top.proofs.CompareLaws.{settled_comparison}
@@ -40,11 +40,11 @@ weaken_or_not old new a b p q =
     let none = q.some in
     cc (same, some, none)
 
-pub settled : (ask : Ask) → HasOneAnswer ask → IsOwedAlong (course_of ask)
+pub settled : (command : Command) → HasOneAnswer command → IsOwedAlong (plan_of command)
 settled (Why file from to) any = λ d sound. record {
   owed = (
-    record { status = refl; one = no_flow_is_one d.hosts from to; tells = λ now line is. is },
-    (record { status = refl; one = why_text_is_one d from to; tells = λ now text is. is }, tt),
+    record { status = refl; one = no_flow_is_one d.hosts from to; guarantees = λ now line is. is },
+    (record { status = refl; one = why_text_is_one d from to; guarantees = λ now text is. is }, tt),
   );
   apart = ((λ none named. no_flow_named d.hosts from to none.1 named.0 none.2 named.1, tt), (tt, tt));
 }
@@ -53,12 +53,12 @@ settled (Compare dialect file rules) any = λ d sound said reading. settled_comp
 settled (Flows dialect file rules) none = absurd none
 settled (Changes old new) none = absurd none
 
-pub kept : (ask : Ask) → IsKeptAlong (course_of ask)
-kept (Why file from to) = kept_along (course_of (Why file from to)) (settled (Why file from to) tt)
-kept (Network file) = kept_along (course_of (Network file)) (settled (Network file) tt)
-kept (Compare dialect file rules) = kept_along (course_of (Compare dialect file rules)) (settled (Compare dialect file rules) tt)
-kept (Flows dialect file rules) = λ d sound said reading. record { each = (record { status = refl; tells = λ now text is. is }, tt); apart = (tt, tt) }
+pub kept : (command : Command) → IsKeptAlong (plan_of command)
+kept (Why file from to) = kept_along (plan_of (Why file from to)) (settled (Why file from to) tt)
+kept (Network file) = kept_along (plan_of (Network file)) (settled (Network file) tt)
+kept (Compare dialect file rules) = kept_along (plan_of (Compare dialect file rules)) (settled (Compare dialect file rules) tt)
+kept (Flows dialect file rules) = λ d sound said reading. record { each = (record { status = refl; guarantees = λ now text is. is }, tt); apart = (tt, tt) }
 kept (Changes old new) = λ before sound after also. record {
-  each = (record { status = refl; tells = λ now text is. is }, (record { status = refl; tells = λ now text is. is }, tt));
+  each = (record { status = refl; guarantees = λ now text is. is }, (record { status = refl; guarantees = λ now text is. is }, tt));
   apart = ((λ weaken none. weaken_or_not before after weaken.0 none.0 weaken.1 none.1, tt), (tt, tt));
 }

@@ -1,4 +1,4 @@
--- The job of `compare`: differences or agreement, never both, and one text of each.
+-- The outcomes of `compare`: differences or agreement, never both, and one text of each.
 use Rattle.std.proofs.Common.{◌≡◌, ◌↔◌, inl, inr, ℕ, List, [], ◌∷◌, true, refl, ap, sym, subst, ◌∙◌}
 use Rattle.audit_core.proofs.ExpectedLaws.{no_difference_where_expected}
 use Rattle.audit_core.proofs.SameLaws.{alike_where_none, somewhere}
@@ -7,7 +7,7 @@ use Rattle.audit_core.specs.Findings.{DifferSomewhere}
 use Rattle.audit_core.specs.Pairs.{AreDifferences, Case, IsComplete, IsDifference, all_cases}
 use Rattle.header_space.specs.Owners.{owners_of}
 use Rattle.audit_core.specs.Rules.{Rules, filter_of}
-use Rattle.audit_core.specs.Sides.{ForwardAlike, Sides, sides_of}
+use Rattle.audit_core.specs.Sides.{AreEquivalent, Sides, sides_of}
 use Rattle.audit_core.specs.Verdicts.{GivesOne}
 use Rattle.audit_core.specs.declared.difference.Difference.{Difference}
 use Rattle.net_core.proofs.PolicyLaws.{IsSubset-stateful}
@@ -15,13 +15,13 @@ use Rattle.net_core.specs.Network.{Network}
 use Rattle.net_core.specs.Policies.{IsPolicyOf, Policy}
 use Rattle.query_core.proofs.CompareLaws.{equal_text}
 use Rattle.query_core.specs.CompareJson.{compare_json}
-use Rattle.query_top.specs.Compare.{TellsDifferences, compare_job, equal_json}
+use Rattle.query_top.specs.Compare.{ReportsDifferences, compare_outcomes, equal_json}
 use Rattle.query_top.specs.inner.Replies.{differences_reply}
 use Rattle.topos_top.proofs.AuditLaws.{sides_for}
-use Rattle.topos_top.proofs.JobLaws.{IsSettled}
+use Rattle.topos_top.proofs.OutcomesLaws.{IsSettled}
 use Rattle.topos_top.proofs.RulesLaws.{moved as same_policy}
 use Rattle.topos_top.specs.Audit.{OfSides}
-use Rattle.topos_top.specs.Job.{Answers}
+use Rattle.topos_top.specs.Outcomes.{Answers}
 use Rattle.topos_top.specs.Reply.{Reply}
 use Rattle.topos_top.specs.declared.status.Status.TheVariants.{Done, Violated}
 use Rattle.topos_top.specs.declared.status.Stream.TheVariants.{Output}
@@ -32,25 +32,25 @@ module _ (d : Network) (rules : Rules) where
   moved : (Holds Other : Sides → Type 0) (p : OfSides d rules Holds) (q : OfSides d rules Other) → Holds (sides_for d rules q.policy)
   moved Holds Other p q = same_policy d (λ site f s. Holds (sides_of site f s rules)) (λ site f s. Other (sides_of site f s rules)) p q
 
-  -- Differences are told in one text.
-  text_is_one : (a b : List ℕ) → OfSides d rules (λ sides. TellsDifferences sides a) → OfSides d rules (λ sides. TellsDifferences sides b) → a ≡ b
+  -- Differences are reported in one text.
+  text_is_one : (a b : List ℕ) → OfSides d rules (λ sides. ReportsDifferences sides a) → OfSides d rules (λ sides. ReportsDifferences sides b) → a ≡ b
   text_is_one a b p q =
-      let first = moved (λ sides. TellsDifferences sides a) (λ sides. TellsDifferences sides b) p q in
+      let first = moved (λ sides. ReportsDifferences sides a) (λ sides. ReportsDifferences sides b) p q in
       let second = q.so in
       let sides = sides_for d rules q.policy in
       first.written
       ∙ ap (λ ds. compare_json sides.site.hosts ds) (one_list_of_differences sides first.differences second.differences first.are second.are)
       ∙ sym second.written
 
-  differ_or_agree : OfSides d rules DifferSomewhere → OfSides d rules ForwardAlike → ⊥
+  differ_or_agree : OfSides d rules DifferSomewhere → OfSides d rules AreEquivalent → ⊥
   differ_or_agree differ agree =
-      no_difference_where_expected (sides_for d rules agree.policy) agree.so (moved DifferSomewhere ForwardAlike differ agree)
+      no_difference_where_expected (sides_for d rules agree.policy) agree.so (moved DifferSomewhere AreEquivalent differ agree)
 
-  pub settled_comparison : IsSettled (compare_job d rules)
+  pub settled_comparison : IsSettled (compare_outcomes d rules)
   settled_comparison = record {
     owed = (
-      record { status = refl; one = text_is_one; tells = λ now text is. is },
-      (record { status = refl; one = λ a b p q. p ∙ sym q; tells = λ now text is. (now, is) }, tt),
+      record { status = refl; one = text_is_one; guarantees = λ now text is. is },
+      (record { status = refl; one = λ a b p q. p ∙ sym q; guarantees = λ now text is. (now, is) }, tt),
     );
     apart = ((differ_or_agree, tt), (tt, tt));
   }
@@ -59,9 +59,9 @@ module _ (d : Network) (rules : Rules) where
 
 module _ (d : Network) (rules : Rules) (policy : Policy) (is_policy : IsPolicyOf d policy) (gives : GivesOne (filter_of rules)) where
   ends_equal : (reply : Reply) → (DifferSomewhere (sides_for d rules policy) → ⊥) → reply ≡ reply_on Done Output equal_json
-      → Answers true (compare_job d rules) reply
+      → Answers true (compare_outcomes d rules) reply
   ends_equal reply none is =
-      subst (λ (r : Reply). Answers true (compare_job d rules) r) (sym is) (
+      subst (λ (r : Reply). Answers true (compare_outcomes d rules) r) (sym is) (
         refl,
         inr (inl (
           refl,
@@ -76,9 +76,9 @@ module _ (d : Network) (rules : Rules) (policy : Policy) (is_policy : IsPolicyOf
 
   ends_different : (reply : Reply) (ds : List Difference) → AreDifferences (sides_for d rules policy) ds → IsComplete (sides_for d rules policy) ds
       → (ds ≡ [] → ⊥) → DifferSomewhere (sides_for d rules policy) → reply ≡ reply_on Violated Output (compare_json d.hosts ds)
-      → Answers true (compare_job d rules) reply
+      → Answers true (compare_outcomes d rules) reply
   ends_different reply ds are complete some differ is =
-      subst (λ (r : Reply). Answers true (compare_job d rules) r) (sym is) (
+      subst (λ (r : Reply). Answers true (compare_outcomes d rules) r) (sym is) (
         refl,
         inl (
           refl,
@@ -103,6 +103,6 @@ module _ (d : Network) (rules : Rules) (policy : Policy) (is_policy : IsPolicyOf
 
   pub ends_compared : (reply : Reply) (ds : List Difference) → AreDifferences (sides_for d rules policy) ds → IsComplete (sides_for d rules policy) ds
       → ((ds ≡ []) ↔ (DifferSomewhere (sides_for d rules policy) → ⊥)) → reply ≡ differences_reply d.hosts ds
-      → Answers true (compare_job d rules) reply
+      → Answers true (compare_outcomes d rules) reply
   ends_compared reply [] are complete exact is = ends_equal reply (exact.0 refl) (is ∙ ap (reply_on Done Output) (equal_text d.hosts))
   ends_compared reply (x ∷ ds) are complete exact is = ends_different reply (x ∷ ds) are complete (some x ds) (differ_first x ds are) is

@@ -1,5 +1,5 @@
 pub mod AnsweredLaws
-pub mod AskLaws
+pub mod ParseLaws
 pub mod CommandLaws
 pub mod CompareLaws
 pub mod CompleteLaws

@@ -1,42 +1,42 @@
 -- Laws of a run, from its one reply: the causes of each status, and the streams that nothing is written to.
 use Rattle.std.proofs.Common.{◌≡◌, ◌⊎◌, inl, inr, ℕ, List, None, Some, true, true≢false, refl, ap, sym, subst, ◌∙◌}
 use Rattle.std.specs.Prelude.{◌↔◌}
-use Rattle.topos_top.specs.Job.{Job, Answers, OneEnd, Told, stream_of}
-use Rattle.topos_top.specs.Promises.{AtFile}
-use Rattle.topos_top.specs.Replies.{StopsAt, NoMemory, Stopped, MayReply}
+use Rattle.topos_top.specs.Outcomes.{Outcomes, Answers, AnyOutcome, EndsWithGuarantee, stream_of}
+use Rattle.topos_top.specs.Promises.{HoldsAtFile}
+use Rattle.topos_top.specs.Replies.{StopsRunAt, NoMemory, Stopped, IsPossibleReply}
 use Rattle.topos_top.specs.Reply.{Reply, error, no_memory}
 use Rattle.topos_top.specs.Shelf.{Shelf, ShelfChange, since}
-use Rattle.topos_top.specs.Taken.{SinkChange, IsSaid, WentTo}
+use Rattle.topos_top.specs.SinkChanges.{SinkChange, IsWrittenUpToFault, IsWrittenTo}
 use Rattle.topos_top.specs.declared.kind.Kind.{Kind}
 use Rattle.topos_top.specs.declared.status.Status.{Status}
 use Rattle.topos_top.specs.declared.status.Status.TheVariants as status
 use Rattle.topos_top.specs.declared.status.Stream.{Stream}
 use Rattle.topos_top.specs.declared.status.Stream.TheVariants.{Output, Errors}
-use Rattle.topos_top.proofs.JobLaws.{from_one, is_end}
+use Rattle.topos_top.proofs.OutcomesLaws.{from_one, is_end}
 use Rattle.topos_top.proofs.RunLaws.{ends_in_error, stop_status}
-use Rattle.query_top.specs.Ask.{Ask, AskNothing}
-use Rattle.query_top.specs.Commands.{course_of}
-use Rattle.query_top.specs.Promises.{AtJob, GaveReply, HasCause}
+use Rattle.query_top.specs.Command.{Command, ParseAsNothing}
+use Rattle.query_top.specs.Commands.{plan_of}
+use Rattle.query_top.specs.Promises.{HoldsAtOutcome, DeliversReply, HasCause}
 use Rattle.query_top.proofs.CommandLaws.{kept}
-use Rattle.query_top.proofs.KeptLaws.{AreKept, IsKept, came_so, end_status, told_of, wherever}
+use Rattle.query_top.proofs.KeptLaws.{AreKept, IsKept, holds_at_stop, end_status, told_of, wherever}
 
 -- An end came in this status, and its text went to its stream.
-abbrev GaveEnd : (out err : SinkChange) → Status → Job → Type 0
-GaveEnd out err t job = (text : List ℕ) × OneEnd (Told t text) job × WentTo (stream_of true t) out err text
+abbrev GaveOutcome : (out err : SinkChange) → Status → Outcomes → Type 0
+GaveOutcome out err t outcomes = (text : List ℕ) × AnyOutcome (EndsWithGuarantee t text) outcomes × IsWrittenTo (stream_of true t) out err text
 
-of_end : (out err : SinkChange) (t : Status) (job : Job) → is_end t ≡ true → GaveEnd out err t job → AtJob t out err job
-of_end out err status.Done job is here = here
-of_end out err status.Violated job is here = here
-of_end out err status.NotEmittable job is here = here
-of_end out err status.BadText job is here = here
-of_end out err t job is here = cc is
+of_end : (out err : SinkChange) (t : Status) (outcomes : Outcomes) → is_end t ≡ true → GaveOutcome out err t outcomes → HoldsAtOutcome t out err outcomes
+of_end out err status.Done outcomes is here = here
+of_end out err status.Violated outcomes is here = here
+of_end out err status.NotEmittable outcomes is here = here
+of_end out err status.BadText outcomes is here = here
+of_end out err t outcomes is here = cc is
 
-no_usage : (out err : SinkChange) (job : Job) → AreKept job → GaveEnd out err status.Usage job → ⊥
-no_usage out err job owed gave =
-    from_one IsKept (Told status.Usage gave.0) job (λ end is told. true≢false (sym is.status ∙ ap is_end (sym told.0.0))) owed.each gave.1
+no_usage : (out err : SinkChange) (outcomes : Outcomes) → AreKept outcomes → GaveOutcome out err status.Usage outcomes → ⊥
+no_usage out err outcomes owed gave =
+    from_one IsKept (EndsWithGuarantee status.Usage gave.0) outcomes (λ end is told. true≢false (sym is.status ∙ ap is_end (sym told.0.0))) owed.each gave.1
 
 -- A file that stops a run has its reply on the error stream.
-stop_stream : (seen : ShelfChange) (kind : Kind) (file : List ℕ) (given : Reply) → StopsAt seen kind file given → given.stream ≡ Errors
+stop_stream : (seen : ShelfChange) (kind : Kind) (file : List ℕ) (given : Reply) → StopsRunAt seen kind file given → given.stream ≡ Errors
 stop_stream seen kind file given (NoMemory begins is) = ap (λ (r : Reply). r.stream) is
 stop_stream seen kind file given (Stopped None last is) = ap (λ (r : Reply). r.stream) is
 stop_stream seen kind file given (Stopped (Some bytes) last is) = ap (λ (r : Reply). r.stream) is.replied
@@ -56,39 +56,39 @@ pub no_fault : (s : Status) → (s ≡ status.Done) ⊎ (s ≡ status.Violated) 
 no_fault s (inl done) cut = cc (done, cut)
 no_fault s (inr violated) cut = cc (violated, cut)
 
-module _ (words : List (List ℕ)) (shelf : ShelfChange) (out err : SinkChange) (s : Status) (gave : GaveReply words shelf out err s) where
-  in_error : (ended : Status) (line : List ℕ) → gave.reply ≡ error ended line → (s ≡ ended) × (out.held_after ≡ out.held_before) × IsSaid err line
+module _ (words : List (List ℕ)) (shelf : ShelfChange) (out err : SinkChange) (s : Status) (gave : DeliversReply words shelf out err s) where
+  in_error : (ended : Status) (line : List ℕ) → gave.reply ≡ error ended line → (s ≡ ended) × (out.held_after ≡ out.held_before) × IsWrittenUpToFault err line
   in_error ended line is = ends_in_error out err s gave.reply ended line is gave.given
 
-  said_error : gave.reply.stream ≡ Errors → (gave.reply.status ≡ s) × IsSaid err gave.reply.text
+  said_error : gave.reply.stream ≡ Errors → (gave.reply.status ≡ s) × IsWrittenUpToFault err gave.reply.text
   said_error errors = elim gave.given [
-    | inl whole ↦ (sym whole.0, (subst (λ (stream : Stream). WentTo stream out err gave.reply.text) errors whole.1).1)
+    | inl whole ↦ (sym whole.0, (subst (λ (stream : Stream). IsWrittenTo stream out err gave.reply.text) errors whole.1).1)
     | inr cut ↦ let other = cut.1 in cc (errors, other)
   ]
 
-  at_file : (kind : Kind) (file : List ℕ) (at : Shelf) → StopsAt (since at shelf) kind file gave.reply → AtFile s err (since at shelf) kind file
+  at_file : (kind : Kind) (file : List ℕ) (at : Shelf) → StopsRunAt (since at shelf) kind file gave.reply → HoldsAtFile s err (since at shelf) kind file
   at_file kind file at stops = let said = said_error (stop_stream (since at shelf) kind file gave.reply stops) in (gave.reply, stops, said.0, said.1)
 
-  at_job : (job : Job) → AreKept job → (gave.reply ≡ no_memory) ⊎ Answers true job gave.reply → AtJob s out err job
-  at_job job owed (inl lack) = let end = in_error _ _ lack in subst (λ (t : Status). AtJob t out err job) (sym end.0) end.2
-  at_job job owed (inr answers) =
+  at_outcomes : (outcomes : Outcomes) → AreKept outcomes → (gave.reply ≡ no_memory) ⊎ Answers true outcomes gave.reply → HoldsAtOutcome s out err outcomes
+  at_outcomes outcomes owed (inl lack) = let end = in_error _ _ lack in subst (λ (t : Status). HoldsAtOutcome t out err outcomes) (sym end.0) end.2
+  at_outcomes outcomes owed (inr answers) =
       let reply = gave.reply in
-      let told = told_of job owed reply.status reply.text answers.1 in
-      let is = end_status job owed reply.status reply.text answers.1 in
+      let told = told_of outcomes owed reply.status reply.text answers.1 in
+      let is = end_status outcomes owed reply.status reply.text answers.1 in
       elim gave.given [
         | inl whole ↦
-            let went = subst (λ (stream : Stream). WentTo stream out err reply.text) answers.0 whole.1 in
-            subst (λ (t : Status). AtJob t out err job) (sym whole.0) (of_end out err reply.status job is (reply.text, told, went))
-        | inr cut ↦ subst (λ (t : Status). AtJob t out err job) (sym cut.0) (reply.status, reply.text, told, sym answers.0 ∙ cut.1, cut.2)
+            let went = subst (λ (stream : Stream). IsWrittenTo stream out err reply.text) answers.0 whole.1 in
+            subst (λ (t : Status). HoldsAtOutcome t out err outcomes) (sym whole.0) (of_end out err reply.status outcomes is (reply.text, told, went))
+        | inr cut ↦ subst (λ (t : Status). HoldsAtOutcome t out err outcomes) (sym cut.0) (reply.status, reply.text, told, sym answers.0 ∙ cut.1, cut.2)
       ]
 
-  came : ((s ≡ status.Usage) × AskNothing words) ⊎ HasCause s words shelf out err
+  came : ((s ≡ status.Usage) × ParseAsNothing words) ⊎ HasCause s words shelf out err
   came = elim gave.allowed [
     | inl nothing ↦ inl ((in_error _ _ nothing.1).0, nothing.0)
     | inr asks ↦ inr (record {
-      ask = asks.0;
+      command = asks.0;
       asked = asks.1;
-      along = came_so shelf.only_failures (course_of asks.0) shelf.before _ _ _ _ (kept asks.0) at_file (λ job at owed here. (here.0, at_job job owed here.1)) asks.2;
+      along = holds_at_stop shelf.only_failures (plan_of asks.0) shelf.before _ _ _ _ (kept asks.0) at_file (λ outcomes at owed here. (here.0, at_outcomes outcomes owed here.1)) asks.2;
     })
   ]
 
@@ -99,32 +99,32 @@ module _ (words : List (List ℕ)) (shelf : ShelfChange) (out err : SinkChange) 
     | inr there ↦ subst (λ (t : Status). HasCause t words shelf out err) is there
   ]
 
-  pub usage_law : (s ≡ status.Usage) ↔ AskNothing words
+  pub usage_law : (s ≡ status.Usage) ↔ ParseAsNothing words
   usage_law = elim came [
     | inl usage ↦ (λ is. usage.1, λ none. usage.0)
-    | inr there ↦ (λ is. absurd (nowhere (subst (λ (t : Status). HasCause t words shelf out err) is there)), λ none. absurd (none there.ask there.asked))
+    | inr there ↦ (λ is. absurd (nowhere (subst (λ (t : Status). HasCause t words shelf out err) is there)), λ none. absurd (none there.command there.asked))
   ]
     where
       nowhere : HasCause status.Usage words shelf out err → ⊥
-      nowhere there = wherever shelf.only_failures (course_of there.ask) shelf.before _ _ (kept there.ask)
+      nowhere there = wherever shelf.only_failures (plan_of there.command) shelf.before _ _ (kept there.command)
           (λ kind file at here. stop_status (since at shelf) kind file (λ t. t ≡ status.Usage → ⊥) here.0 (λ e. cc e) (λ e. cc e) (λ e. cc e) (λ e. cc e) here.1 here.2)
-          (λ job at owed here. no_usage out err job owed here.1) there.along
+          (λ outcomes at owed here. no_usage out err outcomes owed here.1) there.along
 
   -- ---- the stream of the reply
 
   error_goes : (ended : Status) (line : List ℕ) → gave.reply ≡ error ended line → Errors ≡ stream_of true ended → gave.reply.stream ≡ stream_of true gave.reply.status
   error_goes ended line is errors = subst (λ (r : Reply). r.stream ≡ stream_of true r.status) (sym is) errors
 
-  file_goes : (kind : Kind) (file : List ℕ) (at : Shelf) → StopsAt (since at shelf) kind file gave.reply → gave.reply.stream ≡ stream_of true gave.reply.status
+  file_goes : (kind : Kind) (file : List ℕ) (at : Shelf) → StopsRunAt (since at shelf) kind file gave.reply → gave.reply.stream ≡ stream_of true gave.reply.status
   file_goes kind file at stops =
       stop_stream (since at shelf) kind file gave.reply stops ∙ stop_status (since at shelf) kind file (λ t. Errors ≡ stream_of true t) gave.reply refl refl refl refl stops
 
-  job_goes : (job : Job) → (gave.reply ≡ no_memory) ⊎ Answers true job gave.reply → gave.reply.stream ≡ stream_of true gave.reply.status
-  job_goes job (inl lack) = error_goes _ _ lack refl
-  job_goes job (inr answers) = answers.0
+  outcomes_go : (outcomes : Outcomes) → (gave.reply ≡ no_memory) ⊎ Answers true outcomes gave.reply → gave.reply.stream ≡ stream_of true gave.reply.status
+  outcomes_go outcomes (inl lack) = error_goes _ _ lack refl
+  outcomes_go outcomes (inr answers) = answers.0
 
-  goes : (ask : Ask) → MayReply true (course_of ask) shelf gave.reply → gave.reply.stream ≡ stream_of true gave.reply.status
-  goes ask may = wherever shelf.only_failures (course_of ask) shelf.before _ _ (kept ask) file_goes (λ job at owed here. job_goes job here.1) may
+  goes : (command : Command) → IsPossibleReply true (plan_of command) shelf gave.reply → gave.reply.stream ≡ stream_of true gave.reply.status
+  goes command may = wherever shelf.only_failures (plan_of command) shelf.before _ _ (kept command) file_goes (λ outcomes at owed here. outcomes_go outcomes here.1) may
 
   -- The reply is for the stream of the status in which the run ended, unless the output failed.
   stream_is : (s ≡ status.WriteFault → ⊥) → gave.reply.stream ≡ stream_of true s

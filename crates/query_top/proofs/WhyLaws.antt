@@ -1,4 +1,4 @@
--- The job of `why`: the line that there is no flow, or the answer for the flow, never both, and one text.
+-- The outcomes of `why`: the line that there is no flow, or the answer for the flow, never both, and one text.
 use Rattle.std.proofs.Common.{◌≡◌, inl, inr, ℕ, List, Some, true, length, refl, ap, sym, subst, ◌∙◌}
 use Rattle.flow_set.specs.Flow.{IsFlow}
 use Rattle.flow_set.specs.declared.flow.Flow.{Flow}
@@ -9,8 +9,8 @@ use Rattle.net_core.specs.Network.{Network}
 use Rattle.net_core.specs.Policies.{Policy}
 use Rattle.query_core.proofs.OneAnswerLaws.{why_is_one}
 use Rattle.query_core.specs.Explanations.{IsExplanation}
-use Rattle.query_top.specs.Why.{IsFlowNamed, IsNoFlow, IsWhy, IsWhyOf, NoReceiver, NoSender, SameHost, no_flow_line, why_job}
-use Rattle.topos_top.specs.Job.{Answers}
+use Rattle.query_top.specs.Why.{IsFlowNamed, IsNoFlow, IsWhy, IsWhyOf, NoReceiver, NoSender, SameHost, no_flow_line, why_outcomes}
+use Rattle.topos_top.specs.Outcomes.{Answers}
 use Rattle.topos_top.specs.Reply.{Reply, error}
 use Rattle.topos_top.specs.inner.Views.{reply_on}
 use Rattle.topos_top.specs.declared.status.Status.TheVariants.{Done, NotEmittable}
@@ -36,16 +36,16 @@ pub same_host : (hosts : List Host) (from to line : List ℕ) (h k : ℕ) → ho
     → IsNoFlow hosts from to line
 same_host hosts from to line h k sender receiver same is = SameHost h sender (receiver ∙ ap Some (sym same)) is
 
--- The line that there is no flow answers the job.
+-- The line that there is no flow is the text of an outcome.
 pub answers_no_flow : (d : Network) (from to line : List ℕ) (given : Reply) → IsNoFlow d.hosts from to line → given ≡ error NotEmittable line
-    → Answers true (why_job d from to) given
-answers_no_flow d from to line given none is = subst (λ (r : Reply). Answers true (why_job d from to) r) (sym is) (refl, inl (refl, (tt, line, none), none))
+    → Answers true (why_outcomes d from to) given
+answers_no_flow d from to line given none is = subst (λ (r : Reply). Answers true (why_outcomes d from to) r) (sym is) (refl, inl (refl, (tt, line, none), none))
 
--- The answer for the flow answers the job.
+-- The answer for the flow is the text of an outcome.
 pub answers_flow : (d : Network) (from to text : List ℕ) (f : Flow) (given : Reply) → IsFlowNamed d.hosts from to f → IsWhyOf d f text
-    → given ≡ reply_on Done Output text → Answers true (why_job d from to) given
+    → given ≡ reply_on Done Output text → Answers true (why_outcomes d from to) given
 answers_flow d from to text f given named answer is =
-    subst (λ (r : Reply). Answers true (why_job d from to) r) (sym is)
+    subst (λ (r : Reply). Answers true (why_outcomes d from to) r) (sym is)
     (refl, inr (inl (refl, (f, named), record { flow = f; named = named; answer = answer })))
 
 -- ---- one text

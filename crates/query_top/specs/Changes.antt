@@ -8,7 +8,7 @@ use Rattle.query_core.specs.Json.{is_nothing}
 use Rattle.query_core.specs.ChangesJson.{changes_json}
 use Rattle.query_core.specs.Weakening.{IsWeakening}
 use Rattle.query_core.specs.declared.weakening.Weakening.{Weakening}
-use Rattle.topos_top.specs.Job.{End, Job}
+use Rattle.topos_top.specs.Outcomes.{Outcome, Outcomes}
 use Rattle.topos_top.specs.declared.status.Status.{Status}
 use Rattle.topos_top.specs.declared.status.Status.TheVariants.{Done, Violated}
 
@@ -38,14 +38,14 @@ pub record IsChangesAnswer (old new : Network) (is_weaker : Bool) (text : List �
   pub written : text ≡ changes_json new.hosts old.hosts changes weakening
 
 -- The outcome of an answer with weaker flows, or of one without.
-abbrev pub changes_end : Status → (old new : Network) → (is_weaker : Bool) → End
+abbrev pub changes_end : Status → (old new : Network) → (is_weaker : Bool) → Outcome
 changes_end ended old new is_weaker = record {
   status = ended;
   when = (text : List ℕ) × IsChangesAnswer old new is_weaker text;
   is = IsChangesAnswer old new is_weaker;
-  tells = IsChangesAnswer old new is_weaker;
+  guarantees = IsChangesAnswer old new is_weaker;
 }
 
 -- If the change weakens some flow, this is a violation.
-abbrev pub changes_job : (old new : Network) → Job
-changes_job old new = changes_end Violated old new true ∷ (changes_end Done old new false ∷ [])
+abbrev pub changes_outcomes : (old new : Network) → Outcomes
+changes_outcomes old new = changes_end Violated old new true ∷ (changes_end Done old new false ∷ [])

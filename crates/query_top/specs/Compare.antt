@@ -3,12 +3,12 @@ use Rattle.std.specs.Prelude.{◌≡◌, ℕ, List, [], ◌∷◌, codes}
 use Rattle.audit_core.specs.Findings.{DifferSomewhere}
 use Rattle.audit_core.specs.Pairs.{AreDifferences, IsComplete}
 use Rattle.audit_core.specs.Rules.{Rules}
-use Rattle.audit_core.specs.Sides.{ForwardAlike, Sides}
+use Rattle.audit_core.specs.Sides.{AreEquivalent, Sides}
 use Rattle.audit_core.specs.declared.difference.Difference.{Difference}
 use Rattle.net_core.specs.Network.{Network}
 use Rattle.query_core.specs.CompareJson.{compare_json}
 use Rattle.topos_top.specs.Audit.{OfSides}
-use Rattle.topos_top.specs.Job.{End, Job}
+use Rattle.topos_top.specs.Outcomes.{Outcome, Outcomes}
 use Rattle.topos_top.specs.declared.status.Status.TheVariants.{Done, Violated}
 
 -- The text of no differences.
@@ -17,30 +17,30 @@ equal_json = codes "{\"version\":1,\"equal\":true,\"differences\":[]}\n"
 
 -- The text is the JSON of all differences: one for each pair of owners, kind of list and direction in which some packet of the pair
 -- differs, and no other.
-pub record TellsDifferences (sides : Sides) (text : List ℕ) : Type 0 where
+pub record ReportsDifferences (sides : Sides) (text : List ℕ) : Type 0 where
   pub differences : List Difference
   pub are : AreDifferences sides differences
   pub complete : IsComplete sides differences
   pub some : differences ≡ [] → ⊥
   pub written : text ≡ compare_json sides.site.hosts differences
 
--- The rules and the policy differ on some list of packets and forgettings: all differences are told.
-abbrev pub difference : Network → Rules → End
+-- The rules and the policy differ on some list of packets and forget events: all differences are reported.
+abbrev pub difference : Network → Rules → Outcome
 difference d rules = record {
   status = Violated;
   when = OfSides d rules DifferSomewhere;
-  is = λ text. OfSides d rules (λ sides. TellsDifferences sides text);
-  tells = λ text. OfSides d rules (λ sides. TellsDifferences sides text);
+  is = λ text. OfSides d rules (λ sides. ReportsDifferences sides text);
+  guarantees = λ text. OfSides d rules (λ sides. ReportsDifferences sides text);
 }
 
 -- The rules forward what the policy and its answers expect: there is no difference.
-abbrev pub agreement : Network → Rules → End
+abbrev pub agreement : Network → Rules → Outcome
 agreement d rules = record {
   status = Done;
-  when = OfSides d rules ForwardAlike;
+  when = OfSides d rules AreEquivalent;
   is = λ text. text ≡ equal_json;
-  tells = λ text. OfSides d rules ForwardAlike × (text ≡ equal_json);
+  guarantees = λ text. OfSides d rules AreEquivalent × (text ≡ equal_json);
 }
 
-abbrev pub compare_job : Network → Rules → Job
-compare_job d rules = difference d rules ∷ (agreement d rules ∷ [])
+abbrev pub compare_outcomes : Network → Rules → Outcomes
+compare_outcomes d rules = difference d rules ∷ (agreement d rules ∷ [])

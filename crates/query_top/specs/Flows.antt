@@ -7,7 +7,7 @@ use Rattle.decide_core.specs.declared.flows.PairFlows.{PairFlows}
 use Rattle.host_net.specs.Host.{Host}
 use Rattle.ipt_rules.specs.declared.marks.Place.{Place}
 use Rattle.query_core.specs.FlowsJson.{flows_json}
-use Rattle.topos_top.specs.Job.{Job, writes}
+use Rattle.topos_top.specs.Outcomes.{Outcomes, writes}
 
 -- The text is the JSON of all flows that the rules let pass between the owners of addresses, and of all dead rules.
 pub record IsFlowsAnswer (hosts : List Host) (rules : Rules) (text : List ℕ) : Type 0 where
@@ -17,5 +17,5 @@ pub record IsFlowsAnswer (hosts : List Host) (rules : Rules) (text : List ℕ) :
   pub are_dead : AreDeadPlaces rules dead
   pub written : text ≡ flows_json rules hosts flows dead
 
-abbrev pub flows_job : List Host → Rules → Job
-flows_job hosts rules = writes (IsFlowsAnswer hosts rules) (IsFlowsAnswer hosts rules)
+abbrev pub flows_outcomes : List Host → Rules → Outcomes
+flows_outcomes hosts rules = writes (IsFlowsAnswer hosts rules) (IsFlowsAnswer hosts rules)

@@ -1,4 +1,4 @@
-pub mod Ask
+pub mod Command
 pub mod Changes
 pub mod Commands
 pub mod Compare

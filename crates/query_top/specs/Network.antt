@@ -3,7 +3,7 @@ use Rattle.std.specs.Prelude.{ℕ, List}
 use Rattle.net_core.specs.Network.{Network}
 use Rattle.net_core.specs.Policies.{IsPolicyOf, Policy}
 use Rattle.query_core.specs.NetworkText.{IsNetworkText}
-use Rattle.topos_top.specs.Job.{Job, writes}
+use Rattle.topos_top.specs.Outcomes.{Outcomes, writes}
 
 -- The text is the answer by the policy of the network.
 pub record IsNetworkAnswer (d : Network) (text : List ℕ) : Type 0 where
@@ -11,5 +11,5 @@ pub record IsNetworkAnswer (d : Network) (text : List ℕ) : Type 0 where
   pub is_policy : IsPolicyOf d policy
   pub written : IsNetworkText d policy text
 
-abbrev pub network_job : Network → Job
-network_job d = writes (IsNetworkAnswer d) (IsNetworkAnswer d)
+abbrev pub network_outcomes : Network → Outcomes
+network_outcomes d = writes (IsNetworkAnswer d) (IsNetworkAnswer d)

@@ -7,7 +7,7 @@ use Rattle.net_core.specs.Policies.{IsPolicyOf, Policy}
 use Rattle.query_core.specs.Explanations.{HasReasons, IsExplanation}
 use Rattle.query_core.specs.Json.{why_json}
 use Rattle.query_core.specs.declared.explanation.Explanation.{Explanation}
-use Rattle.topos_top.specs.Job.{Job, says_why}
+use Rattle.topos_top.specs.Outcomes.{Outcomes, says_why}
 use Rattle.topos_top.specs.Reply.{not_emittable}
 use Rattle.topos_top.specs.declared.status.Status.TheVariants.{NotEmittable, Done}
 
@@ -47,8 +47,8 @@ pub record IsWhy (d : Network) (from to text : List ℕ) : Type 0 where
   pub answer : IsWhyOf d flow text
 
 -- The line that there is no flow, or the answer for the flow.
-abbrev pub why_job : Network → (from to : List ℕ) → Job
-why_job d from to =
+abbrev pub why_outcomes : Network → (from to : List ℕ) → Outcomes
+why_outcomes d from to =
     says_why NotEmittable (Unit {0}) (IsNoFlow d.hosts from to)
-    ∷ (record { status = Done; when = (f : Flow) × IsFlowNamed d.hosts from to f; is = IsWhy d from to; tells = IsWhy d from to }
+    ∷ (record { status = Done; when = (f : Flow) × IsFlowNamed d.hosts from to f; is = IsWhy d from to; guarantees = IsWhy d from to }
     ∷ [])

@@ -1,3 +1,3 @@
-pub mod Ask
+pub mod Command
 pub mod Replies
 pub mod Views

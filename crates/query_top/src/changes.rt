@@ -4,17 +4,17 @@ ghost use Rattle.std.specs.Prelude.{◌≡◌, ◌≤◌, Bool, IfOk, length, no
 ghost use Rattle.net_core.specs.Policies.{IsPolicyOf};
 ghost use Rattle.query_core.specs.Json.{is_nothing};
 ghost use Rattle.query_core.specs.Weakening.{IsWeakening};
-ghost use Rattle.topos_top.specs.Course.{reads, ends};
-ghost use Rattle.topos_top.specs.Job.{Answers};
-ghost use Rattle.topos_top.specs.Replies.{MayReply};
+ghost use Rattle.topos_top.specs.CommandPlan.{reads, ends};
+ghost use Rattle.topos_top.specs.Outcomes.{Answers};
+ghost use Rattle.topos_top.specs.Replies.{IsPossibleReply};
 ghost use Rattle.topos_top.specs.Shelf.{shelf_change};
 ghost use Rattle.topos_top.specs.inner.Views.{reply_in, reply_on, reply_view};
 ghost use Rattle.topos_top.specs.declared.status.Status.TheVariants.{Done, Violated};
 ghost use Rattle.topos_top.specs.declared.status.Stream.TheVariants.{Output};
 ghost use Rattle.topos_top.specs.declared.kind.Kind.TheVariants as kind;
-ghost use Rattle.query_top.specs.Ask.{Changes};
-ghost use Rattle.query_top.specs.Changes.{IsChangesAnswer, changes_job};
-ghost use Rattle.query_top.specs.Commands.{course_of};
+ghost use Rattle.query_top.specs.Command.{Changes};
+ghost use Rattle.query_top.specs.Changes.{IsChangesAnswer, changes_outcomes};
+ghost use Rattle.query_top.specs.Commands.{plan_of};
 
 use change_core::changes_between;
 use desc_core::Description;
@@ -31,9 +31,9 @@ pub fn reply<'a, H: Shelf>(
     new: &'a str,
     shelf: &mut H,
 ) -> Result<Answer<'a>, Answer<'a>>
-    ensures same_files { H.files shelf.new ≡ H.files shelf.old }
-    ensures faults_stay { H.faults shelf.old ≤ H.faults shelf.new }
-    ensures reply { MayReply true (course_of (Changes old.now new.now))
+    ensures files_unchanged { H.files shelf.new ≡ H.files shelf.old }
+    ensures faults_monotone { H.faults shelf.old ≤ H.faults shelf.new }
+    ensures reply { IsPossibleReply true (plan_of (Changes old.now new.now))
         (shelf_change H.Shelf shelf.old shelf.new) (reply_in result) }
 {
     let description = read_description(alloc, old, shelf)?;
@@ -47,17 +47,17 @@ fn reply_from<'a, H: Shelf>(
     new: &'a str,
     shelf: &mut H,
 ) -> Result<Answer<'a>, Answer<'a>>
-    ensures same_files { H.files shelf.new ≡ H.files shelf.old }
-    ensures faults_stay { H.faults shelf.old ≤ H.faults shelf.new }
-    ensures reply { MayReply true (reads kind.Description new.now (λ d. ends (changes_job old.now d)))
+    ensures files_unchanged { H.files shelf.new ≡ H.files shelf.old }
+    ensures faults_monotone { H.faults shelf.old ≤ H.faults shelf.new }
+    ensures reply { IsPossibleReply true (reads kind.Description new.now (λ d. ends (changes_outcomes old.now d)))
         (shelf_change H.Shelf shelf.old shelf.new) (reply_in result) }
 {
     let description = read_description(alloc, new, shelf)?;
-    Answer::of_job(answer(alloc, old, &description))
+    Answer::of_outcomes(answer(alloc, old, &description))
 }
 
 fn answer<'a>(alloc: Global, old: &Description, new: &Description) -> Result<Answer<'a>, AllocError>
-    ensures { IfOk result (λ answer. Answers true (changes_job old.now new.now) (reply_view answer)) }
+    ensures { IfOk result (λ answer. Answers true (changes_outcomes old.now new.now) (reply_view answer)) }
 {
     let before = policy_of(alloc, old)?;
     let after = policy_of(alloc, new)?;

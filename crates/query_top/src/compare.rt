@@ -6,15 +6,15 @@ ghost use Rattle.audit_core.specs.RulesView.{rules_of};
 ghost use Rattle.audit_core.specs.Verdicts.{GivesOne};
 ghost use Rattle.query_core.specs.inner.Fitting.{FitsDifference};
 ghost use Rattle.topos_top.specs.Audit.{rules_in};
-ghost use Rattle.topos_top.specs.Course.{reads, ends};
-ghost use Rattle.topos_top.specs.Job.{Answers};
-ghost use Rattle.topos_top.specs.Replies.{MayReply};
+ghost use Rattle.topos_top.specs.CommandPlan.{reads, ends};
+ghost use Rattle.topos_top.specs.Outcomes.{Answers};
+ghost use Rattle.topos_top.specs.Replies.{IsPossibleReply};
 ghost use Rattle.topos_top.specs.Shelf.{shelf_change};
 ghost use Rattle.topos_top.specs.inner.Views.{reply_in, reply_view, rules_view};
 ghost use Rattle.topos_top.specs.declared.kind.Kind.TheVariants as kind;
-ghost use Rattle.query_top.specs.Ask.{Compare};
-ghost use Rattle.query_top.specs.Commands.{course_of};
-ghost use Rattle.query_top.specs.Compare.{compare_job};
+ghost use Rattle.query_top.specs.Command.{Compare};
+ghost use Rattle.query_top.specs.Commands.{plan_of};
+ghost use Rattle.query_top.specs.Compare.{compare_outcomes};
 ghost use Rattle.query_top.specs.inner.Replies.{differences_reply};
 
 use crate::rules::text_of;
@@ -35,9 +35,9 @@ pub fn reply<'a, H: Shelf>(
     rules: &'a str,
     shelf: &mut H,
 ) -> Result<Answer<'a>, Answer<'a>>
-    ensures same_files { H.files shelf.new ≡ H.files shelf.old }
-    ensures faults_stay { H.faults shelf.old ≤ H.faults shelf.new }
-    ensures reply { MayReply true (course_of (Compare dialect file.now rules.now))
+    ensures files_unchanged { H.files shelf.new ≡ H.files shelf.old }
+    ensures faults_monotone { H.faults shelf.old ≤ H.faults shelf.new }
+    ensures reply { IsPossibleReply true (plan_of (Compare dialect file.now rules.now))
         (shelf_change H.Shelf shelf.old shelf.new) (reply_in result) }
 {
     let description = read_description(alloc, file, shelf)?;
@@ -52,13 +52,13 @@ fn reply_for<'a, H: Shelf>(
     rules: &'a str,
     shelf: &mut H,
 ) -> Result<Answer<'a>, Answer<'a>>
-    ensures same_files { H.files shelf.new ≡ H.files shelf.old }
-    ensures faults_stay { H.faults shelf.old ≤ H.faults shelf.new }
-    ensures reply { MayReply true (reads (kind.Rules dialect) rules.now (λ said. ends (compare_job description.now (rules_in dialect said))))
+    ensures files_unchanged { H.files shelf.new ≡ H.files shelf.old }
+    ensures faults_monotone { H.faults shelf.old ≤ H.faults shelf.new }
+    ensures reply { IsPossibleReply true (reads (kind.Rules dialect) rules.now (λ said. ends (compare_outcomes description.now (rules_in dialect said))))
         (shelf_change H.Shelf shelf.old shelf.new) (reply_in result) }
 {
     let rules = read_rules(alloc, dialect, rules, shelf)?;
-    Answer::of_job(answer(alloc, description, &rules))
+    Answer::of_outcomes(answer(alloc, description, &rules))
 }
 
 // Returns the answer for the rules. They have one verdict for every packet in each state.
@@ -68,7 +68,7 @@ fn answer<'a>(
     rules: &Rules,
 ) -> Result<Answer<'a>, AllocError>
     requires { GivesOne (filter_of (rules_view rules.now)) }
-    ensures { IfOk result (λ answer. Answers true (compare_job description.now (rules_view rules.now)) (reply_view answer)) }
+    ensures { IfOk result (λ answer. Answers true (compare_outcomes description.now (rules_view rules.now)) (reply_view answer)) }
 {
     comparison(alloc, description, text_of(rules))
 }
@@ -79,7 +79,7 @@ fn comparison<'a>(
     rules: audit_core::Text<'_>,
 ) -> Result<Answer<'a>, AllocError>
     requires { GivesOne (filter_of (rules_of rules)) }
-    ensures { IfOk result (λ answer. Answers true (compare_job description.now (rules_of rules.entry)) (reply_view answer)) }
+    ensures { IfOk result (λ answer. Answers true (compare_outcomes description.now (rules_of rules.entry)) (reply_view answer)) }
 {
     let policy = policy_of(alloc, description)?;
     let differences = compare_pairs(alloc, &policy_between(description, &policy), &rules)?;

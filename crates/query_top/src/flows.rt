@@ -3,15 +3,15 @@
 ghost use Rattle.std.specs.Prelude.{◌≡◌, ◌≤◌, IfOk, true};
 ghost use Rattle.audit_core.specs.RulesView.{rules_of};
 ghost use Rattle.topos_top.specs.Audit.{rules_in};
-ghost use Rattle.topos_top.specs.Course.{reads, ends};
-ghost use Rattle.topos_top.specs.Job.{Answers};
-ghost use Rattle.topos_top.specs.Replies.{MayReply};
+ghost use Rattle.topos_top.specs.CommandPlan.{reads, ends};
+ghost use Rattle.topos_top.specs.Outcomes.{Answers};
+ghost use Rattle.topos_top.specs.Replies.{IsPossibleReply};
 ghost use Rattle.topos_top.specs.Shelf.{shelf_change};
 ghost use Rattle.topos_top.specs.inner.Views.{reply_in, reply_view, rules_view};
 ghost use Rattle.topos_top.specs.declared.kind.Kind.TheVariants as kind;
-ghost use Rattle.query_top.specs.Ask.{Flows};
-ghost use Rattle.query_top.specs.Commands.{course_of};
-ghost use Rattle.query_top.specs.Flows.{IsFlowsAnswer, flows_job};
+ghost use Rattle.query_top.specs.Command.{Flows};
+ghost use Rattle.query_top.specs.Commands.{plan_of};
+ghost use Rattle.query_top.specs.Flows.{IsFlowsAnswer, flows_outcomes};
 
 use crate::rules::text_of;
 use decide_core::{dead_places, flows_by_pairs};
@@ -29,9 +29,9 @@ pub fn reply<'a, H: Shelf>(
     rules: &'a str,
     shelf: &mut H,
 ) -> Result<Answer<'a>, Answer<'a>>
-    ensures same_files { H.files shelf.new ≡ H.files shelf.old }
-    ensures faults_stay { H.faults shelf.old ≤ H.faults shelf.new }
-    ensures reply { MayReply true (course_of (Flows dialect file.now rules.now))
+    ensures files_unchanged { H.files shelf.new ≡ H.files shelf.old }
+    ensures faults_monotone { H.faults shelf.old ≤ H.faults shelf.new }
+    ensures reply { IsPossibleReply true (plan_of (Flows dialect file.now rules.now))
         (shelf_change H.Shelf shelf.old shelf.new) (reply_in result) }
 {
     let description = read_description(alloc, file, shelf)?;
@@ -46,17 +46,17 @@ fn reply_for<'a, H: Shelf>(
     rules: &'a str,
     shelf: &mut H,
 ) -> Result<Answer<'a>, Answer<'a>>
-    ensures same_files { H.files shelf.new ≡ H.files shelf.old }
-    ensures faults_stay { H.faults shelf.old ≤ H.faults shelf.new }
-    ensures reply { MayReply true (reads (kind.Rules dialect) rules.now (λ said. ends (flows_job hosts.now (rules_in dialect said))))
+    ensures files_unchanged { H.files shelf.new ≡ H.files shelf.old }
+    ensures faults_monotone { H.faults shelf.old ≤ H.faults shelf.new }
+    ensures reply { IsPossibleReply true (reads (kind.Rules dialect) rules.now (λ said. ends (flows_outcomes hosts.now (rules_in dialect said))))
         (shelf_change H.Shelf shelf.old shelf.new) (reply_in result) }
 {
     let rules = read_rules(alloc, dialect, rules, shelf)?;
-    Answer::of_job(answer(alloc, hosts, &rules))
+    Answer::of_outcomes(answer(alloc, hosts, &rules))
 }
 
 fn answer<'a>(alloc: Global, hosts: &Hosts, rules: &Rules) -> Result<Answer<'a>, AllocError>
-    ensures { IfOk result (λ answer. Answers true (flows_job hosts.now (rules_view rules.now)) (reply_view answer)) }
+    ensures { IfOk result (λ answer. Answers true (flows_outcomes hosts.now (rules_view rules.now)) (reply_view answer)) }
 {
     let text = flows_text(alloc, hosts, text_of(rules))?;
     Ok(Answer::done(Text::Bytes(text)))

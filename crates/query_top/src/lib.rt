@@ -1,14 +1,14 @@
 //! `topos-query`: the questions of an operator on a description, answered in JSON, over any shelf of files and any
 //! two sinks of bytes.
 //!
-//! The words are a question, a question has a course over its files to its job, and the job gives an answer. Each form
-//! has a file of its own here and in `specs/`; `ask` and `commands`, `specs/Ask.antt` and `specs/Commands.antt` list
+//! The arguments form a question. A question has a plan: the files that it reads, then its outcomes. Each form
+//! has a file of its own here and in `specs/`; `command` and `commands`, `specs/Command.antt` and `specs/Commands.antt` list
 //! them. Files are read and answers are written by the calls of `topos` (`topos_top`), so readings, faults, lines of
 //! the error stream and statuses are those of `topos`.
 #![tactic(auto)]
 
-mod ask;
 mod changes;
+mod command;
 mod commands;
 mod compare;
 mod ending;

@@ -1,13 +1,13 @@
 //! `network FILE`: all that the description and its policy say of hosts, invariants and flows.
 
 ghost use Rattle.std.specs.Prelude.{◌≡◌, ◌≤◌, IfOk, true};
-ghost use Rattle.topos_top.specs.Job.{Answers};
-ghost use Rattle.topos_top.specs.Replies.{MayReply};
+ghost use Rattle.topos_top.specs.Outcomes.{Answers};
+ghost use Rattle.topos_top.specs.Replies.{IsPossibleReply};
 ghost use Rattle.topos_top.specs.Shelf.{shelf_change};
 ghost use Rattle.topos_top.specs.inner.Views.{reply_in, reply_view};
-ghost use Rattle.query_top.specs.Ask.{Network};
-ghost use Rattle.query_top.specs.Commands.{course_of};
-ghost use Rattle.query_top.specs.Network.{IsNetworkAnswer, network_job};
+ghost use Rattle.query_top.specs.Command.{Network};
+ghost use Rattle.query_top.specs.Commands.{plan_of};
+ghost use Rattle.query_top.specs.Network.{IsNetworkAnswer, network_outcomes};
 
 use desc_core::Description;
 use edge_io::Shelf;
@@ -22,17 +22,17 @@ pub fn reply<'a, H: Shelf>(
     file: &'a str,
     shelf: &mut H,
 ) -> Result<Answer<'a>, Answer<'a>>
-    ensures same_files { H.files shelf.new ≡ H.files shelf.old }
-    ensures faults_stay { H.faults shelf.old ≤ H.faults shelf.new }
-    ensures reply { MayReply true (course_of (Network file.now))
+    ensures files_unchanged { H.files shelf.new ≡ H.files shelf.old }
+    ensures faults_monotone { H.faults shelf.old ≤ H.faults shelf.new }
+    ensures reply { IsPossibleReply true (plan_of (Network file.now))
         (shelf_change H.Shelf shelf.old shelf.new) (reply_in result) }
 {
     let description = read_description(alloc, file, shelf)?;
-    Answer::of_job(answer(alloc, &description))
+    Answer::of_outcomes(answer(alloc, &description))
 }
 
 fn answer<'a>(alloc: Global, description: &Description) -> Result<Answer<'a>, AllocError>
-    ensures { IfOk result (λ answer. Answers true (network_job description.now) (reply_view answer)) }
+    ensures { IfOk result (λ answer. Answers true (network_outcomes description.now) (reply_view answer)) }
 {
     let text = network_text(alloc, description)?;
     Ok(Answer::done(Text::Bytes(text)))

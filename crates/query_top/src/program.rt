@@ -2,16 +2,16 @@
 
 ghost use Rattle.std.specs.Prelude.{◌≡◌, ◌≢◌, ◌≤◌, ◌↔◌, ◌⊎◌, None, map, string_bytes};
 ghost use Rattle.topos_top.specs.Shelf.{shelf_change};
-ghost use Rattle.topos_top.specs.Taken.{sink_change};
-ghost use Rattle.query_top.specs.Ask.{Ask, AskFor, AskNothing};
-ghost use Rattle.query_top.specs.Promises.{GaveReply, HasCause, HasRules, IsComplete, Keeps, KeepsDifferences};
-ghost use Rattle.query_top.specs.inner.Ask.{ask_of};
-ghost use Rattle.query_top.specs.inner.Replies.{MayGiveBy};
+ghost use Rattle.topos_top.specs.SinkChanges.{sink_change};
+ghost use Rattle.query_top.specs.Command.{Command, ParseAs, ParseAsNothing};
+ghost use Rattle.query_top.specs.Promises.{DeliversReply, HasCause, HasRules, IsComplete, AnswersQuestion, OutputsDifferences};
+ghost use Rattle.query_top.specs.inner.Command.{command_of};
+ghost use Rattle.query_top.specs.inner.Replies.{AllowsReplyTo};
 ghost use Rattle.query_top.specs.inner.Views.{ending_view};
 
-use crate::ask::ask_of_words;
+use crate::command::parse_command;
 use crate::commands::reply;
-use crate::ending::{Ending, give};
+use crate::ending::{Ending, deliver};
 use edge_io::{Shelf, Sink};
 use std::alloc::Global;
 use topos_top::Status;
@@ -25,17 +25,17 @@ pub fn run<H: Shelf, O: Sink, E: Sink>(
     out: &mut O,
     err: &mut E,
 ) -> Status
-    ensures same_files { H.files shelf.new ≡ H.files shelf.old }
-    ensures faults_stay { (H.faults shelf.old ≤ H.faults shelf.new) × (O.faults out.old ≤ O.faults out.new)
+    ensures files_unchanged { H.files shelf.new ≡ H.files shelf.old }
+    ensures faults_monotone { (H.faults shelf.old ≤ H.faults shelf.new) × (O.faults out.old ≤ O.faults out.new)
         × (E.faults err.old ≤ E.faults err.new) }
 
     // The run gives one reply that has its cause: its status, its text on its stream.
-    ensures reply { GaveReply (map string_bytes words.now) (shelf_change H.Shelf shelf.old shelf.new)
+    ensures reply { DeliversReply (map string_bytes words.now) (shelf_change H.Shelf shelf.old shelf.new)
         (sink_change O.Sink out.old out.new) (sink_change E.Sink err.old err.new) result }
 
     // The usage is given exactly for words that are no form, and reads nothing.
-    ensures usage { (result ≡ Status.Usage) ↔ AskNothing (map string_bytes words.now) }
-    ensures usage_reads_nothing { result ≡ Status.Usage → shelf.new ≡ shelf.old }
+    ensures usage { (result ≡ Status.Usage) ↔ ParseAsNothing (map string_bytes words.now) }
+    ensures usage_opens_no_file { result ≡ Status.Usage → shelf.new ≡ shelf.old }
 
     // Each other status has its cause.
     ensures read_fault { result ≡ Status.ReadFault → HasCause Status.ReadFault (map string_bytes words.now)
@@ -65,19 +65,19 @@ pub fn run<H: Shelf, O: Sink, E: Sink>(
         (sink_change O.Sink out.old out.new) (sink_change E.Sink err.old err.new) }
 
     // An answer on the output is the one to the question, for the network that the file describes.
-    ensures answered { result ≡ Status.Done → (ask : Ask) → AskFor (map string_bytes words.now) ask
-        → Keeps ask (shelf_change H.Shelf shelf.old shelf.new) (sink_change O.Sink out.old out.new) }
+    ensures answered { result ≡ Status.Done → (command : Command) → ParseAs (map string_bytes words.now) command
+        → AnswersQuestion command (shelf_change H.Shelf shelf.old shelf.new) (sink_change O.Sink out.old out.new) }
 
     // Only a comparison with differences, and changes that weaken a flow, are violations. Then all of it is on the output.
-    ensures differences { result ≡ Status.Violated → (ask : Ask) → AskFor (map string_bytes words.now) ask
-        → KeepsDifferences ask (shelf_change H.Shelf shelf.old shelf.new) (sink_change O.Sink out.old out.new) }
+    ensures differences { result ≡ Status.Violated → (command : Command) → ParseAs (map string_bytes words.now) command
+        → OutputsDifferences command (shelf_change H.Shelf shelf.old shelf.new) (sink_change O.Sink out.old out.new) }
 
     // Only rules are a bad text.
-    ensures only_rules { result ≡ Status.BadText → (ask : Ask) → AskFor (map string_bytes words.now) ask → HasRules ask }
+    ensures only_rules { result ≡ Status.BadText → (command : Command) → ParseAs (map string_bytes words.now) command → HasRules command }
 
     // Without an answer the output is as it was, and with one the error stream is.
-    ensures untouched { result ≢ Status.Done → result ≢ Status.Violated → result ≢ Status.WriteFault → out.new ≡ out.old }
-    ensures silent { (result ≡ Status.Done) ⊎ (result ≡ Status.Violated) → err.new ≡ err.old }
+    ensures output_unchanged { result ≢ Status.Done → result ≢ Status.Violated → result ≢ Status.WriteFault → out.new ≡ out.old }
+    ensures stderr_unchanged { (result ≡ Status.Done) ⊎ (result ≡ Status.Violated) → err.new ≡ err.old }
 
     // The words and the known files decide the reply, and so the answer, byte by byte. The examples of packets in the
     // answers of `flows` and `changes` may differ.
@@ -85,20 +85,20 @@ pub fn run<H: Shelf, O: Sink, E: Sink>(
         (sink_change O.Sink out.old out.new) (sink_change E.Sink err.old err.new) result }
 {
     let ending = ending_for(alloc, words, shelf);
-    give(&ending, out, err)
+    deliver(&ending, out, err)
 }
 
 // Returns how the run ends for the words, with their files taken off the shelf.
 fn ending_for<'a, H: Shelf>(alloc: Global, words: &'a [String], shelf: &mut H) -> Ending<'a>
-    ensures same_files { H.files shelf.new ≡ H.files shelf.old }
-    ensures faults_stay { H.faults shelf.old ≤ H.faults shelf.new }
-    ensures reply { MayGiveBy (ask_of (map string_bytes words.now))
+    ensures files_unchanged { H.files shelf.new ≡ H.files shelf.old }
+    ensures faults_monotone { H.faults shelf.old ≤ H.faults shelf.new }
+    ensures reply { AllowsReplyTo (command_of (map string_bytes words.now))
         (shelf_change H.Shelf shelf.old shelf.new) (ending_view result) }
-    ensures reads_nothing { ask_of (map string_bytes words.now) ≡ None → shelf.new ≡ shelf.old }
+    ensures opens_no_file { command_of (map string_bytes words.now) ≡ None → shelf.new ≡ shelf.old }
 {
-    match ask_of_words(words) {
+    match parse_command(words) {
         None => Ending::Usage,
-        Some(ask) => match reply(alloc, ask, shelf) {
+        Some(command) => match reply(alloc, command, shelf) {
             Ok(answer) => Ending::Answer(answer),
             Err(answer) => Ending::Answer(answer),
         },

@@ -2,13 +2,13 @@
 
 ghost use Rattle.std.specs.Prelude.{◌≡◌, ◌≤◌, IfOk, length, true};
 ghost use Rattle.flow_set.specs.Flow.{IsFlow};
-ghost use Rattle.topos_top.specs.Job.{Answers};
-ghost use Rattle.topos_top.specs.Replies.{MayReply};
+ghost use Rattle.topos_top.specs.Outcomes.{Answers};
+ghost use Rattle.topos_top.specs.Replies.{IsPossibleReply};
 ghost use Rattle.topos_top.specs.Shelf.{shelf_change};
 ghost use Rattle.topos_top.specs.inner.Views.{reply_in, reply_view};
-ghost use Rattle.query_top.specs.Ask.{Why};
-ghost use Rattle.query_top.specs.Commands.{course_of};
-ghost use Rattle.query_top.specs.Why.{IsFlowNamed, IsWhyOf, no_flow_line, why_job};
+ghost use Rattle.query_top.specs.Command.{Why};
+ghost use Rattle.query_top.specs.Commands.{plan_of};
+ghost use Rattle.query_top.specs.Why.{IsFlowNamed, IsWhyOf, no_flow_line, why_outcomes};
 
 use desc_core::Description;
 use edge_io::Shelf;
@@ -26,13 +26,13 @@ pub fn reply<'a, H: Shelf>(
     to: &str,
     shelf: &mut H,
 ) -> Result<Answer<'a>, Answer<'a>>
-    ensures same_files { H.files shelf.new ≡ H.files shelf.old }
-    ensures faults_stay { H.faults shelf.old ≤ H.faults shelf.new }
-    ensures reply { MayReply true (course_of (Why file.now from.now to.now))
+    ensures files_unchanged { H.files shelf.new ≡ H.files shelf.old }
+    ensures faults_monotone { H.faults shelf.old ≤ H.faults shelf.new }
+    ensures reply { IsPossibleReply true (plan_of (Why file.now from.now to.now))
         (shelf_change H.Shelf shelf.old shelf.new) (reply_in result) }
 {
     let description = read_description(alloc, file, shelf)?;
-    Answer::of_job(answer(alloc, &description, from, to))
+    Answer::of_outcomes(answer(alloc, &description, from, to))
 }
 
 // Returns the answer, or the line that there is no flow between hosts of these names.
@@ -42,7 +42,7 @@ fn answer<'a>(
     from: &str,
     to: &str,
 ) -> Result<Answer<'a>, AllocError>
-    ensures { IfOk result (λ answer. Answers true (why_job description.now from.now to.now) (reply_view answer)) }
+    ensures { IfOk result (λ answer. Answers true (why_outcomes description.now from.now to.now) (reply_view answer)) }
 {
     let hosts = description.hosts();
     let Some(sender) = hosts.find(from.as_bytes()) else {
@@ -70,7 +70,7 @@ fn flow_answer<'a>(
     flow: Flow,
 ) -> Result<Answer<'a>, AllocError>
     requires { IsFlowNamed description.now.hosts from.now to.now flow }
-    ensures { IfOk result (λ answer. Answers true (why_job description.now from.now to.now) (reply_view answer)) }
+    ensures { IfOk result (λ answer. Answers true (why_outcomes description.now from.now to.now) (reply_view answer)) }
 {
     let text = flow_text(alloc, description, flow)?;
     Ok(Answer::done(Text::Bytes(text)))

@@ -10,7 +10,7 @@ use Rattle.flow_set.specs.Flow.{IsFlow, same_flow}
 use Rattle.flow_set.specs.FlowSet.{has, with_flow}
 use Rattle.flow_set.specs.laws.FlowLaws.{has-with_flow}
 use Rattle.flow_set.specs.inner.FlowSetView.{IsFlowSet}
-use Rattle.flow_set.specs.inner.Steps.{TriedFlows, stepped, taken_back, flows_before_step}
+use Rattle.flow_set.specs.inner.Steps.{UndoableFlows, stepped, undone, flows_before_step}
 use Rattle.flow_set.proofs.SubsetLaws.{IsFlowSet-nothing, IsFlowSet-with_flow}
 use Rattle.flow_set.specs.HostSet.{HostNumbers}
 use Rattle.flow_set.specs.inner.HostSet.{row_of}
@@ -19,7 +19,7 @@ use Rattle.reach_core.specs.Walks.{Joined, has_either}
 use Rattle.reach_core.specs.laws.WalkLaws.{HasPath, cases_path, path_of_walk}
 use Rattle.reach_core.specs.laws.ReachLaws.{Joined-within, Joined-back, Joined-nothing_new, Joined-below, Joined-with_flow, Touches, Touches-joined}
 use Rattle.reach_core.specs.inner.Rows.{ShowsJoin, AreBelow, IsWidened, IsBack, HasJoinRows, row_now, row_before}
-use Rattle.reach_core.specs.declared.stepped.SteppedRows.{SteppedRows}
+use Rattle.reach_core.specs.declared.stepped.UndoableRows.{UndoableRows}
 use Rattle.reach_core.proofs.Closes.{tells_as, tells_bool, tells_nothing}
 use Rattle.reach_core.proofs.Widened.{contains-widened, before-widened, before-kept, fits_same, fits_widened}
 
@@ -133,29 +133,29 @@ ShowsJoin-with_flow n fs f joined joined' was all is_flow counted shows are wide
 -- ---- steps
 
 -- Its hosts are joined already if the row of its sender contains its receiver.
-pub joined_already : (t : TriedFlows) (f : Flow) (joined : SteppedRows) (row : HostNumbers) (shown : Bool) → IsFlow t.size f
+pub joined_already : (t : UndoableFlows) (f : Flow) (joined : UndoableRows) (row : HostNumbers) (shown : Bool) → IsFlow t.size f
     → HasJoinRows t joined → row ≡ row_of joined.rows f.from → shown ≡ set.contains row f.to → IsTrue shown → Joined t.flows f.from f.to
 joined_already t f joined row shown is_flow rows row_is shown_is there =
     (rows.now.either f.from f.to is_flow.0).0 (sym (ap (λ (s : HostNumbers). set.contains s f.to) row_is) ∙ (sym shown_is ∙ there))
 
-pub HasJoinRows-as : (t new : TriedFlows) (f : Flow) (steps : TriedFlows) (joined rows : SteppedRows) → new ≡ stepped steps f → steps ≡ t
+pub HasJoinRows-as : (t new : UndoableFlows) (f : Flow) (steps : UndoableFlows) (joined rows : UndoableRows) → new ≡ stepped steps f → steps ≡ t
     → rows ≡ joined → HasJoinRows (stepped t f) joined → HasJoinRows new rows
 HasJoinRows-as t new f steps joined rows new_is steps_is rows_is has =
-    subst (λ (s : TriedFlows). HasJoinRows s rows) (sym (new_is ∙ ap (λ (s : TriedFlows). stepped s f) steps_is))
-    (subst (λ (r : SteppedRows). HasJoinRows (stepped t f) r) (sym rows_is) has)
+    subst (λ (s : UndoableFlows). HasJoinRows s rows) (sym (new_is ∙ ap (λ (s : UndoableFlows). stepped s f) steps_is))
+    (subst (λ (r : UndoableRows). HasJoinRows (stepped t f) r) (sym rows_is) has)
 
-pub HasJoinRows-kept : (t : TriedFlows) (f : Flow) (joined joined' : SteppedRows) → IsFlow t.size f → HasJoinRows t joined
+pub HasJoinRows-kept : (t : UndoableFlows) (f : Flow) (joined joined' : UndoableRows) → IsFlow t.size f → HasJoinRows t joined
     → Joined t.flows f.from f.to → joined' ≡ record joined { changed = set.empty } → HasJoinRows (stepped t f) joined'
 HasJoinRows-kept t f joined joined' is_flow rows there kept =
-    let r : SteppedRows = record joined { changed = set.empty } in
-    subst (λ (x : SteppedRows). HasJoinRows (stepped t f) x) (sym kept)
+    let r : UndoableRows = record joined { changed = set.empty } in
+    subst (λ (x : UndoableRows). HasJoinRows (stepped t f) x) (sym kept)
     (record {
       joined_fits = fits_same t.size joined r rows.joined_fits refl refl refl;
       now = ShowsJoin-nothing_new t.size t.flows f (row_of joined.rows) is_flow there rows.now;
       before = ShowsJoin-as t.size t.flows (row_now joined) (row_before r) rows.now (λ i below. before-kept r i refl);
     })
 
-pub HasJoinRows-widened : (t : TriedFlows) (f : Flow) (joined joined' : SteppedRows) (all : HostNumbers) → IsFlow t.size f
+pub HasJoinRows-widened : (t : UndoableFlows) (f : Flow) (joined joined' : UndoableRows) (all : HostNumbers) → IsFlow t.size f
     → HasJoinRows t joined → AreTouched t.flows f all → IsWidened joined.rows joined'.rows joined'.before all all → joined'.changed ≡ all
     → HasJoinRows (stepped t f) joined'
 HasJoinRows-widened t f joined joined' all is_flow rows are widened changed = record {
@@ -167,18 +167,18 @@ HasJoinRows-widened t f joined joined' all is_flow rows are widened changed = re
 }
 
 -- The last step committed.
-pub HasJoinRows-forgotten : (t new : TriedFlows) (joined : SteppedRows) → new ≡ record t { before_step = None } → HasJoinRows t joined
+pub HasJoinRows-forgotten : (t new : UndoableFlows) (joined : UndoableRows) → new ≡ record t { before_step = None } → HasJoinRows t joined
     → HasJoinRows new joined
 HasJoinRows-forgotten t new joined is rows =
-    subst (λ (s : TriedFlows). HasJoinRows s joined) (sym is) (record { joined_fits = rows.joined_fits; now = rows.now; before = tt })
+    subst (λ (s : UndoableFlows). HasJoinRows s joined) (sym is) (record { joined_fits = rows.joined_fits; now = rows.now; before = tt })
 
 before_shown : (n : ℕ) (fs : List Flow) (before : Option (List Flow)) (joined : ℕ → HostNumbers) → IsSome before
     → IfSome before (λ gs. ShowsJoin n gs joined) → ShowsJoin n (flows_before_step before fs) joined
 before_shown n fs (Some gs) joined some shows = shows
 before_shown n fs None joined some shows = absurd (false≢true some)
 
-pub HasJoinRows-back : (t : TriedFlows) (joined joined' : SteppedRows) → IsSome t.before_step → HasJoinRows t joined
-    → IsBack joined joined'.rows → joined'.before ≡ joined.before → joined'.changed ≡ set.empty → HasJoinRows (taken_back t) joined'
+pub HasJoinRows-back : (t : UndoableFlows) (joined joined' : UndoableRows) → IsSome t.before_step → HasJoinRows t joined
+    → IsBack joined joined'.rows → joined'.before ≡ joined.before → joined'.changed ≡ set.empty → HasJoinRows (undone t) joined'
 HasJoinRows-back t joined joined' some rows back room changed = record {
   joined_fits = fits_same t.size joined joined' rows.joined_fits back.same_length (ap length room) changed;
   now = ShowsJoin-as t.size (flows_before_step t.before_step t.flows) (row_before joined) (row_now joined')
@@ -189,13 +189,13 @@ HasJoinRows-back t joined joined' some rows back room changed = record {
 
 -- ---- the empty set
 
-pub HasJoinRows-nothing : (n : ℕ) (t : TriedFlows) (joined : SteppedRows) → n ≤ 256
+pub HasJoinRows-nothing : (n : ℕ) (t : UndoableFlows) (joined : UndoableRows) → n ≤ 256
     → t ≡ record { size = n; flows = []; before_step = None }
     → joined ≡ record { rows = replicate n set.empty; before = replicate n set.empty; changed = set.empty }
     → HasJoinRows t joined
 HasJoinRows-nothing n t joined small t_is joined_is =
-    subst (λ (s : TriedFlows). HasJoinRows s joined) (sym t_is)
-    (subst (λ (x : SteppedRows). HasJoinRows (record { size = n; flows = []; before_step = None }) x) (sym joined_is)
+    subst (λ (s : UndoableFlows). HasJoinRows s joined) (sym t_is)
+    (subst (λ (x : UndoableRows). HasJoinRows (record { size = n; flows = []; before_step = None }) x) (sym joined_is)
     (record {
       joined_fits = record {
         small = small;

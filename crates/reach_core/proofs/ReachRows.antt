@@ -8,7 +8,7 @@ use Rattle.flow_set.specs.declared.flow.Flow.{Flow}
 use Rattle.flow_set.specs.Flow.{IsFlow}
 use Rattle.flow_set.specs.FlowSet.{has, with_flow}
 use Rattle.flow_set.specs.inner.FlowSetView.{IsFlowSet}
-use Rattle.flow_set.specs.inner.Steps.{TriedFlows, stepped, taken_back, flows_before_step}
+use Rattle.flow_set.specs.inner.Steps.{UndoableFlows, stepped, undone, flows_before_step}
 use Rattle.flow_set.proofs.SubsetLaws.{IsFlowSet-nothing, IsFlowSet-with_flow}
 use Rattle.flow_set.specs.HostSet.{HostNumbers}
 use Rattle.flow_set.specs.inner.HostSet.{row_of}
@@ -16,7 +16,7 @@ use Rattle.reach_core.specs.Walks.{Reaches}
 use Rattle.reach_core.specs.laws.ReachLaws.{Reaches-more, Reaches-nothing_new, Reaches-below}
 use Rattle.reach_core.specs.inner.Opening.{ReachesOnlyWith}
 use Rattle.reach_core.specs.inner.Rows.{ShowsReach, AreBelow, IsWidened, IsBack, FitsRows, HasReachRows, row_now, row_before}
-use Rattle.reach_core.specs.declared.stepped.SteppedRows.{SteppedRows}
+use Rattle.reach_core.specs.declared.stepped.UndoableRows.{UndoableRows}
 use Rattle.reach_core.proofs.Closes.{tells_as, tells_bool, tells_nothing}
 use Rattle.reach_core.proofs.Opening.{reaches_opened}
 use Rattle.reach_core.proofs.Widened.{contains-widened, before-widened, before-kept, fits_same, fits_widened}
@@ -88,26 +88,26 @@ ShowsReach-with_flow n fs f reached reached' was coming coming' was' senders bey
 -- ---- steps
 
 -- Its receiver is reached already if the row of its sender contains it.
-pub reached_already : (t : TriedFlows) (f : Flow) (reached coming : SteppedRows) (row : HostNumbers) (shown : Bool) → IsFlow t.size f
+pub reached_already : (t : UndoableFlows) (f : Flow) (reached coming : UndoableRows) (row : HostNumbers) (shown : Bool) → IsFlow t.size f
     → HasReachRows t reached coming → row ≡ row_of reached.rows f.from → shown ≡ set.contains row f.to → IsTrue shown
     → Reaches t.flows f.from f.to
 reached_already t f reached coming row shown is_flow rows row_is shown_is there =
     (rows.now.forth f.from f.to is_flow.0).0 (sym (ap (λ (s : HostNumbers). set.contains s f.to) row_is) ∙ (sym shown_is ∙ there))
 
-pub HasReachRows-as : (t new : TriedFlows) (f : Flow) (steps : TriedFlows) (reached coming rows others : SteppedRows) → new ≡ stepped steps f
+pub HasReachRows-as : (t new : UndoableFlows) (f : Flow) (steps : UndoableFlows) (reached coming rows others : UndoableRows) → new ≡ stepped steps f
     → steps ≡ t → rows ≡ reached → others ≡ coming → HasReachRows (stepped t f) reached coming → HasReachRows new rows others
 HasReachRows-as t new f steps reached coming rows others new_is steps_is rows_is others_is has =
-    subst (λ (s : TriedFlows). HasReachRows s rows others) (sym (new_is ∙ ap (λ (s : TriedFlows). stepped s f) steps_is))
-    (subst (λ (r : SteppedRows). HasReachRows (stepped t f) r others) (sym rows_is)
-    (subst (λ (r : SteppedRows). HasReachRows (stepped t f) reached r) (sym others_is) has))
+    subst (λ (s : UndoableFlows). HasReachRows s rows others) (sym (new_is ∙ ap (λ (s : UndoableFlows). stepped s f) steps_is))
+    (subst (λ (r : UndoableRows). HasReachRows (stepped t f) r others) (sym rows_is)
+    (subst (λ (r : UndoableRows). HasReachRows (stepped t f) reached r) (sym others_is) has))
 
-pub HasReachRows-kept : (t : TriedFlows) (f : Flow) (reached coming reached' coming' : SteppedRows) → IsFlow t.size f
+pub HasReachRows-kept : (t : UndoableFlows) (f : Flow) (reached coming reached' coming' : UndoableRows) → IsFlow t.size f
     → HasReachRows t reached coming → Reaches t.flows f.from f.to → reached' ≡ record reached { changed = set.empty }
     → coming' ≡ record coming { changed = set.empty } → HasReachRows (stepped t f) reached' coming'
 HasReachRows-kept t f reached coming reached' coming' is_flow rows there kept kept_coming =
-    let P : SteppedRows → SteppedRows → Type 0 = λ r c. HasReachRows (stepped t f) r c in
-    let r : SteppedRows = record reached { changed = set.empty } in
-    let c : SteppedRows = record coming { changed = set.empty } in
+    let P : UndoableRows → UndoableRows → Type 0 = λ r c. HasReachRows (stepped t f) r c in
+    let r : UndoableRows = record reached { changed = set.empty } in
+    let c : UndoableRows = record coming { changed = set.empty } in
     subst (λ x. P x coming') (sym kept) (subst (λ x. P r x) (sym kept_coming)
     (record {
       reached_fits = fits_same t.size reached r rows.reached_fits refl refl refl;
@@ -117,7 +117,7 @@ HasReachRows-kept t f reached coming reached' coming' is_flow rows there kept ke
           (λ i below. before-kept r i refl) (λ i below. before-kept c i refl);
     }))
 
-pub HasReachRows-widened : (t : TriedFlows) (f : Flow) (reached coming reached' coming' : SteppedRows) (senders beyond : HostNumbers)
+pub HasReachRows-widened : (t : UndoableFlows) (f : Flow) (reached coming reached' coming' : UndoableRows) (senders beyond : HostNumbers)
     → IsFlow t.size f → HasReachRows t reached coming → AreOpened t.flows f senders beyond
     → IsWidened reached.rows reached'.rows reached'.before senders beyond → reached'.changed ≡ senders
     → IsWidened coming.rows coming'.rows coming'.before beyond senders → coming'.changed ≡ beyond
@@ -136,10 +136,10 @@ HasReachRows-widened t f reached coming reached' coming' senders beyond is_flow 
     }
 
 -- The last step committed.
-pub HasReachRows-forgotten : (t new : TriedFlows) (reached coming : SteppedRows) → new ≡ record t { before_step = None }
+pub HasReachRows-forgotten : (t new : UndoableFlows) (reached coming : UndoableRows) → new ≡ record t { before_step = None }
     → HasReachRows t reached coming → HasReachRows new reached coming
 HasReachRows-forgotten t new reached coming is rows =
-    subst (λ (s : TriedFlows). HasReachRows s reached coming) (sym is)
+    subst (λ (s : UndoableFlows). HasReachRows s reached coming) (sym is)
     (record { reached_fits = rows.reached_fits; coming_fits = rows.coming_fits; now = rows.now; before = tt })
 
 before_shown : (n : ℕ) (fs : List Flow) (before : Option (List Flow)) (reached coming : ℕ → HostNumbers) → IsSome before
@@ -147,10 +147,10 @@ before_shown : (n : ℕ) (fs : List Flow) (before : Option (List Flow)) (reached
 before_shown n fs (Some gs) reached coming some shows = shows
 before_shown n fs None reached coming some shows = absurd (false≢true some)
 
-pub HasReachRows-back : (t : TriedFlows) (reached coming reached' coming' : SteppedRows) → IsSome t.before_step
+pub HasReachRows-back : (t : UndoableFlows) (reached coming reached' coming' : UndoableRows) → IsSome t.before_step
     → HasReachRows t reached coming → IsBack reached reached'.rows → reached'.before ≡ reached.before → reached'.changed ≡ set.empty
     → IsBack coming coming'.rows → coming'.before ≡ coming.before → coming'.changed ≡ set.empty
-    → HasReachRows (taken_back t) reached' coming'
+    → HasReachRows (undone t) reached' coming'
 HasReachRows-back t reached coming reached' coming' some rows back room changed back' room' changed' = record {
   reached_fits = fits_same t.size reached reached' rows.reached_fits back.same_length (ap length room) changed;
   coming_fits = fits_same t.size coming coming' rows.coming_fits back'.same_length (ap length room') changed';
@@ -163,22 +163,22 @@ HasReachRows-back t reached coming reached' coming' some rows back room changed 
 
 -- ---- the empty set
 
-pub HasReachRows-nothing : (n : ℕ) (t : TriedFlows) (reached coming : SteppedRows) → n ≤ 256
+pub HasReachRows-nothing : (n : ℕ) (t : UndoableFlows) (reached coming : UndoableRows) → n ≤ 256
     → t ≡ record { size = n; flows = []; before_step = None }
     → reached ≡ record { rows = replicate n set.empty; before = replicate n set.empty; changed = set.empty }
     → coming ≡ record { rows = replicate n set.empty; before = replicate n set.empty; changed = set.empty }
     → HasReachRows t reached coming
 HasReachRows-nothing n t reached coming small t_is reached_is coming_is =
-    let r : SteppedRows = record { rows = replicate n set.empty; before = replicate n set.empty; changed = set.empty } in
+    let r : UndoableRows = record { rows = replicate n set.empty; before = replicate n set.empty; changed = set.empty } in
     let fits : FitsRows r n = record {
       small = small;
       rows_length = length-replicate n _;
       before_length = length-replicate n _;
       changed_below = λ i there. absurd (false≢true (sym (set.contains-empty nat_cmp i) ∙ there));
     } in
-    subst (λ (s : TriedFlows). HasReachRows s reached coming) (sym t_is)
-    (subst (λ (x : SteppedRows). HasReachRows (record { size = n; flows = []; before_step = None }) x coming) (sym reached_is)
-    (subst (λ (x : SteppedRows). HasReachRows (record { size = n; flows = []; before_step = None }) r x) (sym coming_is)
+    subst (λ (s : UndoableFlows). HasReachRows s reached coming) (sym t_is)
+    (subst (λ (x : UndoableRows). HasReachRows (record { size = n; flows = []; before_step = None }) x coming) (sym reached_is)
+    (subst (λ (x : UndoableRows). HasReachRows (record { size = n; flows = []; before_step = None }) r x) (sym coming_is)
     (record {
       reached_fits = fits;
       coming_fits = fits;

@@ -7,7 +7,7 @@ use Rattle.std.proofs.lemmas.Bool.{cond_both, cond-false, both_ways}
 use Rattle.flow_set.specs.HostSet.{HostNumbers}
 use Rattle.flow_set.specs.inner.HostSet.{row_of}
 use Rattle.reach_core.specs.inner.Rows.{AreBelow, IsWidened, FitsRows, row_before}
-use Rattle.reach_core.specs.declared.stepped.SteppedRows.{SteppedRows}
+use Rattle.reach_core.specs.declared.stepped.UndoableRows.{UndoableRows}
 
 -- ---- rows that change at the hosts of a set, from the first on
 
@@ -33,7 +33,7 @@ contains-widened old new before hosts by i j widened below =
     ap (λ (s : HostNumbers). fin.contains s j) (widened.now i below)
     ∙ contains-either_of (fin.contains hosts i) (row_of old i) (fin.union (row_of old i) by) j _ _ refl (fin.contains-union nat_cmp_total (row_of old i) by j)
 
-pub before-widened : (old : List HostNumbers) (r : SteppedRows) (hosts by : HostNumbers) (i : ℕ)
+pub before-widened : (old : List HostNumbers) (r : UndoableRows) (hosts by : HostNumbers) (i : ℕ)
     → IsWidened old r.rows r.before hosts by → r.changed ≡ hosts → i < length old → row_before r i ≡ row_of old i
 before-widened old r hosts by i widened changed below =
     ap (λ (hs : HostNumbers). cond (fin.contains hs i) (row_of r.before i) (row_of r.rows i)) changed
@@ -41,7 +41,7 @@ before-widened old r hosts by i widened changed below =
     (λ out. widened.now i below ∙ cond-false _ _ _ out)
 
 -- If nothing changed, the rows before are the current rows.
-pub before-kept : (r : SteppedRows) (i : ℕ) → r.changed ≡ fin.empty → row_before r i ≡ row_of r.rows i
+pub before-kept : (r : UndoableRows) (i : ℕ) → r.changed ≡ fin.empty → row_before r i ≡ row_of r.rows i
 before-kept r i changed =
     ap (λ (hs : HostNumbers). cond (fin.contains hs i) (row_of r.before i) (row_of r.rows i)) changed
     ∙ cond-false _ _ _ (fin.contains-empty nat_cmp i)
@@ -52,7 +52,7 @@ none_below : (n : ℕ) (hosts : HostNumbers) → hosts ≡ fin.empty → AreBelo
 none_below n hosts none i there =
     absurd (both_ways (fin.contains hosts i) (ap (λ (s : HostNumbers). fin.contains s i) none ∙ fin.contains-empty nat_cmp i) there)
 
-pub fits_same : (n : ℕ) (old new : SteppedRows) → FitsRows old n → length new.rows ≡ length old.rows
+pub fits_same : (n : ℕ) (old new : UndoableRows) → FitsRows old n → length new.rows ≡ length old.rows
     → length new.before ≡ length old.before → new.changed ≡ fin.empty → FitsRows new n
 fits_same n old new fits rows before changed = record {
   small = fits.small;
@@ -61,7 +61,7 @@ fits_same n old new fits rows before changed = record {
   changed_below = none_below n new.changed changed;
 }
 
-pub fits_widened : (n : ℕ) (old new : SteppedRows) (hosts by : HostNumbers) → FitsRows old n
+pub fits_widened : (n : ℕ) (old new : UndoableRows) (hosts by : HostNumbers) → FitsRows old n
     → IsWidened old.rows new.rows new.before hosts by → new.changed ≡ hosts → AreBelow hosts n → FitsRows new n
 fits_widened n old new hosts by fits widened changed below = record {
   small = fits.small;

@@ -2,7 +2,7 @@
 -- Network_Security_Policy_Verification of the Archive of Formal Proofs, which defines it by transitive closures.
 use Rattle.std.specs.Prelude.{◌≡◌, ◌≢◌, ℕ, ◌≤◌, Bool, ◌||◌, List, [], ◌∷◌, length, IsTrue, All, AllPairs}
 use Rattle.flow_set.specs.declared.flow.Flow.{Flow}
-use Rattle.flow_set.specs.Flow.{back_of}
+use Rattle.flow_set.specs.Flow.{reverse_of}
 use Rattle.flow_set.specs.FlowSet.{has}
 
 -- The list fs is a walk from i to j along flows that satisfy the test. The empty list leads from i to i.
@@ -20,7 +20,7 @@ Reaches e = HasWalk (has e)
 
 -- The flow or its reverse is in e.
 abbrev pub has_either : List Flow → Flow → Bool
-has_either e f = has e f || has e (back_of f)
+has_either e f = has e f || has e (reverse_of f)
 
 -- Hosts i and j are joined: there is a walk between them along flows of e, forwards or backwards.
 abbrev pub Joined : List Flow → ℕ → ℕ → Type 0

@@ -5,7 +5,7 @@ ghost use Rattle.std.specs.Prelude.{◌≡◌, ℕ, ◌<◌, ◌↔◌, IsTrue, 
 ghost use Rattle.std.specs.FinSet as set;
 ghost use Rattle.flow_set.specs.Flow.{IsFlow};
 ghost use Rattle.flow_set.specs.inner.FlowSetView.{IsFlowSet};
-ghost use Rattle.flow_set.specs.inner.Steps.{untried, stepped, taken_back};
+ghost use Rattle.flow_set.specs.inner.Steps.{untried, stepped, undone};
 ghost use Rattle.reach_core.specs.Walks.{Reaches, Joined};
 ghost use Rattle.reach_core.specs.inner.Counting.{ReachesExactly};
 
@@ -25,9 +25,9 @@ pub struct Closure {
 
 impl Model for Closure {
     ghost use Rattle.std.specs.Prelude.{◌≡◌};
-    ghost use Rattle.flow_set.specs.inner.Steps.{TriedFlows};
+    ghost use Rattle.flow_set.specs.inner.Steps.{UndoableFlows};
 
-    ghost Value = { TriedFlows };
+    ghost Value = { UndoableFlows };
 
     ghost view = { λ c. c.reach };
 
@@ -57,7 +57,7 @@ impl Closure {
     /// Undoes the last `try_add`.
     pub fn undo(&mut self)
         requires { IsSome self.old.before_step }
-        ensures { self.new ≡ taken_back self.old }
+        ensures { self.new ≡ undone self.old }
     {
         self.reach.undo();
         self.join.undo();

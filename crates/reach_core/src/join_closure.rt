@@ -6,26 +6,26 @@ ghost use Rattle.std.specs.FinSet as set;
 ghost use Rattle.flow_set.specs.Flow.{IsFlow};
 ghost use Rattle.flow_set.specs.FlowSet.{with_flow};
 ghost use Rattle.flow_set.specs.inner.FlowSetView.{IsFlowSet};
-ghost use Rattle.flow_set.specs.inner.Steps.{untried, stepped, taken_back};
+ghost use Rattle.flow_set.specs.inner.Steps.{untried, stepped, undone};
 ghost use Rattle.reach_core.specs.Walks.{Joined};
 
-use crate::stepped::SteppedRows;
-use flow_set::{Flow, FlowSet, FlowSteps, HostSet};
+use crate::stepped::UndoableRows;
+use flow_set::{Flow, FlowSet, HostSet, UndoableFlowSet};
 use std::alloc::{AllocError, Global};
 use std::marker::Model;
 
 /// The walks along a set of flows, forwards or backwards.
 #[derive(Drop)]
 pub struct JoinClosure {
-    steps: FlowSteps,
-    joined: SteppedRows,
+    steps: UndoableFlowSet,
+    joined: UndoableRows,
 }
 
 impl Model for JoinClosure {
-    ghost use Rattle.flow_set.specs.inner.Steps.{TriedFlows};
+    ghost use Rattle.flow_set.specs.inner.Steps.{UndoableFlows};
     ghost use Rattle.reach_core.specs.inner.Rows.{HasJoinRows};
 
-    ghost Value = { TriedFlows };
+    ghost Value = { UndoableFlows };
 
     ghost view = { λ c. c.steps };
 
@@ -40,8 +40,8 @@ impl JoinClosure {
     {
         let none = FlowSet::empty(alloc, size)?;
         Ok(JoinClosure {
-            steps: FlowSteps::new(alloc, &none)?,
-            joined: SteppedRows::new(alloc, size)?,
+            steps: UndoableFlowSet::new(alloc, &none)?,
+            joined: UndoableRows::new(alloc, size)?,
         })
     }
 
@@ -49,7 +49,7 @@ impl JoinClosure {
     pub fn of(alloc: Global, e: &FlowSet) -> Result<JoinClosure, AllocError>
         ensures { IfOk result (λ closure. closure ≡ untried e.now) }
     {
-        let steps = FlowSteps::new(alloc, e)?;
+        let steps = UndoableFlowSet::new(alloc, e)?;
         let mut closure = JoinClosure::none(alloc, e.size())?;
         for f in e.iter() {
             closure.try_add(f);
@@ -69,7 +69,7 @@ impl JoinClosure {
             self.joined.keep();
         } else {
             let all = self.joined_by(f);
-            self.joined.widen(&all, &all);
+            self.joined.union_into(&all, &all);
         }
         self.steps.step(f);
     }
@@ -77,7 +77,7 @@ impl JoinClosure {
     /// Undoes the last `try_add`.
     pub fn undo(&mut self)
         requires { IsSome self.old.before_step }
-        ensures { self.new ≡ taken_back self.old }
+        ensures { self.new ≡ undone self.old }
     {
         self.joined.back();
         self.steps.back();

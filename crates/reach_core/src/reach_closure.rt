@@ -6,29 +6,29 @@ ghost use Rattle.std.specs.FinSet as set;
 ghost use Rattle.flow_set.specs.Flow.{IsFlow};
 ghost use Rattle.flow_set.specs.FlowSet.{with_flow};
 ghost use Rattle.flow_set.specs.inner.FlowSetView.{IsFlowSet};
-ghost use Rattle.flow_set.specs.inner.Steps.{untried, stepped, taken_back};
+ghost use Rattle.flow_set.specs.inner.Steps.{untried, stepped, undone};
 ghost use Rattle.reach_core.specs.Walks.{Reaches};
 ghost use Rattle.reach_core.specs.inner.Counting.{ReachesExactly};
 ghost use Rattle.reach_core.specs.inner.Opening.{ReachesOnlyWith};
 
-use crate::stepped::SteppedRows;
-use flow_set::{Flow, FlowSet, FlowSteps, HostSet};
+use crate::stepped::UndoableRows;
+use flow_set::{Flow, FlowSet, HostSet, UndoableFlowSet};
 use std::alloc::{AllocError, Global};
 use std::marker::Model;
 
 /// The walks along a set of flows.
 #[derive(Drop)]
 pub struct ReachClosure {
-    steps: FlowSteps,
-    reached: SteppedRows,
-    coming: SteppedRows,
+    steps: UndoableFlowSet,
+    reached: UndoableRows,
+    coming: UndoableRows,
 }
 
 impl Model for ReachClosure {
-    ghost use Rattle.flow_set.specs.inner.Steps.{TriedFlows};
+    ghost use Rattle.flow_set.specs.inner.Steps.{UndoableFlows};
     ghost use Rattle.reach_core.specs.inner.Rows.{HasReachRows};
 
-    ghost Value = { TriedFlows };
+    ghost Value = { UndoableFlows };
 
     ghost view = { λ c. c.steps };
 
@@ -43,9 +43,9 @@ impl ReachClosure {
     {
         let none = FlowSet::empty(alloc, size)?;
         Ok(ReachClosure {
-            steps: FlowSteps::new(alloc, &none)?,
-            reached: SteppedRows::new(alloc, size)?,
-            coming: SteppedRows::new(alloc, size)?,
+            steps: UndoableFlowSet::new(alloc, &none)?,
+            reached: UndoableRows::new(alloc, size)?,
+            coming: UndoableRows::new(alloc, size)?,
         })
     }
 
@@ -53,7 +53,7 @@ impl ReachClosure {
     pub fn of(alloc: Global, e: &FlowSet) -> Result<ReachClosure, AllocError>
         ensures { IfOk result (λ closure. closure ≡ untried e.now) }
     {
-        let steps = FlowSteps::new(alloc, e)?;
+        let steps = UndoableFlowSet::new(alloc, e)?;
         let mut closure = ReachClosure::none(alloc, e.size())?;
         for f in e.iter() {
             closure.try_add(f);
@@ -73,10 +73,10 @@ impl ReachClosure {
             self.reached.keep();
             self.coming.keep();
         } else {
-            let senders = self.opened_by(f);
+            let senders = self.newly_reaching(f);
             let beyond = self.opened_to(f);
-            self.reached.widen(&senders, &beyond);
-            self.coming.widen(&beyond, &senders);
+            self.reached.union_into(&senders, &beyond);
+            self.coming.union_into(&beyond, &senders);
         }
         self.steps.step(f);
     }
@@ -84,7 +84,7 @@ impl ReachClosure {
     /// Undoes the last `try_add`.
     pub fn undo(&mut self)
         requires { IsSome self.old.before_step }
-        ensures { self.new ≡ taken_back self.old }
+        ensures { self.new ≡ undone self.old }
     {
         self.reached.back();
         self.coming.back();
@@ -115,7 +115,7 @@ impl ReachClosure {
     }
 
     /// Returns the hosts that reach `j`.
-    pub fn coming_to(&self, j: u16) -> &HostSet
+    pub fn ancestors_of(&self, j: u16) -> &HostSet
         requires { j < self.now.size }
         ensures { (i : ℕ) → IsTrue (set.contains result.now i) ↔ Reaches self.now.flows i j }
     {
@@ -124,16 +124,16 @@ impl ReachClosure {
 
     /// Returns the hosts that reach the receiver of a flow only with this flow. No other host
     /// reaches more with it.
-    pub fn opened_by(&self, f: Flow) -> HostSet
+    pub fn newly_reaching(&self, f: Flow) -> HostSet
         requires { IsFlow self.now.size f }
         ensures hosts { (i : ℕ) → IsTrue (set.contains result i) ↔ ReachesOnlyWith f self.now.flows i f.to }
         ensures others { (i j : ℕ) → IsFalse (set.contains result i) → Reaches (with_flow self.now.flows f) i j
             → Reaches self.now.flows i j }
     {
         let _ = self.size();
-        let mut hosts = self.coming_to(f.from).copy();
+        let mut hosts = self.ancestors_of(f.from).copy();
         hosts.insert(f.from);
-        hosts.remove_all(self.coming_to(f.to));
+        hosts.remove_all(self.ancestors_of(f.to));
         hosts
     }
 

@@ -12,19 +12,19 @@ use std::alloc::{AllocError, Global};
 
 // The rows of a closure that grows in steps.
 #[derive(Drop)]
-pub struct SteppedRows {
+pub struct UndoableRows {
     rows: Rows,
     // The rows of the changed hosts before the last step. Its other rows are unused space.
     before: Rows,
     changed: HostSet,
 }
 
-impl SteppedRows {
+impl UndoableRows {
     // Returns empty rows, before any step.
-    pub fn new(alloc: Global, size: u16) -> Result<SteppedRows, AllocError>
+    pub fn new(alloc: Global, size: u16) -> Result<UndoableRows, AllocError>
         ensures { IfOk result (λ new. new ≡ record { rows = replicate size set.empty; before = replicate size set.empty; changed = set.empty }) }
     {
-        Ok(SteppedRows {
+        Ok(UndoableRows {
             rows: Rows::new(alloc, size)?,
             before: Rows::new(alloc, size)?,
             changed: HostSet::empty(),
@@ -46,7 +46,7 @@ impl SteppedRows {
     }
 
     // Makes a step that inserts the hosts of `by` into the rows of `hosts`.
-    pub fn widen(&mut self, hosts: &HostSet, by: &HostSet)
+    pub fn union_into(&mut self, hosts: &HostSet, by: &HostSet)
         requires room { length self.old.before ≡ length self.old.rows }
         requires small { length self.old.rows ≤ 256 }
         requires below { AreBelow hosts.now (length self.old.rows) }

@@ -4,7 +4,7 @@ mod OffenceLemmas
 mod Pushing
 pub mod ReportLaws
 pub mod ReportPromisesLaws
-mod RulingLemmas
+mod FlowStatusLemmas
 mod Steps
 pub mod TraceLaws
 mod Worked

@@ -7,29 +7,29 @@ use Rattle.desc_form.specs.Refusals.{name, number}
 use Rattle.desc_form.specs.declared.refusal.Refusal.{Refusal}
 use Rattle.desc_form.specs.declared.refusal.Why.{Why}
 use Rattle.desc_form.specs.declared.refusal.Why.TheVariants.{TooLong, NotToml, UnknownKey, MissingKey, WrongType, BadVersion, TooMany, BadName, DuplicateHost, BadPrefix, HostBits, NoAddress, TwoRests, Overlap, UnknownTemplate, UndeclaredHost, DuplicateAssign, BadAttribute, SelfFlow, DuplicateFlow, BadService, ManyServices, BadTemplate, NotLawful}
-use Rattle.report_core.specs.RefusalLine.{cause_text, if_named, if_told, place_text, refusal_text}
+use Rattle.report_core.specs.RefusalLine.{cause_text, if_nonempty, if_nonzero, place_text, refusal_text}
 
 pub decimal_short : (n : ℕ) → n < 2 ^ 64 → length (decimal n) ≤ 20
 decimal_short n fits = length-decimal-le 20 n (omega arith) (omega (arith, fits)) fits
 
 -- A number that is printed, and a name.
-pub told : (word : List ℕ) (n : ℕ) → n ≢ 0 → if_told word n ≡ word ++ decimal n
+pub told : (word : List ℕ) (n : ℕ) → n ≢ 0 → if_nonzero word n ≡ word ++ decimal n
 told word zero some = absurd (some refl)
 told word (suc k) some = refl
 
-pub told_short : (word : List ℕ) (n : ℕ) → n < 2 ^ 64 → length (if_told word n) ≤ length word + 20
+pub told_short : (word : List ℕ) (n : ℕ) → n < 2 ^ 64 → length (if_nonzero word n) ≤ length word + 20
 told_short word zero fits = omega arith
 told_short word (suc k) fits = simp length-append (omega (arith, decimal_short (suc k) fits))
 
-pub named : (name : List ℕ) → (length name == 0) ≡ false → if_named name ≡ codes ": " ++ name
+pub named : (name : List ℕ) → (length name == 0) ≡ false → if_nonempty name ≡ codes ": " ++ name
 named [] some = cc
 named (b ∷ bs) some = refl
 
-pub unnamed : (name : List ℕ) → (length name == 0) ≡ true → if_named name ≡ []
+pub unnamed : (name : List ℕ) → (length name == 0) ≡ true → if_nonempty name ≡ []
 unnamed [] nothing = refl
 unnamed (b ∷ bs) some = absurd (omega (arith, eqb-true _ _ some))
 
-pub named_short : (name : List ℕ) → length name ≤ 32 → length (if_named name) ≤ 34
+pub named_short : (name : List ℕ) → length name ≤ 32 → length (if_nonempty name) ≤ 34
 named_short [] short = omega arith
 named_short (b ∷ bs) short = omega (arith, short)
 
@@ -70,9 +70,9 @@ numbered_short word n fits = simp length-append (omega (arith, decimal_short n f
 pub record IsShort (r : Refusal) : Type 0 where
   pub cause : length (cause_text r.why) ≤ 36
   pub place : length (place_text r.place) ≤ 58
-  pub item : length (if_told (codes " item ") r.item) ≤ 26
-  pub other : length (if_told (codes ", other ") r.other) ≤ 28
-  pub name : length (if_named r.name) ≤ 34
+  pub item : length (if_nonzero (codes " item ") r.item) ≤ 26
+  pub other : length (if_nonzero (codes ", other ") r.other) ≤ 28
+  pub name : length (if_nonempty r.name) ≤ 34
 
 pub refusal_short : (r : Refusal) → IsShort r → length (refusal_text r) ≤ 256
 unfolding refusal_text

@@ -5,7 +5,7 @@ use Rattle.std.specs.Prelude.{◌↔◌, IsTrue, IsNone, is_some}
 use Rattle.std.proofs.lemmas.Bool.{and_parts, and_from, not-false}
 use Rattle.std.proofs.lemmas.List.{take_all}
 use Rattle.std.proofs.lemmas.List.Elements.{All-more}
-use Rattle.text_core.specs.Firsts.{Numbered, numbered_from}
+use Rattle.text_core.specs.FirstMatch.{Numbered, numbered_from}
 use Rattle.host_net.specs.Host.{Host}
 use Rattle.net_core.specs.Network.{Network}
 use Rattle.flow_set.specs.FlowSet.{SetOfFlows}
@@ -13,21 +13,21 @@ use Rattle.flow_set.specs.declared.flow.Flow.{Flow}
 use Rattle.inv_any.specs.declared.any_inv.AnyInv.{AnyInv}
 use Rattle.permit_core.specs.Policy.{AllHold}
 use Rattle.net_core.specs.Policies.{holds_on}
-use Rattle.report_core.specs.CheckReport.{IsOffence, AreOffences, offence_text, IsCheckReport}
+use Rattle.report_core.specs.CheckReport.{IsViolation, AreViolations, violation_text, IsCheckReport}
 
 -- The report on invariants, the first of which has this number.
 abbrev pub text_from : List Host → ℕ → List AnyInv → List (Option (List Flow)) → List ℕ
 text_from hosts number invs offences =
-    flat_map (λ (told : Numbered AnyInv × Option (List Flow)). offence_text hosts told.0.number told.0.what told.1) (zip (numbered_from number invs) offences)
+    flat_map (λ (told : Numbered AnyInv × Option (List Flow)). violation_text hosts told.0.number told.0.what told.1) (zip (numbered_from number invs) offences)
 
 -- The text followed by the report on the remaining invariants, from a number on, is the report.
 abbrev pub GoesOn : Network → List ℕ → ℕ → List AnyInv → Type 0
-GoesOn d text number left = (rest : List (Option (List Flow))) → AreOffences left d.asked.flows rest → IsCheckReport d (text ++ text_from d.hosts number left rest)
+GoesOn d text number left = (rest : List (Option (List Flow))) → AreViolations left d.asked.flows rest → IsCheckReport d (text ++ text_from d.hosts number left rest)
 
-pub goes_next : (d : Network) (text new : List ℕ) (invs : List AnyInv) (i : ℕ) (inv : AnyInv) (o : Option (List Flow)) → i < length invs → inv ≡ get_or invs i inv → GoesOn d text (i + 1) (drop i invs) → IsOffence (holds_on inv) d.asked.flows o → new ≡ text ++ offence_text d.hosts (i + 1) inv o → GoesOn d new (i + 1 + 1) (drop (i + 1) invs)
+pub goes_next : (d : Network) (text new : List ℕ) (invs : List AnyInv) (i : ℕ) (inv : AnyInv) (o : Option (List Flow)) → i < length invs → inv ≡ get_or invs i inv → GoesOn d text (i + 1) (drop i invs) → IsViolation (holds_on inv) d.asked.flows o → new ≡ text ++ violation_text d.hosts (i + 1) inv o → GoesOn d new (i + 1 + 1) (drop (i + 1) invs)
 goes_next d text new invs i inv o within is so_far offence written rest found =
     let later : List ℕ = text_from d.hosts (i + 1 + 1) (drop (i + 1) invs) rest in
-    let line : List ℕ = offence_text d.hosts (i + 1) inv o in
+    let line : List ℕ = violation_text d.hosts (i + 1) inv o in
     let left : drop i invs ≡ inv ∷ drop (i + 1) invs = rw (add-one i) (drop-cons invs i inv within ∙ ap (λ x. x ∷ drop (suc i) invs) (sym is)) in
     let on : GoesOn d text (i + 1) (inv ∷ drop (i + 1) invs) = subst (GoesOn d text (i + 1)) left so_far in
     let whole : IsCheckReport d (text ++ (line ++ later)) = on (o ∷ rest) (offence, found) in

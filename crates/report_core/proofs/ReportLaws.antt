@@ -15,14 +15,14 @@ use Rattle.inv_any.specs.declared.any_inv.AnyInv.{AnyInv}
 use Rattle.permit_core.specs.Policy.{IsFirstFailing}
 use Rattle.net_core.specs.Policies.{Policy, holds_on}
 use Rattle.net_core.proofs.PolicyLaws.{policy_is_one}
-use Rattle.report_core.specs.CheckReport.{IsOffence, AreOffences, check_text, IsCheckReport}
-use Rattle.report_core.specs.PolicyReport.{IsRuling, policy_text, IsPolicyReport, Ruling, Answered, Allowed, NotAsked, Denied}
+use Rattle.report_core.specs.CheckReport.{IsViolation, AreViolations, check_text, IsCheckReport}
+use Rattle.report_core.specs.PolicyReport.{IsFlowStatus, policy_text, IsPolicyReport, FlowStatus, Answered, Allowed, NotAsked, Denied}
 use Rattle.report_core.proofs.ZipLaws.{zip_once}
 
 -- ---- the report of the invariants
 
-offence_is_one : (Holds : List Flow → Type 0) (asked : List Flow) (o p : Option (List Flow)) → IsOffence Holds asked o
-    → IsOffence Holds asked p → o ≡ p
+offence_is_one : (Holds : List Flow → Type 0) (asked : List Flow) (o p : Option (List Flow)) → IsViolation Holds asked o
+    → IsViolation Holds asked p → o ≡ p
 offence_is_one Holds asked None None a b = refl
 offence_is_one Holds asked None (Some ys) a b = absurd (b.0 a)
 offence_is_one Holds asked (Some xs) None a b = absurd (a.0 b)
@@ -32,22 +32,22 @@ offence_is_one Holds asked (Some xs) (Some ys) (fails, (first, is_first, rest)) 
 -- The finding for an invariant that fails is a minimal offending set: the invariant holds without these flows, and none of them can be
 -- retained.
 pub offence_is_minimal : (Holds : List Flow → Type 0) (asked offending : List Flow) → IsOrdered asked
-    → IsOffence Holds asked (Some offending) → IsMinimalOffending Holds asked offending
+    → IsViolation Holds asked (Some offending) → IsMinimalOffending Holds asked offending
 offence_is_minimal Holds asked offending ordered (fails, (first, is_first, rest)) =
     subst (IsMinimalOffending Holds asked) (sym rest) (first_offending Holds asked first ordered is_first fails)
 
-found_by_cases : (Holds : List Flow → Type 0) (asked : List Flow) (found : Option SetOfFlows) → (IsNone found ↔ Holds asked) → IfSome found (λ f. (first : List Flow) × IsFirst Holds asked first × (f.flows ≡ without asked first)) → IsOffence Holds asked (option_map (λ set. set.flows) found)
+found_by_cases : (Holds : List Flow → Type 0) (asked : List Flow) (found : Option SetOfFlows) → (IsNone found ↔ Holds asked) → IfSome found (λ f. (first : List Flow) × IsFirst Holds asked first × (f.flows ≡ without asked first)) → IsViolation Holds asked (option_map (λ set. set.flows) found)
 found_by_cases Holds asked None holds rest = holds.0 refl
 found_by_cases Holds asked (Some f) holds rest = (λ met. absurd (false≢true (sym (holds.1 met))), rest)
 
 -- The finding for an invariant on the flows that were read is the finding on the asked flows.
-pub offence_found : (Holds : List Flow → Type 0) (asked read : SetOfFlows) (found : Option SetOfFlows) → read ≡ asked → (IsNone found ↔ Holds read.flows) → IfSome found (λ f. (first : List Flow) × IsFirst Holds read.flows first × (f.flows ≡ without read.flows first)) → IsOffence Holds asked.flows (option_map (λ set. set.flows) found)
+pub offence_found : (Holds : List Flow → Type 0) (asked read : SetOfFlows) (found : Option SetOfFlows) → read ≡ asked → (IsNone found ↔ Holds read.flows) → IfSome found (λ f. (first : List Flow) × IsFirst Holds read.flows first × (f.flows ≡ without read.flows first)) → IsViolation Holds asked.flows (option_map (λ set. set.flows) found)
 offence_found Holds asked read found same holds rest =
-    subst (λ (s : SetOfFlows). IsOffence Holds s.flows (option_map (λ set. set.flows) found)) same (found_by_cases Holds read.flows found holds rest)
+    subst (λ (s : SetOfFlows). IsViolation Holds s.flows (option_map (λ set. set.flows) found)) same (found_by_cases Holds read.flows found holds rest)
 
-pub offences_are_one : (invs : List AnyInv) (asked : List Flow) (os ps : List (Option (List Flow))) → AreOffences invs asked os
-    → AreOffences invs asked ps → os ≡ ps
-offences_are_one invs asked = zip_once (λ (inv : AnyInv). IsOffence (holds_on inv) asked) (λ inv. offence_is_one (holds_on inv) asked) invs
+pub offences_are_one : (invs : List AnyInv) (asked : List Flow) (os ps : List (Option (List Flow))) → AreViolations invs asked os
+    → AreViolations invs asked ps → os ≡ ps
+offences_are_one invs asked = zip_once (λ (inv : AnyInv). IsViolation (holds_on inv) asked) (λ inv. offence_is_one (holds_on inv) asked) invs
 
 pub check_report_is_one : (d : Network) (a b : List ℕ) → IsCheckReport d a → IsCheckReport d b → a ≡ b
 check_report_is_one d a b p q =
@@ -83,7 +83,7 @@ first_failing_is_one HoldsOn invs e n m a b = elim (cases_lt n m) [
   ]
 ]
 
-ruling_is_one : (d : Network) (policy : Policy) (f : Flow) (r s : Ruling) → IsRuling d policy f r → IsRuling d policy f s → r ≡ s
+ruling_is_one : (d : Network) (policy : Policy) (f : Flow) (r s : FlowStatus) → IsFlowStatus d policy f r → IsFlowStatus d policy f s → r ≡ s
 ruling_is_one d policy f Answered s a b = sym (b.answered.1 (a.answered.0 refl))
 ruling_is_one d policy f NotAsked s a b = sym (b.not_asked.1 (a.not_asked.0 refl))
 ruling_is_one d policy f Allowed s a b = elim (b.allowed.1 (a.allowed.0 (inr refl))) [
@@ -100,7 +100,7 @@ pub policy_report_is_one : (d : Network) (a b : List ℕ) → IsPolicyReport d a
 policy_report_is_one d a b p q =
     let flows : List Flow = every_flow (length d.hosts) in
     let same : p.policy ≡ q.policy = policy_is_one d p.policy q.policy p.is_policy q.is_policy in
-    let found : AllZip (IsRuling d q.policy) flows p.rulings = subst (λ (policy : Policy). AllZip (IsRuling d policy) flows p.rulings) same p.found in
+    let found : AllZip (IsFlowStatus d q.policy) flows p.rulings = subst (λ (policy : Policy). AllZip (IsFlowStatus d policy) flows p.rulings) same p.found in
     p.written
-    ∙ ap (policy_text d flows) (zip_once (IsRuling d q.policy) (ruling_is_one d q.policy) flows p.rulings q.rulings found q.found)
+    ∙ ap (policy_text d flows) (zip_once (IsFlowStatus d q.policy) (ruling_is_one d q.policy) flows p.rulings q.rulings found q.found)
     ∙ sym q.written

@@ -6,18 +6,18 @@ use Rattle.host_net.specs.declared.packet.CtState.{CtState}
 use Rattle.host_net.specs.Packet.{IsPacket}
 use Rattle.host_net.specs.Verdict.{verdict_if}
 use Rattle.ipt_rules.specs.Chain.{Chain}
-use Rattle.ipt_rules.specs.Meaning.{Passes}
+use Rattle.ipt_rules.specs.Semantics.{Passes}
 use Rattle.ipt_rules.proofs.MeaningLaws.{verdict_once}
 use Rattle.ofp_rules.specs.declared.entry.Entry.{Entry}
 use Rattle.ofp_rules.specs.declared.entry.Frame.TheVariants.{Ipv4}
 use Rattle.ofp_rules.specs.inner.Build.{IsTable}
-use Rattle.ofp_rules.specs.Meaning.{Passes as TablePasses}
+use Rattle.ofp_rules.specs.Semantics.{Passes as TablePasses}
 use Rattle.pkt_core.specs.declared.event.Event.{Event}
 use Rattle.pkt_core.specs.declared.event.Event.TheVariants.{Seen, Forget}
 use Rattle.pkt_core.specs.inner.FirewallFor.{AllKnown}
 use Rattle.pkt_core.specs.Firewall.{Filter}
-use Rattle.pkt_core.specs.Tracking.{Kept, Runs, after_seen, after_forget, nothing_kept}
-use Rattle.report_core.specs.Trace.{IsTrace, TellsRun, answer_lines}
+use Rattle.pkt_core.specs.Tracking.{ConnectionTable, Runs, after_seen, after_forget, no_connections}
+use Rattle.report_core.specs.Trace.{IsTrace, ReportsRun, answer_lines}
 
 -- A known packet in a state has at most one result.
 abbrev pub AnswersOnce : (Packet → Type 0) → Filter → Type 0
@@ -47,7 +47,7 @@ known_later : (Known : Packet → Type 0) (event : Event) (events : List Event) 
 known_later Known event events known k p seen = known (suc k) p seen
 
 module _ (Known : Packet → Type 0) (filter : Filter) (once : AnswersOnce Known filter) where
-  pub runs_once : (kept : Kept) (events : List Event) → AllKnown Known events → (answers others : List (Option Bool))
+  pub runs_once : (kept : ConnectionTable) (events : List Event) → AllKnown Known events → (answers others : List (Option Bool))
       → Runs filter kept events answers → Runs filter kept events others → answers ≡ others
   runs_once kept [] known [] [] run other = refl
   runs_once kept [] known [] (b ∷ others) run other = absurd other
@@ -73,11 +73,11 @@ module _ (Known : Packet → Type 0) (filter : Filter) (once : AnswersOnce Known
   pub trace_is_one : (events : List Event) → AllKnown Known events → (a b : List ℕ) → IsTrace filter events a
       → IsTrace filter events b → a ≡ b
   trace_is_one events known a b p q =
-      p.written ∙ ap answer_lines (runs_once nothing_kept events known p.answers q.answers p.run q.run) ∙ sym q.written
+      p.written ∙ ap answer_lines (runs_once no_connections events known p.answers q.answers p.run q.run) ∙ sym q.written
 
   -- So it reports the only run.
-  pub tells_run : (events : List Event) → AllKnown Known events → (text : List ℕ) → IsTrace filter events text → TellsRun filter events text
-  tells_run events known text is = record {
+  pub reports_run : (events : List Event) → AllKnown Known events → (text : List ℕ) → IsTrace filter events text → ReportsRun filter events text
+  reports_run events known text is = record {
     is = is;
-    one = λ answers run. runs_once nothing_kept events known answers is.answers run is.run;
+    one = λ answers run. runs_once no_connections events known answers is.answers run is.run;
   }

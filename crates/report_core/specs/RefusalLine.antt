@@ -16,14 +16,14 @@ place_text (FlowAt k) = codes "flow " ++ decimal k
 place_text (Template k) = codes "template " ++ decimal k
 
 -- A number after a word, if there is one.
-abbrev pub if_told : List ℕ → ℕ → List ℕ
-if_told word zero = []
-if_told word (suc k) = word ++ decimal (suc k)
+abbrev pub if_nonzero : List ℕ → ℕ → List ℕ
+if_nonzero word zero = []
+if_nonzero word (suc k) = word ++ decimal (suc k)
 
 -- A name after a colon, if there is one.
-abbrev pub if_named : List ℕ → List ℕ
-if_named [] = []
-if_named (b ∷ bs) = codes ": " ++ b ∷ bs
+abbrev pub if_nonempty : List ℕ → List ℕ
+if_nonempty [] = []
+if_nonempty (b ∷ bs) = codes ": " ++ b ∷ bs
 
 -- A cause, by its number and its name: 11 HostBits.
 unfoldable pub cause_text : Why → List ℕ
@@ -36,6 +36,6 @@ refusal_text r =
     ++ (cause_text r.why
     ++ (codes " at "
     ++ (place_text r.place
-    ++ (if_told (codes " item ") r.item
-    ++ (if_told (codes ", other ") r.other
-    ++ (if_named r.name ++ codes "\n"))))))
+    ++ (if_nonzero (codes " item ") r.item
+    ++ (if_nonzero (codes ", other ") r.other
+    ++ (if_nonempty r.name ++ codes "\n"))))))

@@ -1,8 +1,8 @@
 -- The printed text of a run: the result of each event, by its number from 1 (docs/TEXTS.md).
 use Rattle.std.specs.Prelude.{◌≡◌, ℕ, Bool, true, false, List, ◌++◌, flat_map, Option, Some, None, codes, decimal}
-use Rattle.text_core.specs.Firsts.{Numbered, numbered}
+use Rattle.text_core.specs.FirstMatch.{Numbered, numbered}
 use Rattle.pkt_core.specs.declared.event.Event.{Event}
-use Rattle.pkt_core.specs.Filter.{RunsFromNothing}
+use Rattle.pkt_core.specs.Filter.{RunsFromNoConnections}
 use Rattle.pkt_core.specs.Firewall.{Filter}
 
 -- The line of an event: a packet is forwarded or dropped, or a connection is forgotten.
@@ -18,10 +18,10 @@ answer_lines answers = flat_map (λ (told : Numbered (Option Bool)). answer_line
 -- The text lists the results of a run of the filter over the events, from an empty connection table.
 pub record IsTrace (filter : Filter) (events : List Event) (text : List ℕ) : Type 0 where
   pub answers : List (Option Bool)
-  pub run : RunsFromNothing filter events answers
+  pub run : RunsFromNoConnections filter events answers
   pub written : text ≡ answer_lines answers
 
 -- The filter has exactly one run over the events, and the text lists its results.
-pub record TellsRun (filter : Filter) (events : List Event) (text : List ℕ) : Type 0 where
+pub record ReportsRun (filter : Filter) (events : List Event) (text : List ℕ) : Type 0 where
   pub is : IsTrace filter events text
-  pub one : (answers : List (Option Bool)) → RunsFromNothing filter events answers → answers ≡ is.answers
+  pub one : (answers : List (Option Bool)) → RunsFromNoConnections filter events answers → answers ≡ is.answers

@@ -1,4 +1,4 @@
 pub mod Growing
-pub mod RulingView
+pub mod FlowStatusView
 pub mod Rulings
 pub mod Trying

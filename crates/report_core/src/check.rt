@@ -3,7 +3,7 @@ ghost use Rattle.std.specs.Prelude.{◌≡◌, ◌<◌, ◌↔◌, ◌++◌, [],
 ghost use Rattle.std.specs.List.{flat_map};
 ghost use Rattle.std.specs.Option.{option_map, ForSome};
 ghost use Rattle.net_core.specs.Policies.{MeetsAll};
-ghost use Rattle.report_core.specs.CheckReport.{IsCheckReport, offence_text, offending_line};
+ghost use Rattle.report_core.specs.CheckReport.{IsCheckReport, violation_text, offending_line};
 
 use crate::names::{push_flow, push_invariant};
 use crate::report::Report;
@@ -55,7 +55,7 @@ fn push_offence(
 ) -> Result<(), AllocError>
     requires { ForSome offence.now (λ flows. flows.size ≡ length hosts.now) }
     ensures { OnOk result (text.new.items ≡ text.old.items
-        ++ offence_text hosts.now number invariant.now (option_map (λ set. set.flows) offence.now)) }
+        ++ violation_text hosts.now number invariant.now (option_map (λ set. set.flows) offence.now)) }
 {
     text.extend_from_slice(b"invariant ")?;
     push_invariant(text, number, invariant)?;

@@ -3,12 +3,12 @@
 #![tactic(auto)]
 
 mod check;
+mod flow_status;
 mod line;
 mod names;
 mod policy;
 mod refusal;
 mod report;
-mod ruling;
 mod run;
 
 pub use check::check_report;

@@ -7,13 +7,13 @@ ghost use Rattle.net_core.specs.Policies.{IsPolicyOf};
 ghost use Rattle.report_core.specs.inner.Growing.{Grows};
 ghost use Rattle.report_core.specs.PolicyReport.{IsPolicyReport, ruling_line, ruling_text};
 ghost use Rattle.report_core.specs.PolicyReport as meant;
-ghost use Rattle.report_core.specs.inner.RulingView.{IsWithin, ruling_view};
-ghost use Rattle.report_core.specs.inner.Rulings.{IsFound, TellsRulings};
+ghost use Rattle.report_core.specs.inner.FlowStatusView.{IsWithin, ruling_view};
+ghost use Rattle.report_core.specs.inner.Rulings.{IsFound, ReportsStatuses};
 ghost use Rattle.report_core.specs.inner.Trying.{AreTriedOn};
 
+use crate::flow_status::FlowStatus;
 use crate::names::{push_flow, push_invariant};
 use crate::report::Report;
-use crate::ruling::Ruling;
 use flow_set::Flow;
 use inv_any::{AnyInv, AnyTrial};
 use net_core::{Description, Policy, policy_of};
@@ -21,7 +21,7 @@ use permit_core::{blame_by_steps, trials_of};
 use std::alloc::{AllocError, Global};
 
 /// Returns, for each flow between two hosts, its status and the reason.
-#[tactic(auto, using(crate::proofs::RulingLemmas::is_report))]
+#[tactic(auto, using(crate::proofs::FlowStatusLemmas::is_report))]
 pub fn policy_report(alloc: Global, description: &Description) -> Result<Report, AllocError>
     ensures report { IfOk result (λ made. IsPolicyReport description.now made) }
 {
@@ -42,7 +42,7 @@ fn push_rulings(
 ) -> Result<(), AllocError>
     requires policy { IsPolicyOf description.now policy.now }
     requires tried { AreTriedOn description.now policy.now.permitted.flows trials.old.items }
-    ensures { OnOk result (Grows (TellsRulings description.now policy.now
+    ensures { OnOk result (Grows (ReportsStatuses description.now policy.now
         (every_flow (length description.now.hosts))) text.old.items text.new.items) }
 {
     for from in 0..description.hosts().count() {
@@ -62,7 +62,7 @@ fn push_rulings_from(
     requires policy { IsPolicyOf description.now policy.now }
     requires tried { AreTriedOn description.now policy.now.permitted.flows trials.old.items }
     requires from { from < length description.now.hosts }
-    ensures told { OnOk result (Grows (TellsRulings description.now policy.now
+    ensures told { OnOk result (Grows (ReportsStatuses description.now policy.now
         (flat_map (flow_or_none from) (range_with_len 0 (length description.now.hosts)))) text.old.items text.new.items) }
     ensures tried { AreTriedOn description.now policy.now.permitted.flows trials.new.items }
 {
@@ -84,15 +84,15 @@ fn push_ruling_between(
     requires tried { AreTriedOn description.now policy.now.permitted.flows trials.old.items }
     requires from { flow.from < length description.now.hosts }
     requires to { flow.to < length description.now.hosts }
-    ensures told { OnOk result (Grows (TellsRulings description.now policy.now
+    ensures told { OnOk result (Grows (ReportsStatuses description.now policy.now
         (flow_or_none flow.from flow.to)) text.old.items text.new.items) }
     ensures tried { AreTriedOn description.now policy.now.permitted.flows trials.new.items }
 {
     if flow.from == flow.to {
         return Ok(());
     }
-    let ruling = ruling_of(description, policy, trials, flow);
-    push_ruling_line(text, description, flow, ruling)
+    let flow_status = ruling_of(description, policy, trials, flow);
+    push_ruling_line(text, description, flow, flow_status)
 }
 
 fn ruling_of(
@@ -100,26 +100,26 @@ fn ruling_of(
     policy: &Policy,
     trials: &mut Vec<AnyTrial>,
     flow: Flow,
-) -> Ruling
+) -> FlowStatus
     requires policy { IsPolicyOf description.now policy.now }
     requires tried { AreTriedOn description.now policy.now.permitted.flows trials.old.items }
     requires flow { IsFlow (length description.now.hosts) flow }
-    ensures ruling { IsFound description.now policy.now flow (ruling_view result) }
+    ensures flow_status { IsFound description.now policy.now flow (ruling_view result) }
     ensures tried { AreTriedOn description.now policy.now.permitted.flows trials.new.items }
 {
     let asked = description.asked();
     if policy.stateful().has(flow) {
-        return Ruling::Answered;
+        return FlowStatus::Answered;
     }
     if policy.permitted().has(flow) {
-        return Ruling::Allowed;
+        return FlowStatus::Allowed;
     }
     if !asked.has(flow) {
-        return Ruling::NotAsked;
+        return FlowStatus::NotAsked;
     }
     let invariants = description.invariants();
     match blame_by_steps(invariants, trials, policy.permitted(), flow) {
-        Some(number) => Ruling::Denied(number),
+        Some(number) => FlowStatus::Denied(number),
         // Some invariant denies a flow that is asked for and not permitted.
         None => unreachable!(),
     }
@@ -130,27 +130,31 @@ fn push_ruling_line(
     text: &mut Vec<u8>,
     description: &Description,
     flow: Flow,
-    ruling: Ruling,
+    flow_status: FlowStatus,
 ) -> Result<(), AllocError>
     requires flow { IsFlow (length description.now.hosts) flow }
-    requires ruling { IsWithin (length description.now.invariants) (ruling_view ruling) }
-    ensures { OnOk result (text.new.items ≡ text.old.items ++ ruling_line description.now flow (ruling_view ruling)) }
+    requires flow_status { IsWithin (length description.now.invariants) (ruling_view flow_status) }
+    ensures { OnOk result (text.new.items ≡ text.old.items ++ ruling_line description.now flow (ruling_view flow_status)) }
 {
     push_flow(text, description.hosts(), flow)?;
     text.extend_from_slice(b" ")?;
-    push_ruling(text, description.invariants(), ruling)?;
+    push_ruling(text, description.invariants(), flow_status)?;
     text.extend_from_slice(b"\n")
 }
 
-fn push_ruling(text: &mut Vec<u8>, invariants: &[AnyInv], ruling: Ruling) -> Result<(), AllocError>
-    requires { IsWithin (length invariants.now) (ruling_view ruling) }
-    ensures { OnOk result (text.new.items ≡ text.old.items ++ ruling_text invariants.now (ruling_view ruling)) }
+fn push_ruling(
+    text: &mut Vec<u8>,
+    invariants: &[AnyInv],
+    flow_status: FlowStatus,
+) -> Result<(), AllocError>
+    requires { IsWithin (length invariants.now) (ruling_view flow_status) }
+    ensures { OnOk result (text.new.items ≡ text.old.items ++ ruling_text invariants.now (ruling_view flow_status)) }
 {
-    match ruling {
-        Ruling::Answered => text.extend_from_slice(b"allowed with answers"),
-        Ruling::Allowed => text.extend_from_slice(b"allowed"),
-        Ruling::NotAsked => text.extend_from_slice(b"not asked for"),
-        Ruling::Denied(number) => push_denial(text, invariants, number),
+    match flow_status {
+        FlowStatus::Answered => text.extend_from_slice(b"allowed with answers"),
+        FlowStatus::Allowed => text.extend_from_slice(b"allowed"),
+        FlowStatus::NotAsked => text.extend_from_slice(b"not asked for"),
+        FlowStatus::Denied(number) => push_denial(text, invariants, number),
     }
 }
 

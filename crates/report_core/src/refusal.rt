@@ -1,6 +1,6 @@
 //! The line of a refusal, written into a buffer without allocation.
 ghost use Rattle.std.specs.Prelude.{◌≡◌, ◌≤◌, ◌++◌, ◌+◌, length, take, decimal};
-ghost use Rattle.report_core.specs.RefusalLine.{cause_text, if_named, if_told, place_text, refusal_text};
+ghost use Rattle.report_core.specs.RefusalLine.{cause_text, if_nonempty, if_nonzero, place_text, refusal_text};
 ghost use Rattle.text_core.specs.inner.Line.{cut};
 
 use desc_form::{Place, Refusal, Why};
@@ -17,8 +17,8 @@ pub fn refusal_line(refusal: &Refusal, buffer: &mut [u8; 256]) -> usize
     let cause = put_cause(buffer, head, refusal.why);
     let at = put(buffer, cause, b" at ");
     let place = put_place(buffer, at, refusal.place);
-    let item = put_told(buffer, place, b" item ", refusal.item);
-    let other = put_told(buffer, item, b", other ", refusal.other);
+    let item = put_if_nonzero(buffer, place, b" item ", refusal.item);
+    let other = put_if_nonzero(buffer, item, b", other ", refusal.other);
     let name = put_name(buffer, other, &refusal.name);
     put(buffer, name, b"\n")
 }
@@ -55,11 +55,11 @@ fn put_place(buffer: &mut [u8; 256], at: usize, place: Place) -> usize
 }
 
 // Appends a number after its word, if it is not 0.
-fn put_told(buffer: &mut [u8; 256], at: usize, word: &[u8], number: u64) -> usize
+fn put_if_nonzero(buffer: &mut [u8; 256], at: usize, word: &[u8], number: u64) -> usize
     requires { at ≤ 256 }
-    ensures text { take result buffer.new ≡ cut 256 (take at buffer.old ++ if_told word.now number) }
+    ensures text { take result buffer.new ≡ cut 256 (take at buffer.old ++ if_nonzero word.now number) }
     ensures within { result ≤ 256 }
-    ensures short { length (if_told word.now number) ≤ length word.now + 20 }
+    ensures short { length (if_nonzero word.now number) ≤ length word.now + 20 }
 {
     if number == 0 {
         at
@@ -71,9 +71,9 @@ fn put_told(buffer: &mut [u8; 256], at: usize, word: &[u8], number: u64) -> usiz
 // Appends a name after a colon, if it is not empty.
 fn put_name(buffer: &mut [u8; 256], at: usize, name: &Name) -> usize
     requires { at ≤ 256 }
-    ensures text { take result buffer.new ≡ cut 256 (take at buffer.old ++ if_named name.now) }
+    ensures text { take result buffer.new ≡ cut 256 (take at buffer.old ++ if_nonempty name.now) }
     ensures within { result ≤ 256 }
-    ensures short { length (if_named name.now) ≤ 34 }
+    ensures short { length (if_nonempty name.now) ≤ 34 }
 {
     let bytes = name.bytes();
     if bytes.is_empty() {

@@ -2,11 +2,11 @@
 //! table.
 
 ghost use Rattle.std.specs.Prelude.{◌∷◌, List, Option, Bool, IfOk};
-ghost use Rattle.ipt_rules.specs.Meaning.{Passes};
-ghost use Rattle.ofp_rules.specs.Meaning.{Passes as TablePasses};
+ghost use Rattle.ipt_rules.specs.Semantics.{Passes};
+ghost use Rattle.ofp_rules.specs.Semantics.{Passes as TablePasses};
 ghost use Rattle.pkt_core.specs.declared.event.Event.{Event as EventOf};
-ghost use Rattle.pkt_core.specs.inner.Kept.{kept_in};
-ghost use Rattle.pkt_core.specs.Tracking.{Runs, nothing_kept};
+ghost use Rattle.pkt_core.specs.inner.ConnectionTable.{kept_in};
+ghost use Rattle.pkt_core.specs.Tracking.{Runs, no_connections};
 ghost use Rattle.report_core.specs.Trace.{IsTrace};
 
 use crate::line::push_answer;
@@ -74,8 +74,8 @@ fn answer(filter: &Filter<'_>, track: &mut Track, event: Event) -> Result<Option
 /// connection table.
 fn table_answer(table: &Table, event: Event) -> Option<bool>
     ensures { (events : List EventOf) (answers : List (Option Bool))
-        → Runs (TablePasses table.now) nothing_kept events answers
-        → Runs (TablePasses table.now) nothing_kept (event ∷ events) (result ∷ answers) }
+        → Runs (TablePasses table.now) no_connections events answers
+        → Runs (TablePasses table.now) no_connections (event ∷ events) (result ∷ answers) }
 {
     match event {
         Event::Seen(packet) => Some(table.verdict(&Frame::Ipv4(packet)).is_forward()),

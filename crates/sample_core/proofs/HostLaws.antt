@@ -2,8 +2,8 @@
 use Rattle.std.proofs.Common.{◌≡◌, ◌≢◌, IsTrue, ℕ, ◌+◌, ◌*◌, ◌^◌, ◌≤◌, ◌<◌, true, List, [], ◌∷◌, ◌++◌, length, map, codes, decimal, Some, All, AllPairs, inl, refl, sym, ap, subst, ◌∙◌, arith}
 use Rattle.std.proofs.lemmas.List.Elements.{All-nil, All-from_recursion}
 use Rattle.std.specs.List.{list_all}
-use Rattle.desc_form.specs.Written.{WrittenInvariant}
-use Rattle.desc_form.specs.WrittenFlow.{WrittenFlow}
+use Rattle.desc_form.specs.RawDescription.{RawInvariant}
+use Rattle.desc_form.specs.RawFlow.{RawFlow}
 use Rattle.desc_form.specs.inner.HostFacts.{AreApart, HasAddress, HasHosts, SaysExact, SaysPrefix, texts}
 use Rattle.host_net.specs.Limits.{host_limit}
 use Rattle.host_net.specs.Prefix.{address_text, covers, is_exact, octet, prefix_of, prefix_text, prefix_with}
@@ -20,7 +20,7 @@ use Rattle.std.specs.Char.{is_ascii_digit}
 use Rattle.std.specs.Fmt.{digits}
 use Rattle.std.specs.Str.{all_ascii_digits}
 use Rattle.sample_core.specs.SampleTable.{care_table, hosts_in_care, level_table, sample_hosts, sample_name, sample_prefix}
-use Rattle.sample_core.specs.inner.SampleWritten.{sample_assign, sample_host, sample_written}
+use Rattle.sample_core.specs.inner.SampleRaw.{sample_assign, sample_host, sample_raw}
 use Rattle.toml.specs.Data.{Members}
 use Rattle.sample_core.proofs.NumberLaws.{IsBelow, range_ascends, hosts_below, care_below, each_made, pairs_made, length_made}
 
@@ -118,7 +118,7 @@ texts_made (k ∷ hosts) = ap (λ ts. sample_prefix k ∷ ts) (texts_made hosts)
 
 -- ---- both
 
-pub sample_has_hosts : (n : ℕ) → n ≤ host_limit → HasHosts (sample_written n)
+pub sample_has_hosts : (n : ℕ) → n ≤ host_limit → HasHosts (sample_raw n)
 sample_has_hosts n few =
     let below : (k : ℕ) → k < n → k < host_limit = λ k small. omega (arith, small, few) in
     let entries = texts_made (sample_hosts n) in
@@ -133,7 +133,7 @@ sample_has_hosts n few =
       few_templates = omega arith;
       host_names = each_made (λ h. IsTrue (is_name h.name)) sample_host n (λ k small. name_legal k (below k small)) (sample_hosts n) every;
       assign_names = both_named n below;
-      flow_names = All-nil (λ (f : WrittenFlow). IsTrue (is_name f.from) × IsTrue (is_name f.to));
+      flow_names = All-nil (λ (f : RawFlow). IsTrue (is_name f.from) × IsTrue (is_name f.to));
       distinct = pairs_made (λ h g. h.name ≢ g.name) sample_host n
           (λ i j small other lower. names_differ i j (below i small) (below j other) lower) (sample_hosts n) every ascending;
       prefixes = subst (All SaysPrefix) (sym entries)
@@ -154,7 +154,7 @@ sample_has_hosts n few =
         each_made (λ a. IsTrue (is_name a.host)) (sample_assign made) n (λ k small. name_legal k (below k small)) hosts within
 
     both_named : (n : ℕ) → ((k : ℕ) → k < n → k < host_limit)
-        → All (λ i. All (λ a. IsTrue (is_name a.host)) i.assigns) (sample_written n).invariants
+        → All (λ i. All (λ a. IsTrue (is_name a.host)) i.assigns) (sample_raw n).invariants
     both_named n below =
-        All-from_recursion (λ (i : WrittenInvariant). All (λ a. IsTrue (is_name a.host)) i.assigns) (sample_written n).invariants
+        All-from_recursion (λ (i : RawInvariant). All (λ a. IsTrue (is_name a.host)) i.assigns) (sample_raw n).invariants
         (named_in level_table n below (sample_hosts n) (hosts_below n), (named_in care_table n below (hosts_in_care n) (care_below n), tt))

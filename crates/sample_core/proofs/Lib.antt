@@ -8,4 +8,4 @@ pub mod SampleLaws
 pub mod SamplePromisesLaws
 mod TableLemmas
 pub mod UseLaws
-pub mod WrittenLaws
+pub mod RawDescriptionLaws

@@ -2,7 +2,7 @@
 use Rattle.std.proofs.Common.{◌≡◌, ◌≤◌, ℕ, ◌+◌, Bool, true, false, List, [], ◌∷◌, Option, Some, length, map, filter, sym, subst, arith}
 use Rattle.host_net.specs.declared.packet.Packet.{Packet}
 use Rattle.pkt_core.specs.Firewall.{Filter}
-use Rattle.pkt_core.specs.Tracking.{Kept, Runs}
+use Rattle.pkt_core.specs.Tracking.{ConnectionTable, Runs}
 use Rattle.pkt_core.specs.declared.event.Event.{Event}
 use Rattle.pkt_core.specs.declared.event.Event.TheVariants.{Seen}
 use Rattle.sample_core.specs.Sample.{was_forwarded}
@@ -11,7 +11,7 @@ use Rattle.std.specs.Prelude.{if◌then◌else◌}
 
 -- For every run over the remaining packets, the count plus the number that it forwards is the number that the whole run
 -- forwards.
-abbrev pub Leaves : Filter → List Packet → Kept → List Packet → ℕ → Type 0
+abbrev pub Leaves : Filter → List Packet → ConnectionTable → List Packet → ℕ → Type 0
 Leaves filter_of all kept packets count =
     (rest : List (Option Bool)) → Runs filter_of kept (map Seen packets) rest → AreForwarded filter_of (map Seen all)
     (count + length (filter was_forwarded rest))
@@ -21,7 +21,7 @@ one_more : (passes : Bool) (rest : List (Option Bool)) (count new : ℕ) → new
 one_more true rest count new is = omega (arith, is)
 one_more false rest count new is = omega (arith, is)
 
-pub leaves_next : (filter_of : Filter) (all : List Packet) (kept now : Kept) (packets : List Packet) (packet : Packet)
+pub leaves_next : (filter_of : Filter) (all : List Packet) (kept now : ConnectionTable) (packets : List Packet) (packet : Packet)
     (later : List Packet) (count new : ℕ) (passes : Bool)
     → packets ≡ packet ∷ later
     → ((es : List Event) (answers : List (Option Bool)) → Runs filter_of now es answers
@@ -32,7 +32,7 @@ leaves_next filter_of all kept now packets packet later count new passes here st
     (left (Some passes ∷ rest)
     (subst (λ (ps : List Packet). Runs filter_of kept (map Seen ps) (Some passes ∷ rest)) (sym here) (steps (map Seen later) rest run)))
 
-pub leaves_none : (filter_of : Filter) (all : List Packet) (kept : Kept) (packets : List Packet) (count : ℕ) → packets ≡ []
+pub leaves_none : (filter_of : Filter) (all : List Packet) (kept : ConnectionTable) (packets : List Packet) (count : ℕ) → packets ≡ []
     → Leaves filter_of all kept packets count → AreForwarded filter_of (map Seen all) count
 leaves_none filter_of all kept packets count none left =
     subst (AreForwarded filter_of (map Seen all)) (omega arith)

@@ -4,14 +4,14 @@ use Rattle.desc_core.specs.Description.{described_by_table}
 use Rattle.flow_set.specs.declared.flow.Flow.{Flow}
 use Rattle.host_net.specs.Site.{Site}
 use Rattle.ipt_rules.specs.Chain.{Chain}
-use Rattle.ipt_rules.specs.Meaning.{Passes}
+use Rattle.ipt_rules.specs.Semantics.{Passes}
 use Rattle.ipt_rules.specs.Text.{text_lines}
 use Rattle.net_core.specs.Network.{Network, site_of}
 use Rattle.net_core.specs.Policies.{IsPolicyOf, Policy}
 use Rattle.net_core.proofs.PolicyLaws.{policy_is_one}
-use Rattle.pkt_core.specs.Filter.{RunsFromNothing}
-use Rattle.pkt_core.specs.Tracking.{nothing_kept}
-use Rattle.report_core.specs.CheckReport.{AreOffences}
+use Rattle.pkt_core.specs.Filter.{RunsFromNoConnections}
+use Rattle.pkt_core.specs.Tracking.{no_connections}
+use Rattle.report_core.specs.CheckReport.{AreViolations}
 use Rattle.report_core.proofs.ReportLaws.{offences_are_one}
 use Rattle.sample_core.specs.Sample.{Found, IsSample, IsTableLines, chains_of, offence_size, sample_events, sample_text, was_forwarded}
 use Rattle.sample_core.specs.inner.SampleCounts.{rows}
@@ -60,10 +60,10 @@ found_is_one n f g =
       network = net;
       policy = policy;
       offences = offences_are_one g.network.invariants g.network.asked.flows f.offences g.offences
-          (subst (λ (d : Network). AreOffences d.invariants d.asked.flows f.offences) net f.are_offences) g.are_offences;
+          (subst (λ (d : Network). AreViolations d.invariants d.asked.flows f.offences) net f.are_offences) g.are_offences;
       table = table_is_one (site_of g.network) g.policy.permitted.flows g.policy.stateful.flows f.table g.table same_table g.is_table;
-      answers = runs_once AnyPacket (Passes last) (chains_answer_once last) nothing_kept (sample_events n) (any_known (sample_events n))
-          f.answers g.answers (subst (λ (x : List Chain). RunsFromNothing (Passes x) (sample_events n) f.answers) chains f.run) g.run;
+      answers = runs_once AnyPacket (Passes last) (chains_answer_once last) no_connections (sample_events n) (any_known (sample_events n))
+          f.answers g.answers (subst (λ (x : List Chain). RunsFromNoConnections (Passes x) (sample_events n) f.answers) chains f.run) g.run;
     }
 
 text_is_one : (n : ℕ) (f g : Found n) → AreSame n f g → sample_text n f ≡ sample_text n g

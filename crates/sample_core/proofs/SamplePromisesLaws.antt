@@ -11,16 +11,16 @@ use Rattle.flow_set.specs.FlowSet.{has}
 use Rattle.flow_set.specs.declared.flow.Flow.{Flow}
 use Rattle.host_net.specs.Limits.{host_limit}
 use Rattle.host_net.specs.Packet.{IsPacket}
-use Rattle.ipt_rules.specs.Meaning.{Passes}
+use Rattle.ipt_rules.specs.Semantics.{Passes}
 use Rattle.net_core.specs.inner.Fitting.{IsNetwork}
 use Rattle.net_core.proofs.HeadlineLaws.{CompliesWithAll-from_policy}
 use Rattle.net_core.specs.Network.{Network, site_of}
 use Rattle.net_core.proofs.PolicyLaws.{IsSubset-stateful}
-use Rattle.pkt_core.specs.Filter.{ArePackets, ForwardsExpected}
+use Rattle.pkt_core.specs.Filter.{ArePackets, ForwardsAsExpected}
 use Rattle.pkt_core.specs.declared.event.Event.TheVariants.{Seen}
 use Rattle.sample_core.proofs.AcceptedLaws.{hosts_counted, sample_is_small}
 use Rattle.sample_core.specs.Sample.{Found, IsSample, packet_between, sample_events}
-use Rattle.sample_core.specs.SamplePromises.{TellsSample}
+use Rattle.sample_core.specs.SamplePromises.{ReportsSample}
 use Rattle.sample_core.specs.SampleTable.{sample_table}
 
 -- ---- the packets of the sample
@@ -40,15 +40,15 @@ sample_packets_are n few = all_shown n few (every_flow n) (IsFlowSet-every_flow 
 
 -- ---- the report
 
-pub tells_sample : (n : ℕ) (report : List ℕ) → IsSample n report → TellsSample n report
-tells_sample n report is =
+pub reports_sample : (n : ℕ) (report : List ℕ) → IsSample n report → ReportsSample n report
+reports_sample n report is =
     let found : Found n = is.found in
     let d : Network = found.network in
     let p : List Flow = found.policy.permitted.flows in
     let s : List Flow = found.policy.stateful.flows in
     let network : IsNetwork d = IsNetwork-table (sample_table n) d found.described in
     let few : n ≤ host_limit = sample_is_small n d found.described in
-    let forwards : ForwardsExpected (Passes (layout (site_of d) p s)) (site_of d) p s = layout_expected (site_of d) p s network.hosts (IsSubset-stateful d p s found.is_policy.stateful) in
+    let forwards : ForwardsAsExpected (Passes (layout (site_of d) p s)) (site_of d) p s = layout_expected (site_of d) p s network.hosts (IsSubset-stateful d p s found.is_policy.stateful) in
     record {
       found = found;
       written = is.written;

@@ -15,8 +15,8 @@ use Rattle.attr_core.specs.declared.template.Template.{Template}
 use Rattle.attr_core.specs.declared.template.Template.TheVariants.{Blp, Partners}
 use Rattle.desc_core.specs.UseConditions.{is_declared}
 use Rattle.desc_core.specs.inner.UseFacts.{HasUses, SaysAttributes}
-use Rattle.desc_core.specs.WrittenNetwork.{Known, given_by, known_of}
-use Rattle.desc_form.specs.WrittenHosts.{network_hosts}
+use Rattle.desc_core.specs.RawNetwork.{Known, given_by, known_of}
+use Rattle.desc_form.specs.RawHosts.{network_hosts}
 use Rattle.host_net.specs.Host.{Host, host_named}
 use Rattle.host_net.specs.ServiceText.{service_of}
 use Rattle.host_net.specs.Services.{service_limit}
@@ -24,13 +24,13 @@ use Rattle.table_core.specs.Keys.{all_suit, has_only_keys, lacks_key}
 use Rattle.table_core.specs.Listing.{each}
 use Rattle.text_core.proofs.StepsLaws.{bind_some}
 use Rattle.std.proofs.lemmas.Slice.Eq.{bytes_eq-Decides}
-use Rattle.desc_form.specs.Written.{WrittenAssign, WrittenInvariant}
+use Rattle.desc_form.specs.RawDescription.{RawAssign, RawInvariant}
 use Rattle.host_net.specs.Limits.{host_limit}
 use Rattle.text_core.proofs.FirstsLaws.{some_same}
 use Rattle.std.proofs.lemmas.Bool.Decides.{nat_tests}
 use Rattle.sample_core.specs.SampleTable.{care_table, hosts_in_care, level_table, sample_hosts, sample_name}
 use Rattle.sample_core.specs.inner.TableParts.{is_in_care}
-use Rattle.sample_core.specs.inner.SampleWritten.{sample_assign, sample_host, sample_invariant, sample_written}
+use Rattle.sample_core.specs.inner.SampleRaw.{sample_assign, sample_host, sample_invariant, sample_raw}
 use Rattle.table_core.specs.Tables.{boolean_at, has_key, has_only, integer_at, list_at, number_at, text_at}
 use Rattle.toml.specs.Data.{Members}
 use Rattle.sample_core.proofs.NumberLaws.{IsBelow, Ascends, range_ascends, hosts_below, care_below, each_made, pairs_made, every_made}
@@ -60,7 +60,7 @@ name_there start zero k lower upper = absurd (omega (arith, lower, upper))
 name_there start (suc count) k lower upper =
     named_by start k (start == k) _ refl (λ other. name_there (start + 1) count k (omega (arith, lower, other)) (omega (arith, upper)))
 
-declared : (n k : ℕ) → k < n → IsTrue (is_declared (sample_written n) (sample_name k))
+declared : (n k : ℕ) → k < n → IsTrue (is_declared (sample_raw n) (sample_name k))
 declared n k small = name_there 0 n k (omega arith) (omega (arith, small))
 
 -- The resolved form of an invariant whose assigns all specify an attribute.
@@ -73,7 +73,7 @@ given_parts t (Some host) (Some more) gs is = (host, more, refl, sym (some_same 
 
 none_bad : {A : Type 0} (said : List Given → Given → Option A) (Fine : Members → Type 0)
     → ((earlier : List Given) (host : ℕ) (t : Members) → Fine t → is_some (said earlier (record { host = host; table = t })) ≡ true)
-    → (hosts : List Host) (assigns : List WrittenAssign) → All (λ a. Fine a.table) assigns
+    → (hosts : List Host) (assigns : List RawAssign) → All (λ a. Fine a.table) assigns
     → (gs earlier : List Given) → each (given_by hosts) assigns ≡ Some gs → bad_from said earlier gs ≡ None
 none_bad said Fine fine hosts [] all gs earlier is = subst (λ g. bad_from said earlier g ≡ None) (some_same [] gs is) refl
 none_bad said Fine fine hosts (a ∷ assigns) all gs earlier is =
@@ -83,7 +83,7 @@ none_bad said Fine fine hosts (a ∷ assigns) all gs earlier is =
     let behind = none_bad said Fine fine hosts assigns (All-tail (λ b. Fine b.table) a assigns all) more now rest in
     subst (λ g. bad_from said earlier g ≡ None) (sym same) (rw here behind)
 
-known_parts : (hosts : List Host) (i : WrittenInvariant) (t : Template) (k : Known) → template_named i.template ≡ Some t
+known_parts : (hosts : List Host) (i : RawInvariant) (t : Template) (k : Known) → template_named i.template ≡ Some t
     → known_of [] hosts i ≡ Some k
     → (gs : List Given) × (each (given_by hosts) i.assigns ≡ Some gs) × (k ≡ record { template = OneOfTen t; assigns = gs })
 unfolding known_of
@@ -156,9 +156,9 @@ care_good hosts ks k said =
     (none_bad (says partners_form hosts) IsCare (care_said hosts) hosts (map (sample_assign care_table) ks) cares gs [] is)
 
 -- For both invariants.
-of_both : (P : WrittenInvariant → Type 0) (n : ℕ) → P (sample_invariant (codes "blp") level_table (sample_hosts n))
-    → P (sample_invariant (codes "partners") care_table (hosts_in_care n)) → All P (sample_written n).invariants
-of_both P n first second = All-from_recursion P (sample_written n).invariants (first, (second, tt))
+of_both : (P : RawInvariant → Type 0) (n : ℕ) → P (sample_invariant (codes "blp") level_table (sample_hosts n))
+    → P (sample_invariant (codes "partners") care_table (hosts_in_care n)) → All P (sample_raw n).invariants
+of_both P n first second = All-from_recursion P (sample_raw n).invariants (first, (second, tt))
 
 assigned_once : (made : ℕ → Members) (n : ℕ) → n ≤ host_limit → (ks : List ℕ) → All (IsBelow n) ks → AllPairs Ascends ks
     → AllPairs (λ a b. a.host ≢ b.host) (map (sample_assign made) ks)
@@ -170,22 +170,22 @@ assigned_once made n few ks below ascends =
 ten_chosen : (name : List ℕ) (t : Template) → template_named name ≡ Some t → is_some (chosen [] name) ≡ true
 ten_chosen name t named = rw named refl
 
-pub sample_has_uses : (n : ℕ) → n ≤ host_limit → HasUses (sample_written n)
+pub sample_has_uses : (n : ℕ) → n ≤ host_limit → HasUses (sample_raw n)
 sample_has_uses n few =
-    let Known_in : WrittenAssign → Type 0 = λ a. IsTrue (is_declared (sample_written n) a.host) in
+    let Known_in : RawAssign → Type 0 = λ a. IsTrue (is_declared (sample_raw n) a.host) in
     record {
       templates = of_both (λ i. IsTrue (is_some (chosen [] i.template))) n (ten_chosen (codes "blp") Blp named_blp) (ten_chosen (codes "partners") Partners named_partners);
-      assigned = of_both (λ i. All (λ a. IsTrue (is_declared (sample_written n) a.host)) i.assigns) n
+      assigned = of_both (λ i. All (λ a. IsTrue (is_declared (sample_raw n) a.host)) i.assigns) n
           (each_made Known_in (sample_assign level_table) n (declared n) (sample_hosts n) (hosts_below n))
           (each_made Known_in (sample_assign care_table) n (declared n) (hosts_in_care n) (care_below n));
-      joined = All-nil (λ f. IsTrue (is_declared (sample_written n) f.from) × IsTrue (is_declared (sample_written n) f.to));
+      joined = All-nil (λ f. IsTrue (is_declared (sample_raw n) f.from) × IsTrue (is_declared (sample_raw n) f.to));
       once = of_both (λ i. AllPairs (λ a b. a.host ≢ b.host) i.assigns) n
           (assigned_once level_table n few (sample_hosts n) (hosts_below n) (range_ascends 0 n))
           (assigned_once care_table n few (hosts_in_care n) (care_below n)
           (AllPairs-filter Ascends is_in_care (sample_hosts n) (range_ascends 0 n)));
-      attributes = of_both (SaysAttributes [] (network_hosts (sample_written n))) n
-          (levels_good (network_hosts (sample_written n)) (sample_hosts n))
-          (care_good (network_hosts (sample_written n)) (hosts_in_care n));
+      attributes = of_both (SaysAttributes [] (network_hosts (sample_raw n))) n
+          (levels_good (network_hosts (sample_raw n)) (sample_hosts n))
+          (care_good (network_hosts (sample_raw n)) (hosts_in_care n));
       apart = All-nil (λ f. f.from ≢ f.to);
       different = λ i j d lower within. absurd (omega (arith, within));
       services = All-nil (λ f. All (λ text. IsTrue (is_some (service_of text))) f.services);

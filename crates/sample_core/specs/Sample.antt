@@ -1,7 +1,7 @@
 -- The report of the sample (docs/TEXTS.md): the results of every command for its description, in numbers.
 use Rattle.std.specs.Prelude.{◌≡◌, ◌≤◌, ◌<◌, ℕ, ◌+◌, ◌*◌, ◌^◌, Bool, false, List, [], ◌++◌, length, map, filter, flat_map, Option, Ok, codes, decimal}
 use Rattle.std.specs.Option.{unwrap_or}
-use Rattle.text_core.specs.Firsts.{Numbered, numbered}
+use Rattle.text_core.specs.FirstMatch.{Numbered, numbered}
 use Rattle.desc_core.specs.Description.{described_by_table}
 use Rattle.emit_core.specs.FlowTable.{flow_entries}
 use Rattle.emit_core.specs.FlowTableEvents.{AnswersAreCovered}
@@ -11,7 +11,7 @@ use Rattle.flow_set.specs.declared.flow.Flow.{Flow}
 use Rattle.host_net.specs.Site.{Site}
 use Rattle.host_net.specs.declared.packet.Packet.{Packet}
 use Rattle.ipt_rules.specs.Chain.{Chain}
-use Rattle.ipt_rules.specs.Meaning.{Passes}
+use Rattle.ipt_rules.specs.Semantics.{Passes}
 use Rattle.ipt_rules.specs.Text.{text_lines}
 use Rattle.net_core.specs.Network.{Network, site_of}
 use Rattle.net_core.specs.Policies.{IsPolicyOf, Policy}
@@ -19,8 +19,8 @@ use Rattle.ofp_rules.specs.Ambiguity.{most_entries}
 use Rattle.ofp_rules.specs.Text.{text_lines as table_text_lines}
 use Rattle.pkt_core.specs.declared.event.Event.{Event}
 use Rattle.pkt_core.specs.declared.event.Event.TheVariants.{Seen}
-use Rattle.pkt_core.specs.Filter.{RunsFromNothing}
-use Rattle.report_core.specs.CheckReport.{AreOffences}
+use Rattle.pkt_core.specs.Filter.{RunsFromNoConnections}
+use Rattle.report_core.specs.CheckReport.{AreViolations}
 use Rattle.sample_core.specs.SampleTable.{sample_table}
 use Rattle.sample_core.specs.declared.counts.TableLines.{TableLines}
 use Rattle.sample_core.specs.declared.counts.TableLines.TheVariants.{Lines, NeedsState, TooMany}
@@ -56,11 +56,11 @@ pub record Found (n : ℕ) : Type 0 where
   pub policy : Policy
   pub is_policy : IsPolicyOf network policy
   pub offences : List (Option (List Flow))
-  pub are_offences : AreOffences network.invariants network.asked.flows offences
+  pub are_offences : AreViolations network.invariants network.asked.flows offences
   pub table : TableLines
   pub is_table : IsTableLines (site_of network) policy.permitted.flows policy.stateful.flows table
   pub answers : List (Option Bool)
-  pub run : RunsFromNothing (Passes (chains_of network policy)) (sample_events n) answers
+  pub run : RunsFromNoConnections (Passes (chains_of network policy)) (sample_events n) answers
 
 -- ---- the printed form
 

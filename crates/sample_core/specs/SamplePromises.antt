@@ -9,7 +9,7 @@ use Rattle.sample_core.specs.Sample.{Found, sample_events, sample_text}
 -- The numbers are those of a network of n hosts, the one that the table of the sample describes, and of its policy, which satisfies every
 -- invariant and complies with every invariant with its answers. The number of forwarded packets is the number that the policy and its
 -- answers expect, packet by packet from an empty connection table.
-pub record TellsSample (n : ℕ) (report : List ℕ) : Type 0 where
+pub record ReportsSample (n : ℕ) (report : List ℕ) : Type 0 where
   pub found : Found n
   pub written : report ≡ sample_text n found
   pub hosts : length found.network.hosts ≡ n

@@ -1,3 +1,3 @@
 pub mod SampleCounts
-pub mod SampleWritten
+pub mod SampleRaw
 pub mod TableParts

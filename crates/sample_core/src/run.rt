@@ -2,8 +2,8 @@
 
 ghost use Rattle.std.specs.Prelude.{◌≡◌, ◌≤◌, ◌∷◌, Bool, List, [], Option, Some, IfOk, if◌then◌else◌, map};
 ghost use Rattle.host_net.specs.Limits.{host_limit};
-ghost use Rattle.ipt_rules.specs.Meaning.{Passes};
-ghost use Rattle.pkt_core.specs.inner.Kept.{kept_in};
+ghost use Rattle.ipt_rules.specs.Semantics.{Passes};
+ghost use Rattle.pkt_core.specs.inner.ConnectionTable.{kept_in};
 ghost use Rattle.pkt_core.specs.Tracking.{Runs};
 ghost use Rattle.pkt_core.specs.declared.event.Event.{Event};
 ghost use Rattle.pkt_core.specs.declared.event.Event.TheVariants.{Seen};

@@ -4,7 +4,7 @@ use Rattle.std.proofs.Common.{ℕ, inl, inr, Bool, true, false, List, refl, sym,
 use Rattle.std.specs.Prelude.{IsTrue, IsFalse}
 use Rattle.std.proofs.lemmas.Bool.{both_ways, or_cases, false_from_ne_true}
 use Rattle.flow_set.specs.declared.flow.Flow.{Flow}
-use Rattle.flow_set.specs.Flow.{back_of}
+use Rattle.flow_set.specs.Flow.{reverse_of}
 use Rattle.flow_set.specs.FlowSet.{has, without, with_back}
 use Rattle.flow_set.specs.inner.FlowSetView.{IsFlowSet}
 use Rattle.flow_set.specs.Conditions.{IsMinimalOffending}
@@ -24,8 +24,8 @@ only_answers n Holds p s p_set s_set edge_wise holds f offends g there =
     let set : IsFlowSet n all = IsFlowSet-with_back n p s p_set s_set in
     let in_all : IsTrue (has all g) = offends.within.within g there in
     let not_in_p : IsFalse (has p g) = false_from_ne_true _ (λ in_p.
-    offends.minimal g there ((edge_wise-with_flow n Holds (without all f) g edge_wise (IsFlowSet-without n all f set) (set.flows g in_all) offends.mended).0 ((edge_wise p p_set).0 holds g in_p))) in (
-      elim (or_cases (has p g) (has s (back_of g)) (sym (has-with_back p s g) ∙ in_all)) [
+    offends.minimal g there ((edge_wise-with_flow n Holds (without all f) g edge_wise (IsFlowSet-without n all f set) (set.flows g in_all) offends.holds_without).0 ((edge_wise p p_set).0 holds g in_p))) in (
+      elim (or_cases (has p g) (has s (reverse_of g)) (sym (has-with_back p s g) ∙ in_all)) [
         | inl in_p ↦ absurd (both_ways _ not_in_p in_p)
         | inr answers ↦ answers
       ],

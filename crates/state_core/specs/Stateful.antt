@@ -3,7 +3,7 @@
 -- Network_Security_Policy_Verification in the Archive of Formal Proofs.
 use Rattle.std.specs.Prelude.{Bool, true, not, List, All, IsTrue, IsFalse}
 use Rattle.flow_set.specs.declared.flow.Flow.{Flow}
-use Rattle.flow_set.specs.Flow.{back_of}
+use Rattle.flow_set.specs.Flow.{reverse_of}
 use Rattle.flow_set.specs.FlowSet.{has, IsSubset, with_back}
 use Rattle.flow_set.specs.Conditions.{IsMinimalOffending}
 use Rattle.inv_law.specs.declared.strategy.Strategy.{Strategy}
@@ -22,7 +22,7 @@ StrictHold strategy_of edge_mark HoldsOn invs e = All (λ inv. IsTrue (is_strict
 
 -- Each flow of f is the answer of a flow of s and is not in p itself.
 abbrev pub AreAnswers : List Flow → List Flow → List Flow → Type 0
-AreAnswers p s f = (g : Flow) → IsTrue (has f g) → IsTrue (has s (back_of g)) × IsFalse (has p g)
+AreAnswers p s f = (g : Flow) → IsTrue (has f g) → IsTrue (has s (reverse_of g)) × IsFalse (has p g)
 
 -- The policy p with the answers of s complies with an invariant. For information flow: the invariant holds for all of
 -- these flows. For access control: every minimal offending set consists of answers.

@@ -1,7 +1,7 @@
 //! A policy together with its answers.
 
 ghost use Rattle.std.specs.Prelude.{◌≡◌, ◌⊎◌, ◌↔◌, IsTrue, IfOk};
-ghost use Rattle.flow_set.specs.Flow.{back_of};
+ghost use Rattle.flow_set.specs.Flow.{reverse_of};
 ghost use Rattle.flow_set.specs.FlowSet.{has, with_back};
 ghost use Rattle.flow_set.specs.declared.flow.Flow.{Flow};
 
@@ -14,7 +14,7 @@ pub fn with_answers(alloc: Global, p: &FlowSet, s: &FlowSet) -> Result<FlowSet, 
     ensures size { IfOk result (λ all. all.size ≡ p.now.size) }
     ensures flows { IfOk result (λ all. all.flows ≡ with_back p.now.flows s.now.flows) }
     ensures members { IfOk result (λ all. (f : Flow) → IsTrue (has all.flows f)
-        ↔ (IsTrue (has p.now.flows f) ⊎ IsTrue (has s.now.flows (back_of f)))) }
+        ↔ (IsTrue (has p.now.flows f) ⊎ IsTrue (has s.now.flows (reverse_of f)))) }
 {
     p.with_back(alloc, s)
 }

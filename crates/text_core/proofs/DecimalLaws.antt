@@ -10,7 +10,7 @@ use Rattle.std.proofs.lemmas.Bool.Decides.{nat_tests}
 use Rattle.std.proofs.lemmas.Fmt.{decimal_is_IsNumeral, digits_decimal}
 use Rattle.std.proofs.lemmas.Str.Parse.{IsNumeralModel, numerals_by_fold}
 use Rattle.text_core.specs.inner.Decimal.{number}
-use Rattle.text_core.specs.Firsts.{where_holds}
+use Rattle.text_core.specs.FirstMatch.{some_if}
 use Rattle.text_core.specs.inner.DecimalSteps.{value_from}
 use Rattle.text_core.proofs.FirstsLaws.{where_parts}
 use Rattle.text_core.proofs.PiecesLaws.{lacks}
@@ -22,7 +22,7 @@ own = numerals_by_fold _ (search rules) value_from (search rules)
 
 -- A number, if a string is its decimal notation.
 abbrev told : ℕ → List ℕ → ℕ → Option ℕ
-told most text n = where_holds (bytes_eq text (decimal n) && nat_le n most) n
+told most text n = some_if (bytes_eq text (decimal n) && nat_le n most) n
 
 told_own : (most n : ℕ) → n ≤ most → told most (decimal n) n ≡ Some n
 told_own most n h =

@@ -3,7 +3,7 @@ use Rattle.std.proofs.Common.{◌≡◌, ℕ, ◌+◌, Bool, true, false, cond, 
 use Rattle.std.proofs.lemmas.Bool.{and_parts}
 use Rattle.std.proofs.lemmas.List.Folds.{list_all-append}
 use Rattle.std.specs.List.{list_all, find}
-use Rattle.text_core.specs.Firsts.{first_pair, first_pair_behind, Numbered, Pair, numbered_from, where_holds}
+use Rattle.text_core.specs.FirstMatch.{first_conflict, first_conflict_after, Numbered, Conflict, numbered_from, some_if}
 use Rattle.text_core.specs.inner.Pairs.{no_pair}
 use Rattle.std.specs.Option.{option_or}
 
@@ -16,7 +16,7 @@ none_mapped f None h = refl
 none_mapped f (Some x) h = cc
 
 -- The condition does not hold.
-pub holds_not : {A : Type 0} (holds : Bool) (x : A) → where_holds holds x ≡ None → holds ≡ false
+pub holds_not : {A : Type 0} (holds : Bool) (x : A) → some_if holds x ≡ None → holds ≡ false
 holds_not true x h = cc
 holds_not false x h = refl
 
@@ -24,7 +24,7 @@ pub some_same : {A : Type 0} (x y : A) → Some x ≡ Some y → x ≡ y
 some_same x y h = cc
 
 -- The condition holds, and this is the result.
-pub where_parts : {A : Type 0} (holds : Bool) (x y : A) → where_holds holds x ≡ Some y → (holds ≡ true) × (x ≡ y)
+pub where_parts : {A : Type 0} (holds : Bool) (x y : A) → some_if holds x ≡ Some y → (holds ≡ true) × (x ≡ y)
 where_parts true x y h = (refl, some_same x y h)
 where_parts false x y h = cc
 
@@ -51,22 +51,22 @@ all_true [] = refl
 all_true (x ∷ xs) = all_true xs
 
 -- No element conflicts with a later one, and none of those before does.
-unbarred_behind : {A : Type 0} (bars : A → A → Bool) (before xs : List A) → first_pair_behind bars before xs ≡ None
-    → (no_pair bars xs ≡ true) × (list_all (λ y. list_all (λ x. not (bars x y)) xs) before ≡ true)
-unbarred_behind bars before [] h = (refl, all_true before)
-unbarred_behind {A} bars before (x ∷ xs) h =
-    let barred : A → Pair A = λ y. record { later = x; earlier = y } in
-    let (here, behind) = neither (option_map barred (find (bars x) before)) (first_pair_behind bars (before ++ x ∷ []) xs) h in
-    let unbarred = none_found (bars x) before (none_mapped barred (find (bars x) before) here) in
-    let (rest, all) = unbarred_behind bars (before ++ x ∷ []) xs behind in
-    let unbarring = λ (y : A). list_all (λ z. not (bars z y)) xs in
+unbarred_behind : {A : Type 0} (conflicts : A → A → Bool) (before xs : List A) → first_conflict_after conflicts before xs ≡ None
+    → (no_pair conflicts xs ≡ true) × (list_all (λ y. list_all (λ x. not (conflicts x y)) xs) before ≡ true)
+unbarred_behind conflicts before [] h = (refl, all_true before)
+unbarred_behind {A} conflicts before (x ∷ xs) h =
+    let barred : A → Conflict A = λ y. record { later = x; earlier = y } in
+    let (here, behind) = neither (option_map barred (find (conflicts x) before)) (first_conflict_after conflicts (before ++ x ∷ []) xs) h in
+    let unbarred = none_found (conflicts x) before (none_mapped barred (find (conflicts x) before) here) in
+    let (rest, all) = unbarred_behind conflicts (before ++ x ∷ []) xs behind in
+    let unbarring = λ (y : A). list_all (λ z. not (conflicts z y)) xs in
     let (earlier, last) = and_parts (list_all unbarring before) (list_all unbarring (x ∷ [])) (sym (list_all-append unbarring before (x ∷ [])) ∙ all) in
     let (own, _) = and_parts (unbarring x) true last in
-    (rw (own, rest), both (λ y. not (bars x y)) unbarring before unbarred earlier)
+    (rw (own, rest), both (λ y. not (conflicts x y)) unbarring before unbarred earlier)
 
 -- No element conflicts with a later one.
-pub none_barred : {A : Type 0} (bars : A → A → Bool) (xs : List A) → first_pair bars xs ≡ None → no_pair bars xs ≡ true
-none_barred bars xs h = (unbarred_behind bars [] xs h).0
+pub none_barred : {A : Type 0} (conflicts : A → A → Bool) (xs : List A) → first_conflict conflicts xs ≡ None → no_pair conflicts xs ≡ true
+none_barred conflicts xs h = (unbarred_behind conflicts [] xs h).0
 
 -- Tests of numbered elements that do not depend on the numbers.
 pub all_numbered : {A : Type 0} (p : A → Bool) (k : ℕ) (xs : List A) → list_all (λ (x : Numbered A). p x.what) (numbered_from k xs) ≡ list_all p xs

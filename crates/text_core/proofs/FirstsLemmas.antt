@@ -2,7 +2,7 @@
 use Rattle.std.proofs.Common.{◌≡◌, ℕ, suc, ◌+◌, ◌<◌, ◌≤◌, Bool, true, false, List, [], ◌∷◌, ◌++◌, get_or, length, take, drop, drop-cons, add-one, find, Some, None, refl, sym, ap, ◌∙◌, arith}
 use Rattle.std.proofs.Math.ListN.{drop_of_length-le}
 use Rattle.std.proofs.lemmas.List.{length-take-le, take_more}
-use Rattle.text_core.specs.Firsts.{Numbered, first_pair_behind, numbered, numbered_from}
+use Rattle.text_core.specs.FirstMatch.{Numbered, first_conflict_after, numbered, numbered_from}
 
 -- The rest of a list begins with the element at the index.
 pub drop_is : {A : Type 0} (xs : List A) (i : ℕ) (x : A) → i < length xs → x ≡ get_or xs i x → drop i xs ≡ x ∷ drop (suc i) xs
@@ -39,14 +39,14 @@ front_is xs i x within e =
 -- The step of the search for a conflict.
 pub pair_here : {A : Type 0} (test : A → A → Bool) (xs : List A) (i : ℕ) (x : A) (y : Numbered A) → i < length xs → x ≡ get_or xs i x
     → find (λ (z : Numbered A). test x z.what) (numbered (take i xs)) ≡ Some y
-    → first_pair_behind (λ (a b : Numbered A). test a.what b.what) (numbered (take i xs)) (numbered_from (i + 1) (drop i xs)) ≡ Some (record { later = record { number = i + 1; what = x }; earlier = y })
+    → first_conflict_after (λ (a b : Numbered A). test a.what b.what) (numbered (take i xs)) (numbered_from (i + 1) (drop i xs)) ≡ Some (record { later = record { number = i + 1; what = x }; earlier = y })
 pair_here {A} test xs i x y within e found = rw (rest_is xs i x within e, found) refl
 
 pub pair_passed : {A : Type 0} (test : A → A → Bool) (xs : List A) (i : ℕ) (x : A) → i < length xs → x ≡ get_or xs i x
     → find (λ (z : Numbered A). test x z.what) (numbered (take i xs)) ≡ None
-    → first_pair_behind (λ (a b : Numbered A). test a.what b.what) (numbered (take (i + 1) xs)) (numbered_from (i + 1 + 1) (drop (i + 1) xs))
-    ≡ first_pair_behind (λ (a b : Numbered A). test a.what b.what) (numbered (take i xs)) (numbered_from (i + 1) (drop i xs))
+    → first_conflict_after (λ (a b : Numbered A). test a.what b.what) (numbered (take (i + 1) xs)) (numbered_from (i + 1 + 1) (drop (i + 1) xs))
+    ≡ first_conflict_after (λ (a b : Numbered A). test a.what b.what) (numbered (take i xs)) (numbered_from (i + 1) (drop i xs))
 pair_passed {A} test xs i x within e none = rw (front_is xs i x within e) (sym (rw (rest_is xs i x within e, none) refl))
 
-pub no_pair_left : {A : Type 0} (r : Numbered A → Numbered A → Bool) (xs : List A) (i : ℕ) → length xs ≤ i → first_pair_behind r (numbered (take i xs)) (numbered_from (i + 1) (drop i xs)) ≡ None
+pub no_pair_left : {A : Type 0} (r : Numbered A → Numbered A → Bool) (xs : List A) (i : ℕ) → length xs ≤ i → first_conflict_after r (numbered (take i xs)) (numbered_from (i + 1) (drop i xs)) ≡ None
 no_pair_left r xs i end = rw (drop_of_length-le xs end) refl

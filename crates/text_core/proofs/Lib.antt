@@ -8,12 +8,12 @@ pub mod LineLaws
 pub mod LineLemmas
 pub mod LinesLaws
 pub mod LinesRows
-pub mod ListTextLaws
+pub mod ListFormatLaws
 pub mod NumbersLaws
-pub mod PairLaws
+pub mod ConflictLaws
 pub mod PiecesLaws
 pub mod PiecesLemmas
 pub mod SoFar
 pub mod SpacedLaws
 pub mod StepsLaws
-pub mod TextByLinesLaws
+pub mod LineFormatLaws

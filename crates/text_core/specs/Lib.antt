@@ -1,9 +1,9 @@
 pub mod Decimal
-pub mod Firsts
+pub mod FirstMatch
 pub mod Lines
-pub mod ListText
+pub mod ListFormat
 pub mod Name
 pub mod Reading
 pub mod Steps
-pub mod TextByLines
+pub mod LineFormat
 pub mod inner

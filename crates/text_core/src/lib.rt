@@ -18,7 +18,7 @@ mod texts;
 
 pub use decimals::read_number;
 pub use faults::{LineFault, ListWhy, TextFault};
-pub use firsts::{Numbered, Pair, first_pair};
+pub use firsts::{Conflict, Numbered, first_conflict};
 pub use line::{put, put_number};
 pub use lines::{Lines, Words, begins_with, is_blank, is_comment};
 pub use lists::{EntryReader, read_list};

@@ -2,9 +2,9 @@
 //! the parser of a line, and the limits.
 
 ghost use Rattle.std.specs.Prelude.{◌≡◌, ◌<◌, ◌^◌, ℕ, List, map, IfOk, IfErr, MatchResult};
-ghost use Rattle.text_core.specs.ListText.{ListText, IsBad, by_lines};
-ghost use Rattle.text_core.specs.TextByLines.{HasFault, IsReading};
-ghost use Rattle.text_core.specs.inner.ListAnswers.{TellsOne, TellsFormed};
+ghost use Rattle.text_core.specs.ListFormat.{ListFormat, IsBad, by_lines};
+ghost use Rattle.text_core.specs.LineFormat.{HasFault, IsReading};
+ghost use Rattle.text_core.specs.inner.ListAnswers.{EncodesAtMostOne, EncodesOnlyWellFormed};
 ghost use Rattle.text_core.specs.inner.TextAnswers.{HasCause, HasReason, IsFault};
 ghost use Rattle.text_core.specs.declared.faults.ListWhy.{ListWhy as Why};
 
@@ -20,7 +20,7 @@ pub trait EntryReader {
     /// The model of an entry, and the format that defines it.
     ghost Told: { Type 0 };
 
-    ghost list: { ListText Told };
+    ghost list: { ListFormat Told };
 
     ghost told: { Self.Entry → Told };
 
@@ -42,8 +42,8 @@ pub fn read_list<R: EntryReader>(
     reader: &R,
     bytes: &[u8],
 ) -> Result<Vec<R::Entry>, TextFault<ListWhy>>
-    requires one { TellsOne R.list }
-    requires formed { TellsFormed R.list }
+    requires one { EncodesAtMostOne R.list }
+    requires formed { EncodesOnlyWellFormed R.list }
     ensures found { IfOk result (λ entries. IsReading (by_lines R.list) bytes.now (map R.told entries.items)) }
     // A file of entries is rejected only if allocation fails.
     ensures only { (said : List R.Told) → IsReading (by_lines R.list) bytes.now said →

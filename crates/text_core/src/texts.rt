@@ -3,7 +3,7 @@
 
 ghost use Rattle.std.specs.Prelude.{◌≡◌, ◌<◌, ◌^◌, length, Ok, Err, IfOk, IfErr, IsFalse};
 ghost use Rattle.text_core.specs.Lines.{lines, is_comment};
-ghost use Rattle.text_core.specs.TextByLines.{TextByLines, IsReadThrough};
+ghost use Rattle.text_core.specs.LineFormat.{LineFormat, IsReadToEnd};
 ghost use Rattle.text_core.specs.inner.TextAnswers.{HasCause, HasReason, Passes, Stops};
 
 use crate::faults::{LineFault, TextFault};
@@ -17,7 +17,7 @@ pub trait LineReader: Sized + Drop {
     /// The model of the parser state, and the format that defines it.
     ghost Said: { Type 0 };
 
-    ghost text: { TextByLines Said Self.Why };
+    ghost text: { LineFormat Said Self.Why };
 
     ghost said: { Self → Said };
 
@@ -26,7 +26,7 @@ pub trait LineReader: Sized + Drop {
 
     /// Returns the size limit in bytes, and the reason to reject a longer file.
     fn limit(&self) -> (usize, Self::Why)
-        ensures limit { result ≡ (text.byte_limit, text.when_longer) }
+        ensures limit { result ≡ (text.byte_limit, text.too_long_reason) }
         ensures small { text.byte_limit < 2 ^ 32 };
 
     /// Parses one more line, which is no comment.
@@ -43,7 +43,7 @@ pub fn read_lines<R: LineReader>(start: R, bytes: &[u8]) -> Result<R, TextFault<
     requires holds { R.holds start }
     requires start { R.said start ≡ R.text.start }
     ensures holds { IfOk result R.holds }
-    ensures read { IfOk result (λ reader. IsReadThrough R.text bytes.now (R.said reader)) }
+    ensures read { IfOk result (λ reader. IsReadToEnd R.text bytes.now (R.said reader)) }
     ensures refused { IfErr result (HasCause R.text bytes.now) }
 {
     match read_counted_lines(start, bytes) {
@@ -60,7 +60,7 @@ pub fn read_counted_lines<R: LineReader>(
     requires holds { R.holds start }
     requires start { R.said start ≡ R.text.start }
     ensures holds { IfOk result (λ read. R.holds read.0) }
-    ensures read { IfOk result (λ read. IsReadThrough R.text bytes.now (R.said read.0)) }
+    ensures read { IfOk result (λ read. IsReadToEnd R.text bytes.now (R.said read.0)) }
     ensures counted { IfOk result (λ read. read.1 ≡ length (lines bytes.now)) }
     ensures refused { IfErr result (HasCause R.text bytes.now) }
 {

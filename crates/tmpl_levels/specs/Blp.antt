@@ -1,7 +1,7 @@
 -- The Bell-LaPadula template with trusted hosts: information flows upward, or to a trusted host. After the entry
 -- Network_Security_Policy_Verification of the Archive of Formal Proofs.
 use Rattle.std.specs.Prelude.{◌≤◌, ◌⊎◌, false, IsTrue, codes}
-use Rattle.inv_law.specs.Template.{Anything, Template, edge_template}
+use Rattle.inv_law.specs.Template.{AnyAttribute, Template, edge_template}
 use Rattle.inv_law.specs.declared.strategy.Strategy.TheVariants.{Information}
 use Rattle.tmpl_levels.specs.declared.blp.Clearance.{Clearance}
 
@@ -15,4 +15,4 @@ BlpPasses sender receiver = IsTrue receiver.trusted ⊎ (sender.level ≤ receiv
 
 -- The template `blp`.
 abbrev pub blp : Template
-blp = edge_template (codes "blp") Information Anything unclassified BlpPasses
+blp = edge_template (codes "blp") Information AnyAttribute unclassified BlpPasses

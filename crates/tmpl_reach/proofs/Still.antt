@@ -10,7 +10,7 @@ use Rattle.reach_core.specs.Walks.{Reaches, Joined, has_either}
 use Rattle.reach_core.specs.laws.WalkLaws.{HasWalk-append}
 use Rattle.reach_core.specs.laws.ReachLaws.{Joined-back}
 use Rattle.tmpl_reach.specs.inner.EachOf.{EachOf}
-use Rattle.tmpl_reach.specs.inner.Interferences.{HasOneAtMost, IsNextInterfering, NoneInterferes, StaysApart}
+use Rattle.tmpl_reach.specs.inner.Interferences.{HasOneAtMost, IsNextInterfering, NoneInterferes, StaysIsolated}
 use Rattle.tmpl_reach.specs.NonInterference.{IsInterfering, IsNonInterfering}
 use Rattle.tmpl_reach.specs.declared.non_interference.Interference.{Interference}
 
@@ -24,10 +24,10 @@ everywhere P e f hosts fewer others held each host = elim (cases_Bool (set.conta
   | inr out ↦ fewer (with_flow e f) e host (λ j. others host j out) (held host)
 ]
 
-pub still_apart : (kinds : List Interference) (e : List Flow) (from : ℕ) (hosts : HostNumbers)
-    → ((i : ℕ) → IsTrue (set.contains hosts i) ↔ Joined e from i) → ((host : ℕ) → StaysApart kinds e from host)
+pub still_isolated : (kinds : List Interference) (e : List Flow) (from : ℕ) (hosts : HostNumbers)
+    → ((i : ℕ) → IsTrue (set.contains hosts i) ↔ Joined e from i) → ((host : ℕ) → StaysIsolated kinds e from host)
     → HasOneAtMost kinds hosts ↔ IsNonInterfering kinds e
-still_apart kinds e from hosts joined elsewhere = (
+still_isolated kinds e from hosts joined elsewhere = (
   λ one i first j apart second walk. elim (cases_Bool (set.contains hosts i)) [
     | inl there ↦
         one i j apart there ((joined j).1 (HasWalk-append (has_either e) from i j ((joined i).0 there) walk)) first second

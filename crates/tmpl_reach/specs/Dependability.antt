@@ -2,7 +2,7 @@
 -- never on itself. Based on the template of this name in the entry Network_Security_Policy_Verification of the Archive of Formal Proofs.
 use Rattle.std.specs.Prelude.{ℕ, ◌<◌, List, length, slice_index, codes}
 use Rattle.flow_set.specs.declared.flow.Flow.{Flow}
-use Rattle.inv_law.specs.Template.{Anything, Template, walk_template}
+use Rattle.inv_law.specs.Template.{AnyAttribute, Template, walk_template}
 use Rattle.inv_law.specs.declared.strategy.Strategy.TheVariants.{Access}
 use Rattle.reach_core.specs.Walks.{ReachesAtMost}
 
@@ -12,4 +12,4 @@ IsDependable limits e = (host : ℕ) → host < length limits → ReachesAtMost 
 
 -- The template `dependability`.
 abbrev pub dependability : Template
-dependability = walk_template (codes "dependability") Access (λ n host. Anything) (λ n host. 0) IsDependable
+dependability = walk_template (codes "dependability") Access (λ n host. AnyAttribute) (λ n host. 0) IsDependable

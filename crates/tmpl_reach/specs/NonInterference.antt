@@ -2,7 +2,7 @@
 -- direction of its flows. After the entry Network_Security_Policy_Verification of the Archive of Formal Proofs.
 use Rattle.std.specs.Prelude.{◌≡◌, ◌≢◌, ℕ, List, slice_index_or, codes}
 use Rattle.flow_set.specs.declared.flow.Flow.{Flow}
-use Rattle.inv_law.specs.Template.{Anything, Template, walk_template}
+use Rattle.inv_law.specs.Template.{AnyAttribute, Template, walk_template}
 use Rattle.inv_law.specs.declared.strategy.Strategy.TheVariants.{Information}
 use Rattle.reach_core.specs.Walks.{Joined}
 use Rattle.tmpl_reach.specs.declared.non_interference.Interference.{Interference}
@@ -18,4 +18,4 @@ IsNonInterfering hosts e = (i : ℕ) → IsInterfering hosts i → (j : ℕ) →
 
 -- The template `noninterference`.
 abbrev pub non_interference : Template
-non_interference = walk_template (codes "noninterference") Information (λ n host. Anything) (λ n host. Interfering) IsNonInterfering
+non_interference = walk_template (codes "noninterference") Information (λ n host. AnyAttribute) (λ n host. Interfering) IsNonInterfering

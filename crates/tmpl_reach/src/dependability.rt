@@ -114,7 +114,7 @@ impl Invariant for Dependability {
 
     ghost holds_on_none = { IsDependable-none };
 
-    ghost reset_mends_nothing = { IsDependable-reset };
+    ghost reset_preserves_violation = { IsDependable-reset };
 
     ghost mark_is_right = { λ _ marked. absurd (false≢true marked) };
 }

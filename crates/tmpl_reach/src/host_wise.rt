@@ -54,7 +54,7 @@ pub(crate) fn still_allowed<R: HostWise>(rule: &R, closure: &ReachClosure, f: Fl
     ensures { IsTrue result ↔ ((host : ℕ) → R.allows_on rule.now (with_flow closure.now.flows f) host) }
 {
     let _ = closure.size();
-    let hosts = closure.opened_by(f);
+    let hosts = closure.newly_reaching(f);
     let mut from = 0;
     while let Some(host) = hosts.first_from(from) {
         if !rule.allows(host, &closure.reached_with(f, host)) {

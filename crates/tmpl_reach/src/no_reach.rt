@@ -143,7 +143,7 @@ impl Invariant for NoReach {
 
     ghost holds_on_none = { ReachesNoDenied-none };
 
-    ghost reset_mends_nothing = { ReachesNoDenied-reset };
+    ghost reset_preserves_violation = { ReachesNoDenied-reset };
 
     ghost mark_is_right = { λ _ marked. absurd (false≢true marked) };
 }

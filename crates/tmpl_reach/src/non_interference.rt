@@ -89,7 +89,7 @@ impl NonInterference {
     }
 
     // Whether no interfering host is joined with another.
-    fn all_apart(&self, closure: &JoinClosure) -> bool
+    fn all_isolated(&self, closure: &JoinClosure) -> bool
         requires { closure.now.size ≡ length self.now }
         ensures { IsTrue result ↔ IsNonInterfering self.now closure.now.flows }
     {
@@ -105,7 +105,7 @@ impl NonInterference {
 
     // Whether no interfering host is joined with another after one more flow, provided that none is
     // without it.
-    fn still_apart(&self, closure: &JoinClosure, f: Flow) -> bool
+    fn still_isolated(&self, closure: &JoinClosure, f: Flow) -> bool
         requires size { closure.now.size ≡ length self.now }
         requires flow { IsFlow closure.now.size f }
         requires held { IsNonInterfering self.now closure.now.flows }
@@ -194,7 +194,7 @@ impl Invariant for NonInterference {
 
     fn holds(&self, alloc: Global, e: &FlowSet) -> Result<bool, AllocError> {
         let closure = JoinClosure::of(alloc, e)?;
-        Ok(self.all_apart(&closure))
+        Ok(self.all_isolated(&closure))
     }
 
     fn with_default(&self, alloc: Global, host: u16) -> Result<Self, AllocError> {
@@ -207,7 +207,7 @@ impl Invariant for NonInterference {
 
     ghost holds_on_none = { IsNonInterfering-none };
 
-    ghost reset_mends_nothing = { IsNonInterfering-reset };
+    ghost reset_preserves_violation = { IsNonInterfering-reset };
 
     ghost mark_is_right = { λ _ marked. absurd (false≢true marked) };
 }
@@ -226,7 +226,7 @@ impl Stepwise for NonInterference {
     fn step(&self, tried: &mut ReachTrial, f: Flow) -> bool {
         match &mut tried.half {
             Half::Join(closure) => {
-                let holds = self.still_apart(closure, f);
+                let holds = self.still_isolated(closure, f);
                 closure.try_add(f);
                 holds
             }
@@ -245,7 +245,7 @@ impl Stepwise for NonInterference {
         match &mut tried.half {
             Half::Join(closure) => {
                 closure.forget();
-                self.still_apart(closure, f)
+                self.still_isolated(closure, f)
             }
             _ => false,
         }

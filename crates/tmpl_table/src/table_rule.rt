@@ -6,7 +6,7 @@ ghost use Rattle.inv_law.specs.laws.AttributeLaws.{ResetPassesNoMore-attributes}
 ghost use Rattle.inv_law.specs.Attributes.{PassesBetween};
 ghost use Rattle.inv_law.specs.inner.Resets.{PassesAfterReset};
 ghost use Rattle.tmpl_table.specs.KindTable.{TablePasses, declared, is_lawful};
-ghost use Rattle.tmpl_table.specs.inner.KindTable.{HidesNoFault, first_weaker};
+ghost use Rattle.tmpl_table.specs.inner.KindTable.{HasSecureDefault, first_weaker};
 ghost use Rattle.tmpl_table.specs.laws.KindTableLaws.{table_secure};
 ghost use Rattle.tmpl_table.specs.inner.TableFaults.{IsRefused};
 
@@ -63,7 +63,7 @@ impl TableRule {
           table = record { name = name; strategy = strategy; kinds = kinds; default = default; denied = denied.now };
           hosts = replicate n default;
         }) }
-        ensures accepted { IfOk result (λ rule. IsTrue (is_lawful rule.table) × HidesNoFault rule.table) }
+        ensures accepted { IfOk result (λ rule. IsTrue (is_lawful rule.table) × HasSecureDefault rule.table) }
         ensures refused { IfErr result
             (IsRefused (record { name = name; strategy = strategy; kinds = kinds; default = default; denied = denied.now })) }
     {

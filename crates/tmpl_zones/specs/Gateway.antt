@@ -1,7 +1,7 @@
 -- The security gateway template: four pairs of kinds fail, and all others pass. Based on the template of this name of
 -- Network_Security_Policy_Verification in the Archive of Formal Proofs, with the table of docs/FORMATS.md.
 use Rattle.std.specs.Prelude.{Bool, true, false, codes}
-use Rattle.inv_law.specs.Template.{Anything, Template, edge_template}
+use Rattle.inv_law.specs.Template.{AnyAttribute, Template, edge_template}
 use Rattle.inv_law.specs.declared.strategy.Strategy.TheVariants.{Access}
 use Rattle.tmpl_zones.specs.Kinds.{TablePasses}
 use Rattle.tmpl_zones.specs.declared.gateway.GateKind.{GateKind}
@@ -17,4 +17,4 @@ gateway_passes sender receiver = true
 
 -- The template `gateway`.
 abbrev pub gateways : Template
-gateways = edge_template (codes "gateway") Access Anything Unassigned (TablePasses gateway_passes)
+gateways = edge_template (codes "gateway") Access AnyAttribute Unassigned (TablePasses gateway_passes)

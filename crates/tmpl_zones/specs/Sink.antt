@@ -2,7 +2,7 @@
 -- on the template of this name of Network_Security_Policy_Verification in the Archive of Formal Proofs, with the table
 -- of docs/FORMATS.md.
 use Rattle.std.specs.Prelude.{Bool, true, false, codes}
-use Rattle.inv_law.specs.Template.{Anything, Template, edge_template}
+use Rattle.inv_law.specs.Template.{AnyAttribute, Template, edge_template}
 use Rattle.inv_law.specs.declared.strategy.Strategy.TheVariants.{Information}
 use Rattle.tmpl_zones.specs.Kinds.{TablePasses}
 use Rattle.tmpl_zones.specs.declared.sink.SinkKind.{SinkKind}
@@ -16,4 +16,4 @@ sink_passes sender receiver = true
 
 -- The template `sink`.
 abbrev pub sinks : Template
-sinks = edge_template (codes "sink") Information Anything Unassigned (TablePasses sink_passes)
+sinks = edge_template (codes "sink") Information AnyAttribute Unassigned (TablePasses sink_passes)

@@ -2,7 +2,7 @@
 -- Based on the template of this name of Network_Security_Policy_Verification in the Archive of Formal Proofs, with the
 -- table of docs/FORMATS.md.
 use Rattle.std.specs.Prelude.{Bool, true, false, ◌==◌, codes}
-use Rattle.inv_law.specs.Template.{Anything, Template, edge_template}
+use Rattle.inv_law.specs.Template.{AnyAttribute, Template, edge_template}
 use Rattle.inv_law.specs.declared.strategy.Strategy.TheVariants.{Access}
 use Rattle.tmpl_zones.specs.Kinds.{TablePasses}
 use Rattle.tmpl_zones.specs.declared.subnets.NetKind.{NetKind}
@@ -18,4 +18,4 @@ subnets_passes sender receiver = false
 
 -- The template `subnets`.
 abbrev pub subnets : Template
-subnets = edge_template (codes "subnets") Access Anything Unassigned (TablePasses subnets_passes)
+subnets = edge_template (codes "subnets") Access AnyAttribute Unassigned (TablePasses subnets_passes)

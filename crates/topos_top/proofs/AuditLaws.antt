@@ -13,24 +13,24 @@ use Rattle.audit_core.specs.Lists.{front_of}
 use Rattle.audit_core.specs.Places.{representatives_of}
 use Rattle.audit_core.specs.Rules.{Rules, filter_of}
 use Rattle.audit_core.specs.Verdicts.{GivesOne}
-use Rattle.audit_core.specs.Sides.{ForwardAlike, Sides, sides_of}
+use Rattle.audit_core.specs.Sides.{AreEquivalent, Sides, sides_of}
 use Rattle.audit_core.specs.declared.finding.Finding.{Finding}
 use Rattle.audit_core.specs.declared.finding.Finding.TheVariants.{Equal, Differ as Differing}
 use Rattle.audit_core.specs.declared.finding.Trace.{Trace}
 use Rattle.audit_core.specs.declared.kind.Kind.{Kind}
-use Rattle.audit_core.specs.declared.kind.Kind.TheVariants.{Alone, BehindSwap, BehindBoth}
+use Rattle.audit_core.specs.declared.kind.Kind.TheVariants.{Alone, AfterSwap, AfterBoth}
 use Rattle.host_net.specs.declared.packet.Packet.{Packet}
 use Rattle.net_core.specs.inner.Fitting.{IsNetwork}
 use Rattle.net_core.specs.Network.{Network, site_of}
 use Rattle.net_core.specs.Policies.{IsPolicyOf, Policy}
 use Rattle.pkt_core.specs.declared.event.Event.TheVariants.{Seen}
-use Rattle.pkt_core.specs.Filter.{ArePackets, ForwardsExpected}
+use Rattle.pkt_core.specs.Filter.{ArePackets, ForwardsAsExpected}
 use Rattle.pkt_core.specs.Firewall.{Filter}
-use Rattle.topos_top.specs.Audit.{FewClasses, HasManyClasses, OfSides, TellsDifference, audit_job, rules_in}
-use Rattle.topos_top.specs.Dialects.{language_of}
-use Rattle.topos_top.specs.Job.{Answers}
+use Rattle.topos_top.specs.Audit.{FewClasses, HasManyClasses, OfSides, ReportsDifference, audit_outcomes, rules_in}
+use Rattle.topos_top.specs.Dialects.{rule_dialect_of}
+use Rattle.topos_top.specs.Outcomes.{Answers}
 use Rattle.topos_top.specs.Reply.{Reply}
-use Rattle.topos_top.specs.inner.JobReplies.{finding_reply}
+use Rattle.topos_top.specs.inner.OutcomesReplies.{finding_reply}
 use Rattle.topos_top.specs.inner.Views.{reply_on}
 use Rattle.topos_top.specs.Rules.{IsRules, OfPolicy}
 use Rattle.topos_top.specs.declared.dialect.Dialect.{Dialect}
@@ -47,11 +47,11 @@ few_not_many sides line few many = omega (arith, few, many.0)
 
 trace_events : (kind : Kind) (p : Packet) (forwards : Bool) → events_of (trace_of kind p forwards) ≡ front_of kind p ++ Seen p ∷ []
 trace_events Alone p forwards = refl
-trace_events BehindSwap p forwards = refl
-trace_events BehindBoth p forwards = refl
+trace_events AfterSwap p forwards = refl
+trace_events AfterBoth p forwards = refl
 
-tells_difference : (sides : Sides) (t : Trace) → IsFirstTrace sides (representatives_of (cuts_between sides)) t → TellsDifference sides (trace_text t)
-tells_difference sides t first = record {
+reports_difference : (sides : Sides) (t : Trace) → IsFirstTrace sides (representatives_of (cuts_between sides)) t → ReportsDifference sides (trace_text t)
+reports_difference sides t first = record {
   trace = t;
   first = first;
   told = refl;
@@ -78,9 +78,9 @@ module _ (d : Network) (rules : Rules) where
   moved : (Holds Other : Sides → Type 0) (p : OfSides d rules Holds) (q : OfSides d rules Other) → Holds (sides_for d rules q.policy)
   moved Holds Other p q = same_policy d (λ site f s. Holds (sides_of site f s rules)) (λ site f s. Other (sides_of site f s rules)) p q
 
-  pub trace_once : (a b : List ℕ) → OfSides d rules (λ sides. TellsDifference sides a) → OfSides d rules (λ sides. TellsDifference sides b) → a ≡ b
+  pub trace_once : (a b : List ℕ) → OfSides d rules (λ sides. ReportsDifference sides a) → OfSides d rules (λ sides. ReportsDifference sides b) → a ≡ b
   trace_once a b p q =
-      let first = moved (λ sides. TellsDifference sides a) (λ sides. TellsDifference sides b) p q in
+      let first = moved (λ sides. ReportsDifference sides a) (λ sides. ReportsDifference sides b) p q in
       let second = q.so in
       let same = finding_once (sides_for d rules q.policy) (Differing first.trace) (Differing second.trace) first.first second.first in
       first.told ∙ ap finding_text same ∙ sym second.told
@@ -88,26 +88,26 @@ module _ (d : Network) (rules : Rules) where
   pub line_once : (a b : List ℕ) → OfSides d rules (λ sides. HasManyClasses sides a) → OfSides d rules (λ sides. HasManyClasses sides b) → a ≡ b
   line_once a b p q = (moved (λ sides. HasManyClasses sides a) (λ sides. HasManyClasses sides b) p q).1 ∙ sym q.so.1
 
-  pub agreement_tells : OfSides d rules (λ sides. FewClasses sides × ForwardAlike sides) → OfSides d rules ForwardAlike
+  pub agreement_tells : OfSides d rules (λ sides. FewClasses sides × AreEquivalent sides) → OfSides d rules AreEquivalent
   agreement_tells agree = record { policy = agree.policy; is_policy = agree.is_policy; so = agree.so.1 }
 
   pub many_or_few : (Holds : Sides → Type 0) (line : List ℕ) → OfSides d rules (λ sides. HasManyClasses sides line) → OfSides d rules (λ sides. FewClasses sides × Holds sides) → ⊥
   many_or_few Holds line many few =
       few_not_many (sides_for d rules many.policy) line (moved (λ sides. FewClasses sides × Holds sides) (λ sides. HasManyClasses sides line) few many).0 many.so
 
-  pub differ_or_agree : OfSides d rules (λ sides. FewClasses sides × DifferSomewhere sides) → OfSides d rules (λ sides. FewClasses sides × ForwardAlike sides) → ⊥
+  pub differ_or_agree : OfSides d rules (λ sides. FewClasses sides × DifferSomewhere sides) → OfSides d rules (λ sides. FewClasses sides × AreEquivalent sides) → ⊥
   differ_or_agree differ agree =
       no_difference_where_expected (sides_for d rules agree.policy) agree.so.1
-      (moved (λ sides. FewClasses sides × DifferSomewhere sides) (λ sides. FewClasses sides × ForwardAlike sides) differ agree).1
+      (moved (λ sides. FewClasses sides × DifferSomewhere sides) (λ sides. FewClasses sides × AreEquivalent sides) differ agree).1
 
 -- ---- both directions
 
 -- If the number of classes is within the limit, `equal` is written if and only if they forward alike.
-pub equal_exactly : (d : Network) (rules : Rules) (reply : Reply) → Answers true (audit_job d rules) reply → OfSides d rules FewClasses
-    → (reply.status ≡ Done) ↔ OfSides d rules ForwardAlike
+pub equal_exactly : (d : Network) (rules : Rules) (reply : Reply) → Answers true (audit_outcomes d rules) reply → OfSides d rules FewClasses
+    → (reply.status ≡ Done) ↔ OfSides d rules AreEquivalent
 equal_exactly d rules reply answers few = (alike_where_done, done_where_alike)
   where
-    alike_where_done : reply.status ≡ Done → OfSides d rules ForwardAlike
+    alike_where_done : reply.status ≡ Done → OfSides d rules AreEquivalent
     alike_where_done done = elim answers.1 [
       | inl many ↦ let other = many.0 in cc (done, other)
       | inr rest ↦ elim rest [
@@ -116,57 +116,57 @@ equal_exactly d rules reply answers few = (alike_where_done, done_where_alike)
       ]
     ]
 
-    done_where_alike : OfSides d rules ForwardAlike → reply.status ≡ Done
+    done_where_alike : OfSides d rules AreEquivalent → reply.status ≡ Done
     done_where_alike alike = elim answers.1 [
       | inl many ↦
           let there = many.1.2 in
           absurd (few_not_many (sides_for d rules there.policy) many.1.1 (moved d rules FewClasses (λ sides. HasManyClasses sides many.1.1) few there) there.so)
       | inr rest ↦ elim rest [
         | inl differ ↦
-            let both = moved d rules ForwardAlike (λ sides. FewClasses sides × DifferSomewhere sides) alike differ.1 in
+            let both = moved d rules AreEquivalent (λ sides. FewClasses sides × DifferSomewhere sides) alike differ.1 in
             absurd (no_difference_where_expected (sides_for d rules differ.1.policy) both differ.1.so.1)
         | inr last ↦ elim last [ inl equal ↦ equal.0 | inr none ↦ absurd none ]
       ]
     ]
 
 -- Rules forward in an audit the packets that they forward in their dialect.
-pub filter_in : (dialect : Dialect) (said : (language_of dialect).Rules) → filter_of (rules_in dialect said) ≡ (language_of dialect).filter said
+pub filter_in : (dialect : Dialect) (said : (rule_dialect_of dialect).Rules) → filter_of (rules_in dialect said) ≡ (rule_dialect_of dialect).filter said
 filter_in Iptables chains = refl
 filter_in OpenFlow entries = refl
 
 -- The rules that are parsed from a text of `rules` or `repair` forward alike.
-pub written_alike : (dialect : Dialect) (d : Network) (text : List ℕ) (said : (language_of dialect).Rules) → IsNetwork d
-    → OfPolicy d (language_of dialect).CanWrite → IsRules (language_of dialect) d text → (language_of dialect).IsReading text said
-    → OfSides d (rules_in dialect said) ForwardAlike
+pub written_alike : (dialect : Dialect) (d : Network) (text : List ℕ) (said : (rule_dialect_of dialect).Rules) → IsNetwork d
+    → OfPolicy d (rule_dialect_of dialect).CanWrite → IsRules (rule_dialect_of dialect) d text → (rule_dialect_of dialect).IsReading text said
+    → OfSides d (rules_in dialect said) AreEquivalent
 unfolding rules_keep
 written_alike dialect d text said network can is reading =
-    let keep = rules_keep (language_of dialect) (keeps_policies dialect) d text network can is in
-    let filter = ap (language_of dialect).filter (sym (keep.only_reading said reading)) ∙ sym (filter_in dialect said) in
+    let keep = rules_keep (rule_dialect_of dialect) (keeps_policies dialect) d text network can is in
+    let filter = ap (rule_dialect_of dialect).filter (sym (keep.only_reading said reading)) ∙ sym (filter_in dialect said) in
     record {
       policy = keep.policy;
       is_policy = keep.invariants.is_policy;
-      so = subst (λ (f : Filter). ForwardsExpected f (site_of d) keep.policy.permitted.flows keep.policy.stateful.flows) filter keep.expected;
+      so = subst (λ (f : Filter). ForwardsAsExpected f (site_of d) keep.policy.permitted.flows keep.policy.stateful.flows) filter keep.expected;
     }
 
 -- ---- the result of the code
 
 module _ (d : Network) (rules : Rules) (policy : Policy) (is_policy : IsPolicyOf d policy) where
   ends_different : (reply : Reply) (t : Trace) → FewClasses (sides_for d rules policy) → IsFinding (sides_for d rules policy) (Differing t)
-      → reply ≡ reply_on Violated Output (finding_text (Differing t)) → Answers true (audit_job d rules) reply
+      → reply ≡ reply_on Violated Output (finding_text (Differing t)) → Answers true (audit_outcomes d rules) reply
   ends_different reply t few found is =
-      subst (λ (r : Reply). Answers true (audit_job d rules) r) (sym is) (
+      subst (λ (r : Reply). Answers true (audit_outcomes d rules) r) (sym is) (
         refl,
         inr (inl (
           refl,
           record { policy = policy; is_policy = is_policy; so = (few, differ_there (sides_for d rules policy) t found) },
-          record { policy = policy; is_policy = is_policy; so = tells_difference (sides_for d rules policy) t found },
+          record { policy = policy; is_policy = is_policy; so = reports_difference (sides_for d rules policy) t found },
         )),
       )
 
   ends_equal : (reply : Reply) → GivesOne (filter_of rules) → FewClasses (sides_for d rules policy) → IsFinding (sides_for d rules policy) Equal
-      → reply ≡ reply_on Done Output (finding_text Equal) → Answers true (audit_job d rules) reply
+      → reply ≡ reply_on Done Output (finding_text Equal) → Answers true (audit_outcomes d rules) reply
   ends_equal reply gives few found is =
-      subst (λ (r : Reply). Answers true (audit_job d rules) r) (sym is) (
+      subst (λ (r : Reply). Answers true (audit_outcomes d rules) r) (sym is) (
         refl,
         inr (inr (inl (
           refl,
@@ -176,6 +176,6 @@ module _ (d : Network) (rules : Rules) (policy : Policy) (is_policy : IsPolicyOf
       )
 
   pub ends_found : (reply : Reply) (finding : Finding) → GivesOne (filter_of rules) → FewClasses (sides_for d rules policy) → IsFinding (sides_for d rules policy) finding
-      → reply ≡ finding_reply finding → Answers true (audit_job d rules) reply
+      → reply ≡ finding_reply finding → Answers true (audit_outcomes d rules) reply
   ends_found reply Equal gives few found is = ends_equal reply gives few found is
   ends_found reply (Differing t) gives few found is = ends_different reply t few found is

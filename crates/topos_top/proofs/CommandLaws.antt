@@ -1,37 +1,37 @@
--- The obligations of each command's job after its files were read.
+-- The obligations of each command's outcomes after its files were read.
 use Rattle.std.proofs.Common.{◌≡◌, ℕ, List, true, refl, sym, ◌∙◌}
 use Rattle.audit_core.specs.Findings.{DifferSomewhere}
 use Rattle.audit_core.specs.Rules.{Rules as AuditedRules}
-use Rattle.audit_core.specs.Sides.{ForwardAlike}
-use Rattle.ipt_rules.specs.Meaning.{Passes as PassesChains}
+use Rattle.audit_core.specs.Sides.{AreEquivalent}
+use Rattle.ipt_rules.specs.Semantics.{Passes as PassesChains}
 use Rattle.net_core.specs.inner.Fitting.{IsNetwork}
 use Rattle.net_core.specs.Network.{Network}
-use Rattle.ofp_rules.specs.Meaning.{Passes as PassesTable}
+use Rattle.ofp_rules.specs.Semantics.{Passes as PassesTable}
 use Rattle.pkt_core.specs.declared.event.Event.{Event}
 use Rattle.report_core.proofs.ReportLaws.{check_report_is_one, policy_report_is_one}
-use Rattle.report_core.proofs.ReportPromisesLaws.{tells_offences, tells_policy}
+use Rattle.report_core.proofs.ReportPromisesLaws.{reports_violations, reports_policy}
 use Rattle.sample_core.proofs.SampleLaws.{sample_is_one}
-use Rattle.sample_core.proofs.SamplePromisesLaws.{tells_sample}
-use Rattle.report_core.proofs.TraceLaws.{any_known, chains_answer_once, table_answers_once, trace_is_one, tells_run}
-use Rattle.topos_top.specs.Ask.{Ask, Check, Policy, Rules, Repair, Trace, Sample, Migrate, Audit, Edit, Local}
-use Rattle.topos_top.specs.Audit.{audit_job, rules_in}
+use Rattle.sample_core.proofs.SamplePromisesLaws.{reports_sample}
+use Rattle.report_core.proofs.TraceLaws.{any_known, chains_answer_once, table_answers_once, trace_is_one, reports_run}
+use Rattle.topos_top.specs.Command.{Command, Check, Policy, Rules, Repair, Trace, Sample, Migrate, Audit, Edit, Local}
+use Rattle.topos_top.specs.Audit.{audit_outcomes, rules_in}
 use Rattle.topos_top.specs.Check.{offences_when}
-use Rattle.topos_top.specs.Commands.{course_of}
-use Rattle.topos_top.specs.Course.{Course, reads, ends}
-use Rattle.topos_top.specs.Dialects.{language_of}
-use Rattle.topos_top.specs.Edit.{edit_job}
-use Rattle.topos_top.specs.Kinds.{contents_of}
+use Rattle.topos_top.specs.Commands.{plan_of}
+use Rattle.topos_top.specs.CommandPlan.{CommandPlan, reads, ends}
+use Rattle.topos_top.specs.Dialects.{rule_dialect_of}
+use Rattle.topos_top.specs.Edit.{edit_outcomes}
+use Rattle.topos_top.specs.FileFormats.{format_of}
 use Rattle.topos_top.specs.Local.{machines_when}
 use Rattle.topos_top.specs.Rules.{ListedHolds, rules_when}
-use Rattle.topos_top.specs.Trace.{trace_job}
+use Rattle.topos_top.specs.Trace.{trace_outcomes}
 use Rattle.topos_top.specs.declared.dialect.Dialect.{Dialect}
 use Rattle.topos_top.specs.declared.dialect.Dialect.TheVariants.{Iptables, OpenFlow}
 use Rattle.topos_top.specs.declared.kind.Kind.TheVariants as kind
 use Rattle.topos_top.specs.declared.status.Status.{Status}
 use Rattle.topos_top.proofs.AuditLaws.{agreement_tells, differ_or_agree, line_once, many_or_few, trace_once}
 use Rattle.topos_top.proofs.DialectLaws.{keeps_policies}
-use Rattle.topos_top.proofs.EditLaws.{line_is_one, never_both as refused_or_accepted, tells_edits, text_is_one}
-use Rattle.topos_top.proofs.JobLaws.{is_end, IsOwed, IsSettled, settled_writes}
+use Rattle.topos_top.proofs.EditLaws.{line_is_one, never_both as refused_or_accepted, reports_edits, text_is_one}
+use Rattle.topos_top.proofs.OutcomesLaws.{is_end, IsOwed, IsSettled, settled_writes}
 use Rattle.topos_top.proofs.KindLaws.{IsSound}
 use Rattle.topos_top.proofs.LocalLaws.{bar_is_one, local_is_one, local_keeps, specific_or_barred}
 use Rattle.topos_top.proofs.RulesLaws.{rules_are_one, never_both, hindrance_is_one, rules_keep}
@@ -39,77 +39,77 @@ use Rattle.edit_core.specs.Edit.{Edit as Change}
 use Rattle.toml.specs.Data.{Members}
 
 -- The obligations of a plan, for all parse results.
-abbrev pub IsOwedAlong : Course → Type 0
-IsOwedAlong (reads kind file next) = (said : (contents_of kind).Said) → IsSound kind said → IsOwedAlong (next said)
-IsOwedAlong (ends job) = IsSettled job
+abbrev pub IsOwedAlong : CommandPlan → Type 0
+IsOwedAlong (reads kind file next) = (said : (format_of kind).Said) → IsSound kind said → IsOwedAlong (next said)
+IsOwedAlong (ends outcomes) = IsSettled outcomes
 
 owed_offences : (ended : Status) → is_end ended ≡ true → (when : Type 0) (d : Network) → IsNetwork d → IsOwed (offences_when ended when d)
-owed_offences ended status when d sound = record { status = status; one = check_report_is_one d; tells = λ now text is. tells_offences d text sound is }
+owed_offences ended status when d sound = record { status = status; one = check_report_is_one d; guarantees = λ now text is. reports_violations d text sound is }
 
-settled_rules : (holds : Type 0) (dialect : Dialect) (d : Network) → IsNetwork d → IsSettled (rules_when holds (language_of dialect) d)
+settled_rules : (holds : Type 0) (dialect : Dialect) (d : Network) → IsNetwork d → IsSettled (rules_when holds (rule_dialect_of dialect) d)
 settled_rules holds dialect d sound = record {
   owed = (
-    record { status = refl; one = hindrance_is_one (language_of dialect) (keeps_policies dialect) d; tells = λ now text is. is },
+    record { status = refl; one = hindrance_is_one (rule_dialect_of dialect) (keeps_policies dialect) d; guarantees = λ now text is. is },
     (
       record {
         status = refl;
-        one = rules_are_one (language_of dialect) (keeps_policies dialect) d;
-        tells = λ now text is. rules_keep (language_of dialect) (keeps_policies dialect) d text sound now.1 is;
+        one = rules_are_one (rule_dialect_of dialect) (keeps_policies dialect) d;
+        guarantees = λ now text is. rules_keep (rule_dialect_of dialect) (keeps_policies dialect) d text sound now.1 is;
       },
       tt,
     ),
   );
-  apart = ((λ hindered written. never_both (language_of dialect) (keeps_policies dialect) d hindered.1 hindered.2 written.1, tt), (tt, tt));
+  apart = ((λ hindered written. never_both (rule_dialect_of dialect) (keeps_policies dialect) d hindered.1 hindered.2 written.1, tt), (tt, tt));
 }
 
 settled_machines : (holds : Type 0) (d : Network) (host : List ℕ) → IsNetwork d → IsSettled (machines_when holds d host)
 settled_machines holds d host sound = record {
   owed = (
-    record { status = refl; one = bar_is_one d host; tells = λ now text is. is },
-    (record { status = refl; one = local_is_one d host; tells = λ now text is. local_keeps d host text sound now.1 is }, tt),
+    record { status = refl; one = bar_is_one d host; guarantees = λ now text is. is },
+    (record { status = refl; one = local_is_one d host; guarantees = λ now text is. local_keeps d host text sound now.1 is }, tt),
   );
   apart = ((λ barred written. specific_or_barred d host barred.1 barred.2 written.1, tt), (tt, tt));
 }
 
-settled_trace : (dialect : Dialect) (rules : (language_of dialect).Rules) (events : List Event) → IsSound (kind.Rules dialect) rules → IsSound kind.Events events
-    → IsSettled (trace_job ((language_of dialect).filter rules) events)
+settled_trace : (dialect : Dialect) (rules : (rule_dialect_of dialect).Rules) (events : List Event) → IsSound (kind.Rules dialect) rules → IsSound kind.Events events
+    → IsSettled (trace_outcomes ((rule_dialect_of dialect).filter rules) events)
 settled_trace Iptables chains events sound packets =
     let once = chains_answer_once chains in
-    settled_writes _ _ (trace_is_one _ (PassesChains chains) once events (any_known events)) (tells_run _ (PassesChains chains) once events (any_known events))
+    settled_writes _ _ (trace_is_one _ (PassesChains chains) once events (any_known events)) (reports_run _ (PassesChains chains) once events (any_known events))
 settled_trace OpenFlow entries events sound packets =
     let once = table_answers_once entries sound in
-    settled_writes _ _ (trace_is_one _ (PassesTable entries) once events packets) (tells_run _ (PassesTable entries) once events packets)
+    settled_writes _ _ (trace_is_one _ (PassesTable entries) once events packets) (reports_run _ (PassesTable entries) once events packets)
 
-settled_audit : (d : Network) (rules : AuditedRules) → IsSettled (audit_job d rules)
+settled_audit : (d : Network) (rules : AuditedRules) → IsSettled (audit_outcomes d rules)
 settled_audit d rules = record {
   owed = (
-    record { status = refl; one = line_once d rules; tells = λ now line is. is },
+    record { status = refl; one = line_once d rules; guarantees = λ now line is. is },
     (
-      record { status = refl; one = trace_once d rules; tells = λ now text is. is },
-      (record { status = refl; one = λ a b p q. p ∙ sym q; tells = λ now text is. agreement_tells d rules now }, tt),
+      record { status = refl; one = trace_once d rules; guarantees = λ now text is. is },
+      (record { status = refl; one = λ a b p q. p ∙ sym q; guarantees = λ now text is. agreement_tells d rules now }, tt),
     ),
   );
   apart = (
-    (λ many differ. many_or_few d rules DifferSomewhere many.1 many.2 differ, (λ many agree. many_or_few d rules ForwardAlike many.1 many.2 agree, tt)),
+    (λ many differ. many_or_few d rules DifferSomewhere many.1 many.2 differ, (λ many agree. many_or_few d rules AreEquivalent many.1 many.2 agree, tt)),
     ((λ differ agree. differ_or_agree d rules differ agree, tt), (tt, tt)),
   );
 }
 
-settled_edits : (table : Members) (edits : List Change) → IsSettled (edit_job table edits)
+settled_edits : (table : Members) (edits : List Change) → IsSettled (edit_outcomes table edits)
 settled_edits table edits = record {
   owed = (
-    record { status = refl; one = line_is_one table edits; tells = λ now line is. is },
-    (record { status = refl; one = text_is_one table edits; tells = λ now text is. tells_edits table edits text is }, tt),
+    record { status = refl; one = line_is_one table edits; guarantees = λ now line is. is },
+    (record { status = refl; one = text_is_one table edits; guarantees = λ now text is. reports_edits table edits text is }, tt),
   );
   apart = ((λ refused accepted. refused_or_accepted table edits refused.1 refused.2 accepted, tt), (tt, tt));
 }
 
-pub settled : (ask : Ask) → IsOwedAlong (course_of ask)
+pub settled : (command : Command) → IsOwedAlong (plan_of command)
 settled (Check file) = λ d sound. record {
   owed = (owed_offences _ refl _ d sound, (owed_offences _ refl _ d sound, tt));
   apart = ((λ fails holds. fails holds, tt), (tt, tt));
 }
-settled (Policy file) = λ d sound. settled_writes _ _ (policy_report_is_one d) (λ text is. tells_policy d text sound is)
+settled (Policy file) = λ d sound. settled_writes _ _ (policy_report_is_one d) (λ text is. reports_policy d text sound is)
 settled (Rules dialect file) = λ d sound. record {
   owed = (owed_offences _ refl _ d sound, (settled_rules (ListedHolds d) dialect d sound).owed);
   apart = (
@@ -119,7 +119,7 @@ settled (Rules dialect file) = λ d sound. record {
 }
 settled (Repair dialect file) = λ d sound. settled_rules (Unit {0}) dialect d sound
 settled (Trace dialect rules events) = λ said sound es packets. settled_trace dialect said es sound packets
-settled (Sample hosts) = settled_writes _ _ (sample_is_one hosts) (tells_sample hosts)
+settled (Sample hosts) = settled_writes _ _ (sample_is_one hosts) (reports_sample hosts)
 settled (Migrate file) = λ text sound. settled_writes _ _ (λ a b p q. p ∙ sym q) (λ text is. is)
 settled (Audit dialect file rules) = λ d sound said fits. settled_audit d (rules_in dialect said)
 settled (Edit file edits) = λ table sound es known. settled_edits table es

@@ -13,22 +13,22 @@ use Rattle.ofp_read.proofs.AgainLaws.{text_read_again as flows_read_again}
 use Rattle.ofp_read.proofs.FaultLaws.{one_reading as one_reading_of_flows}
 use Rattle.pkt_core.specs.Filter.{Enforces}
 use Rattle.report_core.specs.Names.{flow_text}
-use Rattle.topos_top.specs.Dialects.{Language, NeedsState, RangeOfPorts, TooManyFlows, iptables, openflow, language_of, BarsTable}
+use Rattle.topos_top.specs.Dialects.{RuleDialect, NeedsState, RangeOfPorts, TooManyFlows, iptables, openflow, rule_dialect_of, CannotEmitTable}
 use Rattle.topos_top.specs.Reply.{not_emittable}
 use Rattle.topos_top.specs.declared.dialect.Dialect.{Dialect}
 use Rattle.topos_top.specs.declared.dialect.Dialect.TheVariants.{Iptables, OpenFlow}
 
 -- The properties by which rules guarantee a policy.
-pub record KeepsPolicies (language : Language) : Type 0 where
+pub record KeepsPolicies (language : RuleDialect) : Type 0 where
   pub enforces : (site : Site) (p s : List Flow) → IsSite site → language.CanWrite site p s → Enforces (language.filter (language.layout site p s)) site p s
   pub other_frames : (site : Site) (p s : List Flow) → IsSite site → language.CanWrite site p s → language.OtherFrames (language.layout site p s)
   pub read_again : (site : Site) (p s : List Flow) → IsSite site → language.CanWrite site p s
       → language.IsReading (language.text (language.layout site p s)) (language.layout site p s)
   pub one_reading : (bytes : List ℕ) (rules others : language.Rules) → language.IsReading bytes rules → language.IsReading bytes others
       → rules ≡ others
-  pub one_hindrance : (site : Site) (p s : List Flow) (line other : List ℕ) → language.Hinders line site p s
-      → language.Hinders other site p s → line ≡ other
-  pub apart : (site : Site) (p s : List Flow) (line : List ℕ) → language.CanWrite site p s → language.Hinders line site p s → ⊥
+  pub one_hindrance : (site : Site) (p s : List Flow) (line other : List ℕ) → language.CannotEmit line site p s
+      → language.CannotEmit other site p s → line ≡ other
+  pub apart : (site : Site) (p s : List Flow) (line : List ℕ) → language.CanWrite site p s → language.CannotEmit line site p s → ⊥
 
 iptables_keep : KeepsPolicies iptables
 iptables_keep = record {
@@ -40,7 +40,7 @@ iptables_keep = record {
   apart = λ site p s line fits bars. omega (arith, fits, bars.0);
 }
 
-one_bar : (site : Site) (p s : List Flow) (a b : List ℕ) → BarsTable a site p s → BarsTable b site p s → a ≡ b
+one_bar : (site : Site) (p s : List Flow) (a b : List ℕ) → CannotEmitTable a site p s → CannotEmitTable b site p s → a ≡ b
 one_bar site p s a b (NeedsState f bar is) (NeedsState g also same) =
     is ∙ ap (λ (h : Flow). not_emittable (codes "answers of " ++ (flow_text site.hosts h ++ codes " need state\n"))) (first_barred_once site.services p s f g bar also) ∙ sym same
 one_bar site p s a b (NeedsState f bar is) (RangeOfPorts g covered also same) = absurd (none_barred site.services p s f covered bar)
@@ -53,7 +53,7 @@ one_bar site p s a b (TooManyFlows covered none many is) (NeedsState f also same
 one_bar site p s a b (TooManyFlows covered none many is) (RangeOfPorts f both also same) = absurd (none_ranging site.services p f none also)
 one_bar site p s a b (TooManyFlows covered none many is) (TooManyFlows both also too same) = is ∙ sym same
 
-not_both : (site : Site) (p s : List Flow) (line : List ℕ) → openflow.CanWrite site p s → BarsTable line site p s → ⊥
+not_both : (site : Site) (p s : List Flow) (line : List ℕ) → openflow.CanWrite site p s → CannotEmitTable line site p s → ⊥
 not_both site p s line fits (NeedsState f bar is) = none_barred site.services p s f fits.0 bar
 not_both site p s line fits (RangeOfPorts f covered range is) = none_ranging site.services p f fits.1 range
 not_both site p s line fits (TooManyFlows covered none many is) = omega (arith, fits.2, many)
@@ -68,6 +68,6 @@ openflow_keep = record {
   apart = not_both;
 }
 
-pub keeps_policies : (dialect : Dialect) → KeepsPolicies (language_of dialect)
+pub keeps_policies : (dialect : Dialect) → KeepsPolicies (rule_dialect_of dialect)
 keeps_policies Iptables = iptables_keep
 keeps_policies OpenFlow = openflow_keep

@@ -9,11 +9,11 @@ use Rattle.edit_core.specs.Edit.{Edit}
 use Rattle.net_core.specs.Network.{Network}
 use Rattle.report_core.specs.PolicyReport.{IsPolicyReport}
 use Rattle.report_core.proofs.ReportLaws.{policy_report_is_one}
-use Rattle.report_core.specs.ReportPromises.{TellsPolicy}
-use Rattle.report_core.proofs.ReportPromisesLaws.{tells_policy}
+use Rattle.report_core.specs.ReportPromises.{ReportsPolicy}
+use Rattle.report_core.proofs.ReportPromisesLaws.{reports_policy}
 use Rattle.toml.specs.Data.{Members}
-use Rattle.topos_top.specs.Edit.{SaysEdits, SaysRefusal, SaysTable, edit_job, summary_line, summary_lines}
-use Rattle.topos_top.specs.Job.{Answers}
+use Rattle.topos_top.specs.Edit.{ReportsEdits, ReportsRefusal, ReportsTable, edit_outcomes, summary_line, summary_lines}
+use Rattle.topos_top.specs.Outcomes.{Answers}
 use Rattle.topos_top.specs.Reply.{Reply, error}
 use Rattle.topos_top.specs.inner.Views.{reply_on}
 use Rattle.topos_top.specs.TextFault.{edit_fault_line}
@@ -22,7 +22,7 @@ use Rattle.topos_top.specs.declared.status.Stream.TheVariants.{Output}
 
 -- ---- of one table
 
-says_once : (table : Members) (summaries : List Summary) (a b : List ℕ) → SaysTable IsPolicyReport table summaries a → SaysTable IsPolicyReport table summaries b → a ≡ b
+says_once : (table : Members) (summaries : List Summary) (a b : List ℕ) → ReportsTable IsPolicyReport table summaries a → ReportsTable IsPolicyReport table summaries b → a ≡ b
 says_once table summaries a b p q =
     let here = p.described in
     let there = q.described in
@@ -30,44 +30,44 @@ says_once table summaries a b p q =
     let report = policy_report_is_one p.network p.report q.report p.reports (subst (λ (d : Network). IsPolicyReport d q.report) network q.reports) in
     p.written ∙ ap (λ (text : List ℕ). summary_lines 1 summaries ++ text) report ∙ sym q.written
 
-tells_table : (table : Members) (summaries : List Summary) (text : List ℕ) → SaysTable IsPolicyReport table summaries text → SaysTable TellsPolicy table summaries text
-tells_table table summaries text says = record {
+reports_table : (table : Members) (summaries : List Summary) (text : List ℕ) → ReportsTable IsPolicyReport table summaries text → ReportsTable ReportsPolicy table summaries text
+reports_table table summaries text says = record {
   network = says.network;
   described = says.described;
   report = says.report;
-  reports = tells_policy says.network says.report (IsNetwork-table table says.network says.described) says.reports;
+  reports = reports_policy says.network says.report (IsNetwork-table table says.network says.described) says.reports;
   written = says.written;
 }
 
 -- ---- of edits
 
 module _ (table : Members) (edits : List Edit) where
-  pub line_is_one : (a b : List ℕ) → SaysRefusal table edits a → SaysRefusal table edits b → a ≡ b
+  pub line_is_one : (a b : List ℕ) → ReportsRefusal table edits a → ReportsRefusal table edits b → a ≡ b
   line_is_one a b p q =
       let here = p.refused in
       let there = q.refused in
       let same : ◌≡◌ {A = ℕ × EditWhy} (p.number, p.why) (q.number, q.why) = cc (here, there) in
       p.told ∙ ap (λ (told : ℕ × EditWhy). edit_fault_line told.0 told.1) same ∙ sym q.told
 
-  pub text_is_one : (a b : List ℕ) → SaysEdits IsPolicyReport table edits a → SaysEdits IsPolicyReport table edits b → a ≡ b
+  pub text_is_one : (a b : List ℕ) → ReportsEdits IsPolicyReport table edits a → ReportsEdits IsPolicyReport table edits b → a ≡ b
   text_is_one a b p q =
       let here = p.accepted in
       let there = q.accepted in
       let last : q.last ≡ p.last = cc (here, there) in
       let told = summaries_are_one edits table q.summaries p.summaries q.told p.told in
       says_once p.last p.summaries a b p.says
-      (subst (λ (ss : List Summary). SaysTable IsPolicyReport p.last ss b) told (subst (λ (t : Members). SaysTable IsPolicyReport t q.summaries b) last q.says))
+      (subst (λ (ss : List Summary). ReportsTable IsPolicyReport p.last ss b) told (subst (λ (t : Members). ReportsTable IsPolicyReport t q.summaries b) last q.says))
 
-  pub tells_edits : (text : List ℕ) → SaysEdits IsPolicyReport table edits text → SaysEdits TellsPolicy table edits text
-  tells_edits text says = record {
+  pub reports_edits : (text : List ℕ) → ReportsEdits IsPolicyReport table edits text → ReportsEdits ReportsPolicy table edits text
+  reports_edits text says = record {
     last = says.last;
     accepted = says.accepted;
     summaries = says.summaries;
     told = says.told;
-    says = tells_table says.last says.summaries text says.says;
+    says = reports_table says.last says.summaries text says.says;
   }
 
-  pub never_both : (line : List ℕ) → SaysRefusal table edits line → (last : Members) × (after_edits edits table ≡ Ok last) → ⊥
+  pub never_both : (line : List ℕ) → ReportsRefusal table edits line → (last : Members) × (after_edits edits table ≡ Ok last) → ⊥
   never_both line says accepted =
       let why = says.refused in
       let last = accepted.1 in
@@ -76,17 +76,17 @@ module _ (table : Members) (edits : List Edit) where
   -- ---- the result of the code
 
   pub ends_refused : (reply : Reply) (line : ℕ) (why : EditWhy) → after_edits edits table ≡ Err (line, why)
-      → reply ≡ error BadText (edit_fault_line line why) → Answers false (edit_job table edits) reply
+      → reply ≡ error BadText (edit_fault_line line why) → Answers false (edit_outcomes table edits) reply
   ends_refused reply line why refused is =
-      let says : SaysRefusal table edits (edit_fault_line line why) = record { number = line; why = why; refused = refused; told = refl } in
-      subst (λ (r : Reply). Answers false (edit_job table edits) r) (sym is) (refl, inl (refl, (tt, edit_fault_line line why, says), says))
+      let says : ReportsRefusal table edits (edit_fault_line line why) = record { number = line; why = why; refused = refused; told = refl } in
+      subst (λ (r : Reply). Answers false (edit_outcomes table edits) r) (sym is) (refl, inl (refl, (tt, edit_fault_line line why, says), says))
 
   pub ends_accepted : (reply : Reply) (last : Members) (summaries : List Summary) (text : List ℕ) → after_edits edits table ≡ Ok last
-      → AreSummaries edits table summaries → SaysTable IsPolicyReport last summaries text → reply ≡ reply_on Done Output text
-      → Answers false (edit_job table edits) reply
+      → AreSummaries edits table summaries → ReportsTable IsPolicyReport last summaries text → reply ≡ reply_on Done Output text
+      → Answers false (edit_outcomes table edits) reply
   ends_accepted reply last summaries text accepted told says is =
-      let all : SaysEdits IsPolicyReport table edits text = record { last = last; accepted = accepted; summaries = summaries; told = told; says = says } in
-      subst (λ (r : Reply). Answers false (edit_job table edits) r) (sym is) (refl, inr (inl (refl, (last, accepted), all)))
+      let all : ReportsEdits IsPolicyReport table edits text = record { last = last; accepted = accepted; summaries = summaries; told = told; says = says } in
+      subst (λ (r : Reply). Answers false (edit_outcomes table edits) r) (sym is) (refl, inr (inl (refl, (last, accepted), all)))
 
 -- ---- lines, in sequence
 

@@ -23,15 +23,15 @@ use Rattle.pkt_core.proofs.ReadEventLaws.{packets_read}
 use Rattle.pkt_core.proofs.EventFaultLaws.{events_settled}
 use Rattle.pkt_core.specs.EventsText.{events_text, IsRefused as IsRefusedInEvents}
 use Rattle.text_core.specs.declared.faults.ListWhy.TheVariants.{TooLong as ListTooLong}
-use Rattle.text_core.specs.ListText.{by_lines}
-use Rattle.text_core.specs.TextByLines.{too_long}
-use Rattle.text_core.proofs.TextByLinesLaws.{one_reading as one_reading_by_lines, one_fault as one_fault_by_lines, no_reading_with_fault as no_reading_with_fault_by_lines}
+use Rattle.text_core.specs.ListFormat.{by_lines}
+use Rattle.text_core.specs.LineFormat.{too_long}
+use Rattle.text_core.proofs.LineFormatLaws.{one_reading as one_reading_by_lines, one_fault as one_fault_by_lines, no_reading_with_fault as no_reading_with_fault_by_lines}
 use Rattle.toml.specs.Data.{Members}
 use Rattle.desc_core.specs.Document.{document}
 use Rattle.report_core.specs.RefusalLine.{refusal_text}
-use Rattle.topos_top.specs.Kinds.{contents_of, IsNoDescription, IsRefused}
+use Rattle.topos_top.specs.FileFormats.{format_of, IsNoDescription, IsRefused}
 use Rattle.topos_top.specs.Reply.{error}
-use Rattle.topos_top.specs.TextFault.{TellsFault, fault_line, flows_reason, list_reason, rules_reason}
+use Rattle.topos_top.specs.TextFault.{ReportsFault, fault_line, flows_reason, list_reason, rules_reason}
 use Rattle.topos_top.specs.declared.dialect.Dialect.{Dialect}
 use Rattle.topos_top.specs.declared.dialect.Dialect.TheVariants.{Iptables, OpenFlow}
 use Rattle.topos_top.specs.declared.kind.Kind.{Kind}
@@ -41,7 +41,7 @@ use Rattle.topos_top.specs.declared.status.Status.TheVariants.{BadDescription, B
 
 -- ---- facts about the parse result
 
-abbrev pub IsSound : (kind : Kind) → (contents_of kind).Said → Type 0
+abbrev pub IsSound : (kind : Kind) → (format_of kind).Said → Type 0
 IsSound Description d = IsNetwork d
 IsSound (Rules Iptables) chains = Unit {0}
 IsSound (Rules OpenFlow) entries = IsTable entries
@@ -50,7 +50,7 @@ IsSound Document text = Unit {0}
 IsSound Edited table = Unit {0}
 IsSound Edits edits = Unit {0}
 
-pub IsSound-Reads : (kind : Kind) (bytes : List ℕ) (said : (contents_of kind).Said) → (contents_of kind).Reads bytes said → IsSound kind said
+pub IsSound-Reads : (kind : Kind) (bytes : List ℕ) (said : (format_of kind).Said) → (format_of kind).Reads bytes said → IsSound kind said
 IsSound-Reads Description bytes d read = IsNetwork-described bytes d read
 IsSound-Reads (Rules Iptables) bytes chains read = tt
 IsSound-Reads (Rules OpenFlow) bytes entries read = reading_is_table bytes entries read
@@ -67,7 +67,7 @@ same_network bytes d e p q = cc (p, q)
 same_table : (bytes : List ℕ) (t u : Members) → document bytes ≡ Some t → document bytes ≡ Some u → t ≡ u
 same_table bytes t u p q = cc (p, q)
 
-pub reads_once : (kind : Kind) (bytes : List ℕ) (a b : (contents_of kind).Said) → (contents_of kind).Reads bytes a → (contents_of kind).Reads bytes b → a ≡ b
+pub reads_once : (kind : Kind) (bytes : List ℕ) (a b : (format_of kind).Said) → (format_of kind).Reads bytes a → (format_of kind).Reads bytes b → a ≡ b
 reads_once Description bytes a b p q = same_network bytes a b p q
 reads_once (Rules Iptables) bytes a b p q = one_reading bytes a b p q
 reads_once (Rules OpenFlow) bytes a b p q = one_reading_of_flows bytes a b p q
@@ -76,7 +76,7 @@ reads_once Document bytes a b p q = migrated_once bytes a b p q
 reads_once Edited bytes a b p q = same_table bytes a b p.0 q.0
 reads_once Edits bytes a b p q = one_reading_by_lines (by_lines edits_text) edits_settled bytes a b p q
 
-pub reads_or_refuses : (kind : Kind) (bytes line : List ℕ) (said : (contents_of kind).Said) → (contents_of kind).Reads bytes said → (contents_of kind).Refuses bytes line → ⊥
+pub reads_or_refuses : (kind : Kind) (bytes line : List ℕ) (said : (format_of kind).Said) → (format_of kind).Reads bytes said → (format_of kind).Refuses bytes line → ⊥
 reads_or_refuses Description bytes line said p q = let why = q.1 in cc (p, why)
 reads_or_refuses (Rules Iptables) bytes line said p q = no_reading_with_fault bytes said q.number q.why q.fault p
 reads_or_refuses (Rules OpenFlow) bytes line said p q = no_flows_with_fault bytes said q.number q.why q.fault p
@@ -94,12 +94,12 @@ same_refusal bytes l m p q =
 
 same_line : {Why : Type 0} (text : List ℕ) (reason_of : Why → List ℕ) (HasFault : List ℕ → ℕ → Why → Type 0) (bytes : List ℕ)
     → ((n m : ℕ) (w v : Why) → HasFault bytes n w → HasFault bytes m v → (n ≡ m) × (w ≡ v))
-    → (a b : List ℕ) → TellsFault text reason_of HasFault bytes a → TellsFault text reason_of HasFault bytes b → a ≡ b
+    → (a b : List ℕ) → ReportsFault text reason_of HasFault bytes a → ReportsFault text reason_of HasFault bytes b → a ≡ b
 same_line text reason_of HasFault bytes once a b p q =
     let same = once p.number q.number p.why q.why p.fault q.fault in
     p.told ∙ (λ i. fault_line text (same.0 i) (reason_of (same.1 i))) ∙ sym q.told
 
-pub refuses_once : (kind : Kind) (bytes a b : List ℕ) → (contents_of kind).Refuses bytes a → (contents_of kind).Refuses bytes b → a ≡ b
+pub refuses_once : (kind : Kind) (bytes a b : List ℕ) → (format_of kind).Refuses bytes a → (format_of kind).Refuses bytes b → a ≡ b
 refuses_once Description bytes a b p q = same_refusal bytes a b p q
 refuses_once (Rules Iptables) bytes a b p q = same_line (codes "rules") rules_reason HasFaultInRules bytes (one_fault bytes) a b p q
 refuses_once (Rules OpenFlow) bytes a b p q = same_line (codes "rules") flows_reason HasFaultInFlows bytes (one_fault_in_flows bytes) a b p q
@@ -109,7 +109,7 @@ refuses_once Edited bytes a b p q = same_refusal bytes a b p q
 refuses_once Edits bytes a b p q = same_line (codes "edits") list_reason IsRefusedInEdits bytes (one_fault_by_lines (by_lines edits_text) edits_settled bytes) a b p q
 
 -- A property of both statuses of rejected files is a property of each.
-pub of_refused : (P : Status → Type 0) → P BadDescription → P BadText → (kind : Kind) → P (contents_of kind).refused_as
+pub of_refused : (P : Status → Type 0) → P BadDescription → P BadText → (kind : Kind) → P (format_of kind).refused_as
 of_refused P description text Description = description
 of_refused P description text (Rules dialect) = text
 of_refused P description text Events = text
@@ -119,28 +119,28 @@ of_refused P description text Edits = text
 
 -- ---- bytes beyond the limit
 
-long_description : (bytes : List ℕ) → (contents_of Description).most < length bytes → IsNoDescription bytes (refusal_text (refused TooLong WholeDocument))
+long_description : (bytes : List ℕ) → (format_of Description).most < length bytes → IsNoDescription bytes (refusal_text (refused TooLong WholeDocument))
 long_description bytes long = (refused TooLong WholeDocument, described-too_long bytes long, refl)
 
-pub long_is_refused : (bytes : List ℕ) → (contents_of Description).most < length bytes → IsRefused Description bytes (error BadDescription (refusal_text (refused TooLong WholeDocument)))
+pub long_is_refused : (bytes : List ℕ) → (format_of Description).most < length bytes → IsRefused Description bytes (error BadDescription (refusal_text (refused TooLong WholeDocument)))
 long_is_refused bytes long = record { line = refusal_text (refused TooLong WholeDocument); refuses = long_description bytes long; replied = refl }
 
-pub long_is_no_document : (bytes : List ℕ) → (contents_of Document).most < length bytes → IsRefused Document bytes (error BadDescription (refusal_text (refused TooLong WholeDocument)))
+pub long_is_no_document : (bytes : List ℕ) → (format_of Document).most < length bytes → IsRefused Document bytes (error BadDescription (refusal_text (refused TooLong WholeDocument)))
 long_is_no_document bytes long = record { line = refusal_text (refused TooLong WholeDocument); refuses = long_description bytes long; replied = refl }
 
-pub long_is_not_edited : (bytes : List ℕ) → (contents_of Edited).most < length bytes → IsRefused Edited bytes (error BadDescription (refusal_text (refused TooLong WholeDocument)))
+pub long_is_not_edited : (bytes : List ℕ) → (format_of Edited).most < length bytes → IsRefused Edited bytes (error BadDescription (refusal_text (refused TooLong WholeDocument)))
 long_is_not_edited bytes long = record { line = refusal_text (refused TooLong WholeDocument); refuses = long_description bytes long; replied = refl }
 
 long_text : {Why : Type 0} (text : List ℕ) (reason_of : Why → List ℕ) (HasFault : List ℕ → ℕ → Why → Type 0) (bytes : List ℕ) (why : Why) → HasFault bytes 0 why
-    → TellsFault text reason_of HasFault bytes (fault_line text 0 (reason_of why))
+    → ReportsFault text reason_of HasFault bytes (fault_line text 0 (reason_of why))
 long_text text reason_of HasFault bytes why fault = record { number = 0; why = why; fault = fault; told = refl }
 
-pub long_rules : (dialect : Dialect) (bytes : List ℕ) → (contents_of (Rules dialect)).most < length bytes → IsRefused (Rules dialect) bytes (error BadText (fault_line (codes "rules") 0 (codes "TooLong")))
+pub long_rules : (dialect : Dialect) (bytes : List ℕ) → (format_of (Rules dialect)).most < length bytes → IsRefused (Rules dialect) bytes (error BadText (fault_line (codes "rules") 0 (codes "TooLong")))
 long_rules Iptables bytes long = record { line = _; refuses = long_text (codes "rules") rules_reason HasFaultInRules bytes RulesTooLong (too_long long); replied = refl }
 long_rules OpenFlow bytes long = record { line = _; refuses = long_text (codes "rules") flows_reason HasFaultInFlows bytes FlowsTooLong (too_long long); replied = refl }
 
-pub long_events : (bytes : List ℕ) → (contents_of Events).most < length bytes → IsRefused Events bytes (error BadText (fault_line (codes "events") 0 (codes "TooLong")))
+pub long_events : (bytes : List ℕ) → (format_of Events).most < length bytes → IsRefused Events bytes (error BadText (fault_line (codes "events") 0 (codes "TooLong")))
 long_events bytes long = record { line = _; refuses = long_text (codes "events") list_reason IsRefusedInEvents bytes ListTooLong (too_long long); replied = refl }
 
-pub long_edits : (bytes : List ℕ) → (contents_of Edits).most < length bytes → IsRefused Edits bytes (error BadText (fault_line (codes "edits") 0 (codes "TooLong")))
+pub long_edits : (bytes : List ℕ) → (format_of Edits).most < length bytes → IsRefused Edits bytes (error BadText (fault_line (codes "edits") 0 (codes "TooLong")))
 long_edits bytes long = record { line = _; refuses = long_text (codes "edits") list_reason IsRefusedInEdits bytes ListTooLong (too_long long); replied = refl }

@@ -4,10 +4,10 @@ pub mod RulesLaws
 pub mod LocalLaws
 pub mod AuditLaws
 pub mod EditLaws
-pub mod JobLaws
-pub mod AskLaws
+pub mod OutcomesLaws
+pub mod ParseLaws
 pub mod CommandLaws
-pub mod CourseLaws
+pub mod CommandPlanLaws
 pub mod RunLaws
 pub mod HeadlineLaw
 pub mod SampleLaw

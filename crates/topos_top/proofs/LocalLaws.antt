@@ -19,9 +19,9 @@ use Rattle.net_core.specs.inner.Fitting.{IsNetwork}
 use Rattle.net_core.specs.Network.{Network, site_of}
 use Rattle.net_core.specs.Policies.{IsPolicyOf, Policy}
 use Rattle.net_core.proofs.PolicyLaws.{IsSubset-stateful, policy_is_one}
-use Rattle.topos_top.specs.Job.{Answers}
-use Rattle.topos_top.specs.Local.{IsBarred, NoHost, RestHost, IsLocal, IsSpecific, KeepLocal, local_job, machines_for}
-use Rattle.topos_top.specs.inner.Local.{machines_job}
+use Rattle.topos_top.specs.Outcomes.{Answers}
+use Rattle.topos_top.specs.Local.{CannotEmitLocal, NoHost, RestHost, IsLocalText, IsSpecific, EnforcesPolicyLocally, local_outcomes, local_chains_for}
+use Rattle.topos_top.specs.inner.Local.{machines_outcomes}
 use Rattle.topos_top.specs.inner.Views.{reply_on}
 use Rattle.topos_top.specs.Reply.{Reply}
 use Rattle.topos_top.specs.Rules.{ListedHolds}
@@ -58,32 +58,32 @@ module _ (d : Network) (host : List ℕ) where
   one_number : (a b : IsSpecific d host) → a.number ≡ b.number
   one_number a b = some_number a.number b.number (sym a.named ∙ b.named)
 
-  pub local_is_one : (a b : List ℕ) → IsLocal d host a → IsLocal d host b → a ≡ b
+  pub local_is_one : (a b : List ℕ) → IsLocalText d host a → IsLocalText d host b → a ≡ b
   local_is_one a b p q =
       let policies = policy_is_one d p.policy q.policy p.is_policy q.is_policy in
       let numbers = one_number p.so.0 q.so.0 in
-      p.so.1 ∙ (λ i. text (machines_for d (policies i) (numbers i))) ∙ sym q.so.1
+      p.so.1 ∙ (λ i. text (local_chains_for d (policies i) (numbers i))) ∙ sym q.so.1
 
-  pub bar_is_one : (a b : List ℕ) → IsBarred d host a → IsBarred d host b → a ≡ b
+  pub bar_is_one : (a b : List ℕ) → CannotEmitLocal d host a → CannotEmitLocal d host b → a ≡ b
   bar_is_one a b (NoHost none is) (NoHost also same) = is ∙ sym same
   bar_is_one a b (NoHost none is) (RestHost h named rest same) = absurd (none_is_some _ h none named)
   bar_is_one a b (RestHost h named rest is) (NoHost none same) = absurd (none_is_some _ h none named)
   bar_is_one a b (RestHost h named rest is) (RestHost k also other same) = is ∙ sym same
 
-  pub specific_or_barred : (line : List ℕ) → IsBarred d host line → IsSpecific d host → ⊥
+  pub specific_or_barred : (line : List ℕ) → CannotEmitLocal d host line → IsSpecific d host → ⊥
   specific_or_barred line (NoHost none is) found = none_is_some _ found.number none found.named
   specific_or_barred line (RestHost h named rest is) found =
       let same = some_number h found.number (sym named ∙ found.named) in
       true≢false (sym found.specific ∙ ap (is_specific d.hosts) (sym same) ∙ rest_is_not d.hosts h rest)
 
-  pub local_keeps : (rules : List ℕ) → IsNetwork d → IsSpecific d host → IsLocal d host rules → KeepLocal d host rules
+  pub local_keeps : (rules : List ℕ) → IsNetwork d → IsSpecific d host → IsLocalText d host rules → EnforcesPolicyLocally d host rules
   local_keeps rules network found is =
       let p = is.policy.permitted.flows in
       let s = is.policy.stateful.flows in
       let known : IsSite (site_of d) = record { hosts = network.hosts; services = network.services } in
       let number = one_number is.so.0 found in
-      let own : List Chain = machines_for d is.policy found.number in
-      let written : rules ≡ text own = is.so.1 ∙ ap (λ (h : ℕ). text (machines_for d is.policy h)) number in
+      let own : List Chain = local_chains_for d is.policy found.number in
+      let written : rules ≡ text own = is.so.1 ∙ ap (λ (h : ℕ). text (local_chains_for d is.policy h)) number in
       let read : IsReading rules own =
       subst (λ (bytes : List ℕ). IsReading bytes own) (sym written)
       (text_read_again own (local_writable (site_of d) p s found.number known) (local_short (site_of d) p s found.number known)) in
@@ -92,23 +92,23 @@ module _ (d : Network) (host : List ℕ) where
         invariants = policy_keeps d is.policy network is.is_policy;
         found = found;
         written = written;
-        guards = layout_guards (site_of d) p s found.number network.hosts;
+        enforces_at_host = layout_guards (site_of d) p s found.number network.hosts;
         passes = layouts_expected (site_of d) p s network.hosts (IsSubset-stateful d p s is.is_policy.stateful);
         read = read;
         only_reading = λ others reading. one_reading rules others own reading read;
       }
 
   -- The reply of the rules for the machines of a specific host.
-  pub ends_with_rules : (reply : Reply) (policy : Policy) (rules : List Chain) → IsPolicyOf d policy → (found : IsSpecific d host) → rules ≡ machines_for d policy found.number
-      → reply ≡ reply_on Done Output (text rules) → Answers false (machines_job d host) reply
+  pub ends_with_rules : (reply : Reply) (policy : Policy) (rules : List Chain) → IsPolicyOf d policy → (found : IsSpecific d host) → rules ≡ local_chains_for d policy found.number
+      → reply ≡ reply_on Done Output (text rules) → Answers false (machines_outcomes d host) reply
   ends_with_rules reply policy rules is_policy found layout is =
-      subst (λ (r : Reply). Answers false (machines_job d host) r) (sym is) (
+      subst (λ (r : Reply). Answers false (machines_outcomes d host) r) (sym is) (
         refl,
         inr (inl (refl, (tt, found), record { policy = policy; is_policy = is_policy; so = (found, ap (λ (chains : List Chain). text chains) layout) })),
       )
 
   -- The reply regardless of a listed policy is the reply if a listed policy holds.
-  pub answers_listed : (reply : Reply) → ListedHolds d → Answers false (machines_job d host) reply → Answers false (local_job d host) reply
+  pub answers_listed : (reply : Reply) → ListedHolds d → Answers false (machines_outcomes d host) reply → Answers false (local_outcomes d host) reply
   answers_listed reply holds answers = (
     answers.0,
     elim answers.1 [
@@ -121,10 +121,10 @@ module _ (d : Network) (host : List ℕ) where
   )
 
   -- If a listed policy holds, the line that there are none is written if and only if the host is not declared or is the rest host.
-  pub barred_exactly : (reply : Reply) → Answers false (local_job d host) reply → ListedHolds d → (reply.status ≡ NotEmittable) ↔ ((line : List ℕ) × IsBarred d host line)
+  pub barred_exactly : (reply : Reply) → Answers false (local_outcomes d host) reply → ListedHolds d → (reply.status ≡ NotEmittable) ↔ ((line : List ℕ) × CannotEmitLocal d host line)
   barred_exactly reply answers holds = (bar_where_said, said_where_barred)
     where
-      bar_where_said : reply.status ≡ NotEmittable → (line : List ℕ) × IsBarred d host line
+      bar_where_said : reply.status ≡ NotEmittable → (line : List ℕ) × CannotEmitLocal d host line
       bar_where_said said = elim answers.1 [
         | inl violated ↦ let other = violated.0 in cc (said, other)
         | inr rest ↦ elim rest [
@@ -133,7 +133,7 @@ module _ (d : Network) (host : List ℕ) where
         ]
       ]
 
-      said_where_barred : ((line : List ℕ) × IsBarred d host line) → reply.status ≡ NotEmittable
+      said_where_barred : ((line : List ℕ) × CannotEmitLocal d host line) → reply.status ≡ NotEmittable
       said_where_barred bar = elim answers.1 [
         | inl violated ↦ absurd (violated.1 holds)
         | inr rest ↦ elim rest [

@@ -5,9 +5,9 @@ use Rattle.std.proofs.Math.Seq.{take_all, take-append-add}
 use Rattle.std.specs.Prelude.{slice_get}
 use Rattle.std.specs.List.{concat}
 use Rattle.std.specs.Io.KnownBytes.{append_known}
-use Rattle.edge_io.specs.Told.{TookPrefix}
+use Rattle.edge_io.specs.Observable.{AppendsPrefixOf}
 use Rattle.topos_top.specs.inner.Blocks.{HasRoom}
-use Rattle.edge_io.proofs.PutLaws.{append_known-append, TookPrefix-after}
+use Rattle.edge_io.proofs.PutLaws.{append_known-append, AppendsPrefixOf-after}
 use borrow.Rule.Slice.PartMut.{post_of, put_mid}
 
 pub concat-take_suc : (lines : List (List ℕ)) (i : ℕ) (line : List ℕ) → slice_get lines i ≡ Some line
@@ -59,12 +59,12 @@ sofar_line old now lines i waiting line sofar there = record {
 }
 
 -- A prefix of the block was written, and so a prefix of the text.
-pub cut_in_block : (old now new : Option (List ℕ)) (lines : List (List ℕ)) (i : ℕ) (waiting : List ℕ) → IsSofar old now lines i waiting → TookPrefix now new waiting
-    → TookPrefix old new (concat lines)
+pub cut_in_block : (old now new : Option (List ℕ)) (lines : List (List ℕ)) (i : ℕ) (waiting : List ℕ) → IsSofar old now lines i waiting → AppendsPrefixOf now new waiting
+    → AppendsPrefixOf old new (concat lines)
 cut_in_block old now new lines i waiting sofar took =
     let all : concat lines ≡ sofar.front ++ (waiting ++ concat (drop i lines)) =
     concat-cut lines i ∙ ap (λ (bytes : List ℕ). bytes ++ concat (drop i lines)) sofar.all ∙ append_assoc sofar.front waiting (concat (drop i lines)) in
-    subst (λ (bytes : List ℕ). TookPrefix old new bytes) (sym all) (TookPrefix-after old now new sofar.front waiting (concat (drop i lines)) sofar.put took)
+    subst (λ (bytes : List ℕ). AppendsPrefixOf old new bytes) (sym all) (AppendsPrefixOf-after old now new sofar.front waiting (concat (drop i lines)) sofar.put took)
 
 -- Everything was written.
 pub put_whole : (old now new : Option (List ℕ)) (lines : List (List ℕ)) (i : ℕ) (waiting : List ℕ) → IsSofar old now lines i waiting → length lines ≤ i → new ≡ append_known now waiting

@@ -11,19 +11,19 @@ use Rattle.net_core.specs.Network.{Network, site_of}
 use Rattle.net_core.specs.inner.Fitting.{IsNetwork}
 use Rattle.net_core.specs.Policies.{IsPolicyOf, MeetsAll, Policy}
 use Rattle.net_core.proofs.PolicyLaws.{policy_is_one, IsSubset-stateful, asked_is_permitted}
-use Rattle.pkt_core.specs.Filter.{Enforces, ForwardsExpected}
+use Rattle.pkt_core.specs.Filter.{Enforces, ForwardsAsExpected}
 use Rattle.pkt_core.proofs.FilterLaws.{enforced_expected}
-use Rattle.topos_top.specs.Dialects.{Language, language_of}
-use Rattle.topos_top.specs.Job.{Answers}
-use Rattle.topos_top.specs.Repair.{repair_job}
+use Rattle.topos_top.specs.Dialects.{RuleDialect, rule_dialect_of}
+use Rattle.topos_top.specs.Outcomes.{Answers}
+use Rattle.topos_top.specs.Repair.{repair_outcomes}
 use Rattle.topos_top.specs.Reply.{Reply, error}
-use Rattle.topos_top.specs.Rules.{IsRules, KeepInvariants, KeepPolicy, OfPolicy, rules_for}
+use Rattle.topos_top.specs.Rules.{IsRules, PolicyMeetsInvariants, EnforcesPolicyText, OfPolicy, rules_for}
 use Rattle.topos_top.specs.declared.dialect.Dialect.{Dialect}
 use Rattle.topos_top.specs.declared.status.Status.TheVariants.{NotEmittable}
 use Rattle.topos_top.proofs.DialectLaws.{KeepsPolicies}
 
 -- The policy of a network has its properties.
-pub policy_keeps : (d : Network) (policy : Policy) → IsNetwork d → IsPolicyOf d policy → KeepInvariants d policy
+pub policy_keeps : (d : Network) (policy : Policy) → IsNetwork d → IsPolicyOf d policy → PolicyMeetsInvariants d policy
 policy_keeps d policy network is = record {
   is_policy = is;
   meets = is.permitted.holds;
@@ -41,23 +41,23 @@ moved d P Q a b =
 
 -- The reply if the rules cannot be emitted.
 pub ends_hindered : (dialect : Dialect) (d : Network) (reply : Reply) (line : List ℕ) → reply ≡ error NotEmittable line
-    → OfPolicy d ((language_of dialect).Hinders line) → Answers false (repair_job dialect d) reply
-ends_hindered dialect d reply line is hindered = subst (λ (r : Reply). Answers false (repair_job dialect d) r) (sym is) (refl, inl (refl, (tt, line, hindered), hindered))
+    → OfPolicy d ((rule_dialect_of dialect).CannotEmit line) → Answers false (repair_outcomes dialect d) reply
+ends_hindered dialect d reply line is hindered = subst (λ (r : Reply). Answers false (repair_outcomes dialect d) r) (sym is) (refl, inl (refl, (tt, line, hindered), hindered))
 
-module _ (language : Language) (keeps : KeepsPolicies language) (d : Network) where
+module _ (language : RuleDialect) (keeps : KeepsPolicies language) (d : Network) where
   pub rules_are_one : (a b : List ℕ) → IsRules language d a → IsRules language d b → a ≡ b
   rules_are_one a b p q =
       moved d (λ site f s. a ≡ language.text (language.layout site f s)) (λ site f s. b ≡ language.text (language.layout site f s)) p q ∙ sym q.so
 
-  pub never_both : (line : List ℕ) → OfPolicy d (language.Hinders line) → OfPolicy d language.CanWrite → ⊥
+  pub never_both : (line : List ℕ) → OfPolicy d (language.CannotEmit line) → OfPolicy d language.CanWrite → ⊥
   never_both line hindered can =
-      keeps.apart (site_of d) hindered.policy.permitted.flows hindered.policy.stateful.flows line (moved d language.CanWrite (language.Hinders line) can hindered) hindered.so
+      keeps.apart (site_of d) hindered.policy.permitted.flows hindered.policy.stateful.flows line (moved d language.CanWrite (language.CannotEmit line) can hindered) hindered.so
 
-  pub hindrance_is_one : (a b : List ℕ) → OfPolicy d (language.Hinders a) → OfPolicy d (language.Hinders b) → a ≡ b
+  pub hindrance_is_one : (a b : List ℕ) → OfPolicy d (language.CannotEmit a) → OfPolicy d (language.CannotEmit b) → a ≡ b
   hindrance_is_one a b p q =
-      keeps.one_hindrance (site_of d) q.policy.permitted.flows q.policy.stateful.flows a b (moved d (language.Hinders a) (language.Hinders b) p q) q.so
+      keeps.one_hindrance (site_of d) q.policy.permitted.flows q.policy.stateful.flows a b (moved d (language.CannotEmit a) (language.CannotEmit b) p q) q.so
 
-  unfoldable pub rules_keep : (rules : List ℕ) → IsNetwork d → OfPolicy d language.CanWrite → IsRules language d rules → KeepPolicy language d rules
+  unfoldable pub rules_keep : (rules : List ℕ) → IsNetwork d → OfPolicy d language.CanWrite → IsRules language d rules → EnforcesPolicyText language d rules
   rules_keep rules network written is =
       let p : List Flow = is.policy.permitted.flows in
       let s : List Flow = is.policy.stateful.flows in
@@ -65,7 +65,7 @@ module _ (language : Language) (keeps : KeepsPolicies language) (d : Network) wh
       let own : language.Rules = rules_for language d is.policy in
       let can : language.CanWrite (site_of d) p s = moved d language.CanWrite (λ site f t. rules ≡ language.text (language.layout site f t)) written is in
       let enforces : Enforces (language.filter own) (site_of d) p s = keeps.enforces (site_of d) p s known can in
-      let expected : ForwardsExpected (language.filter own) (site_of d) p s =
+      let expected : ForwardsAsExpected (language.filter own) (site_of d) p s =
       enforced_expected (language.filter own) (site_of d) p s (IsSubset-stateful d p s is.is_policy.stateful) enforces in
       let read : language.IsReading rules own = subst (λ (bytes : List ℕ). language.IsReading bytes own) (sym is.so) (keeps.read_again (site_of d) p s known can) in
       record {

@@ -8,12 +8,12 @@ use Rattle.desc_core.specs.declared.fault.DescFault.{DescFault}
 use Rattle.desc_core.specs.declared.fault.DescFault.TheVariants as desc
 use Rattle.desc_form.specs.declared.refusal.Refusal.{Refusal}
 use Rattle.edge_io.specs.Counts.{more}
-use Rattle.edge_io.specs.Told.{Files}
+use Rattle.edge_io.specs.Observable.{Files}
 use Rattle.report_core.specs.RefusalLine.{refusal_text}
-use Rattle.topos_top.specs.Kinds.{contents_of, IsNoDescription, IsRefused}
-use Rattle.topos_top.specs.inner.Reads.{TookFile}
+use Rattle.topos_top.specs.FileFormats.{format_of, IsNoDescription, IsRefused}
+use Rattle.topos_top.specs.inner.Reads.{ConsumesFile}
 use Rattle.topos_top.specs.inner.Views.{description_reply}
-use Rattle.topos_top.specs.Replies.{StopsAt, NoMemory, Stopped}
+use Rattle.topos_top.specs.Replies.{StopsRunAt, NoMemory, Stopped}
 use Rattle.topos_top.specs.Reply.{Reply, error}
 use Rattle.topos_top.specs.Shelf.{ShelfChange, Holds}
 use Rattle.topos_top.specs.declared.kind.Kind.{Kind}
@@ -23,12 +23,12 @@ use Rattle.topos_top.specs.declared.status.Status.TheVariants.{BadDescription}
 -- A file that was read completely.
 pub took_whole : {E : Type 0} (kind : Kind) (file bytes : List ℕ) (shelf : ShelfChange) → Holds shelf.before file bytes → shelf.after.told ≡ shelf.before.told
     → shelf.before.faults ≤ shelf.after.faults → (shelf.only_failures → E ⊎ (shelf.after.faults ≡ shelf.before.faults)) → (E → ⊥)
-    → shelf.after.begins ≡ more shelf.before.begins 1 → length bytes ≡ shelf.after.taken → length bytes ≤ (contents_of kind).most → TookFile shelf kind file bytes
-took_whole kind file bytes shelf held told faults_stay fault none begins taken within = record {
+    → shelf.after.begins ≡ more shelf.before.begins 1 → length bytes ≡ shelf.after.taken → length bytes ≤ (format_of kind).most → ConsumesFile shelf kind file bytes
+took_whole kind file bytes shelf held told faults_monotone fault none begins taken within = record {
   held = held;
   took = record {
     told = told;
-    faults_stay = faults_stay;
+    faults_monotone = faults_monotone;
     no_fault = λ only. elim (fault only) [ inl e ↦ absurd (none e) | inr same ↦ same ];
     begins = begins;
     taken = omega (arith, taken, within);
@@ -54,25 +54,25 @@ too_long_seen limit file (Some files) longer = told_longer limit (get files file
 
 -- A file of which one byte beyond the limit was read: an observable file is longer than the limit, and an unobservable one may be any file
 -- that is.
-pub took_too_much : (kind : Kind) (file : List ℕ) (shelf : ShelfChange) (given : Reply) → IfSome shelf.before.told (λ files. IsSomeAnd (get files file) (λ bytes. (contents_of kind).most < length bytes))
-    → shelf.after.begins ≡ more shelf.before.begins 1 → shelf.after.taken ≡ (contents_of kind).most + 1 → ((bytes : List ℕ) → (contents_of kind).most < length bytes → IsRefused kind bytes given)
-    → StopsAt shelf kind file given
+pub took_too_much : (kind : Kind) (file : List ℕ) (shelf : ShelfChange) (given : Reply) → IfSome shelf.before.told (λ files. IsSomeAnd (get files file) (λ bytes. (format_of kind).most < length bytes))
+    → shelf.after.begins ≡ more shelf.before.begins 1 → shelf.after.taken ≡ (format_of kind).most + 1 → ((bytes : List ℕ) → (format_of kind).most < length bytes → IsRefused kind bytes given)
+    → StopsRunAt shelf kind file given
 took_too_much kind file shelf given longer begins taken refused =
-    let seen = too_long_seen (contents_of kind).most file shelf.before.told longer in
+    let seen = too_long_seen (format_of kind).most file shelf.before.told longer in
     Stopped (Some seen.0) (record { begins = begins; held = seen.1; taken = counted seen.0 seen.2 }) (refused seen.0 seen.2)
   where
-    counted : (bytes : List ℕ) → (contents_of kind).most < length bytes → shelf.after.taken ≡ min (length bytes) ((contents_of kind).most + 1)
+    counted : (bytes : List ℕ) → (format_of kind).most < length bytes → shelf.after.taken ≡ min (length bytes) ((format_of kind).most + 1)
     counted bytes longer = omega (arith, longer, taken)
 
 -- Bytes that are rejected.
-pub refused_whole : (kind : Kind) (file bytes : List ℕ) (shelf : ShelfChange) (given : Reply) → TookFile shelf kind file bytes → IsRefused kind bytes given → StopsAt shelf kind file given
+pub refused_whole : (kind : Kind) (file bytes : List ℕ) (shelf : ShelfChange) (given : Reply) → ConsumesFile shelf kind file bytes → IsRefused kind bytes given → StopsRunAt shelf kind file given
 refused_whole kind file bytes shelf given took refused =
     Stopped (Some bytes) (record { begins = took.took.begins; held = took.held; taken = took.took.taken }) refused
 
 -- A description that is refused, or for which memory runs out.
-pub description_refused : (kind : Kind) → ((bytes line : List ℕ) → IsNoDescription bytes line → (contents_of kind).Refuses bytes line) → (contents_of kind).refused_as ≡ BadDescription
-    → (shelf : ShelfChange) (file bytes : List ℕ) (fault : DescFault) (given : Reply) → TookFile shelf kind file bytes
-    → ((why : Refusal) → fault ≡ desc.Refused why → described bytes ≡ Err why) → given ≡ description_reply fault → StopsAt shelf kind file given
+pub description_refused : (kind : Kind) → ((bytes line : List ℕ) → IsNoDescription bytes line → (format_of kind).Refuses bytes line) → (format_of kind).refused_as ≡ BadDescription
+    → (shelf : ShelfChange) (file bytes : List ℕ) (fault : DescFault) (given : Reply) → ConsumesFile shelf kind file bytes
+    → ((why : Refusal) → fault ≡ desc.Refused why → described bytes ≡ Err why) → given ≡ description_reply fault → StopsRunAt shelf kind file given
 description_refused kind refuses status shelf file bytes (desc.Refused why) given took cause is =
     refused_whole kind file bytes shelf given took (record {
       line = refusal_text why;

@@ -7,22 +7,22 @@ use Rattle.audit_core.specs.Findings.{DifferSomewhere, IsFirstTrace, events_of}
 use Rattle.audit_core.specs.FindingText.{classes_line, trace_text}
 use Rattle.audit_core.specs.Places.{class_count, representatives_of, most_classes}
 use Rattle.audit_core.specs.Rules.{Rules, Chains, Entries}
-use Rattle.audit_core.specs.Sides.{DifferThen, ForwardAlike, Sides, sides_of}
+use Rattle.audit_core.specs.Sides.{DifferThen, AreEquivalent, Sides, sides_of}
 use Rattle.audit_core.specs.declared.finding.Trace.{Trace}
 use Rattle.host_net.specs.declared.packet.Packet.{Packet}
 use Rattle.net_core.specs.Network.{Network}
 use Rattle.pkt_core.specs.declared.event.Event.{Event}
 use Rattle.pkt_core.specs.declared.event.Event.TheVariants.{Seen}
 use Rattle.pkt_core.specs.Filter.{ArePackets}
-use Rattle.topos_top.specs.Dialects.{language_of}
-use Rattle.topos_top.specs.Job.{End, Job, says_why}
+use Rattle.topos_top.specs.Dialects.{rule_dialect_of}
+use Rattle.topos_top.specs.Outcomes.{Outcome, Outcomes, says_why}
 use Rattle.topos_top.specs.Rules.{OfPolicy}
 use Rattle.topos_top.specs.declared.dialect.Dialect.{Dialect}
 use Rattle.topos_top.specs.declared.dialect.Dialect.TheVariants.{Iptables, OpenFlow}
 use Rattle.topos_top.specs.declared.status.Status.TheVariants.{Violated, NotEmittable, Done}
 
 -- The rules of a dialect as rules of an audit.
-abbrev pub rules_in : (dialect : Dialect) → (language_of dialect).Rules → Rules
+abbrev pub rules_in : (dialect : Dialect) → (rule_dialect_of dialect).Rules → Rules
 rules_in Iptables chains = Chains chains
 rules_in OpenFlow entries = Entries entries
 
@@ -36,7 +36,7 @@ FewClasses sides = class_count sides ≤ most_classes
 
 -- The text reports the first short trace on which the rules deviate from the policy. The reported difference is real: from an empty
 -- connection table, the rules treat the last packet of the trace as the text states, and the policy and its answers expect the opposite.
-pub record TellsDifference (sides : Sides) (text : List ℕ) : Type 0 where
+pub record ReportsDifference (sides : Sides) (text : List ℕ) : Type 0 where
   pub trace : Trace
   pub first : IsFirstTrace sides (representatives_of (cuts_between sides)) trace
   pub told : text ≡ trace_text trace
@@ -51,25 +51,25 @@ abbrev pub HasManyClasses : Sides → (line : List ℕ) → Type 0
 HasManyClasses sides line = (most_classes < class_count sides) × (line ≡ classes_line (class_count sides))
 
 -- The rules and the policy differ on some list of events: the first short one is reported.
-abbrev pub difference : Network → Rules → End
+abbrev pub difference : Network → Rules → Outcome
 difference d rules = record {
   status = Violated;
   when = OfSides d rules (λ sides. FewClasses sides × DifferSomewhere sides);
-  is = λ text. OfSides d rules (λ sides. TellsDifference sides text);
-  tells = λ text. OfSides d rules (λ sides. TellsDifference sides text);
+  is = λ text. OfSides d rules (λ sides. ReportsDifference sides text);
+  guarantees = λ text. OfSides d rules (λ sides. ReportsDifference sides text);
 }
 
 -- The rules and the policy forward alike: `equal` is written only in this case, and always in this case if the number
 -- of classes is within the limit.
-abbrev pub agreement : Network → Rules → End
+abbrev pub agreement : Network → Rules → Outcome
 agreement d rules = record {
   status = Done;
-  when = OfSides d rules (λ sides. FewClasses sides × ForwardAlike sides);
+  when = OfSides d rules (λ sides. FewClasses sides × AreEquivalent sides);
   is = λ text. text ≡ codes "equal\n";
-  tells = λ text. OfSides d rules ForwardAlike;
+  guarantees = λ text. OfSides d rules AreEquivalent;
 }
 
 -- The outcomes of an audit: too many packet classes, a difference, or agreement.
-abbrev pub audit_job : Network → Rules → Job
-audit_job d rules =
+abbrev pub audit_outcomes : Network → Rules → Outcomes
+audit_outcomes d rules =
     says_why NotEmittable (Unit {0}) (λ line. OfSides d rules (λ sides. HasManyClasses sides line)) ∷ (difference d rules ∷ (agreement d rules ∷ []))

@@ -3,8 +3,8 @@ use Rattle.std.specs.Prelude.{[], ◌∷◌}
 use Rattle.net_core.specs.Network.{Network}
 use Rattle.net_core.specs.Policies.{MeetsAll}
 use Rattle.report_core.specs.CheckReport.{IsCheckReport}
-use Rattle.report_core.specs.ReportPromises.{TellsOffences}
-use Rattle.topos_top.specs.Job.{End, Job}
+use Rattle.report_core.specs.ReportPromises.{ReportsViolations}
+use Rattle.topos_top.specs.Outcomes.{Outcome, Outcomes}
 use Rattle.topos_top.specs.declared.status.Status.{Status}
 use Rattle.topos_top.specs.declared.status.Status.TheVariants.{Violated, Done}
 
@@ -13,9 +13,9 @@ abbrev pub AskedHolds : Network → Type 0
 AskedHolds d = MeetsAll d d.asked.flows
 
 -- The report names exactly the violated invariants, each with a minimal offending set of the asked flows.
-abbrev pub offences_when : Status → Type 0 → Network → End
-offences_when ended when d = record { status = ended; when = when; is = IsCheckReport d; tells = TellsOffences d }
+abbrev pub offences_when : Status → Type 0 → Network → Outcome
+offences_when ended when d = record { status = ended; when = when; is = IsCheckReport d; guarantees = ReportsViolations d }
 
 -- The report, with status violated if an invariant fails on the asked flows.
-abbrev pub check_job : Network → Job
-check_job d = offences_when Violated (AskedHolds d → ⊥) d ∷ (offences_when Done (AskedHolds d) d ∷ [])
+abbrev pub check_outcomes : Network → Outcomes
+check_outcomes d = offences_when Violated (AskedHolds d → ⊥) d ∷ (offences_when Done (AskedHolds d) d ∷ [])

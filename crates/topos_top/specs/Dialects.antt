@@ -2,7 +2,7 @@
 use Rattle.std.specs.Prelude.{◌≡◌, ◌≤◌, ◌<◌, ℕ, List, ◌++◌, length, codes, decimal}
 use Rattle.emit_core.specs.FlowTable.{flow_entries}
 use Rattle.emit_core.specs.EmitRefusals.{rule_limit}
-use Rattle.emit_core.specs.FlowTableEvents.{AnswersAreCovered, IsFirstBarred}
+use Rattle.emit_core.specs.FlowTableEvents.{AnswersAreCovered, IsFirstUncovered}
 use Rattle.emit_core.specs.FlowTableForwarding.{ForwardsArpAlone}
 use Rattle.emit_core.specs.Layout.{layout}
 use Rattle.emit_core.specs.PortRanges.{HasNoRange, IsFirstRange}
@@ -11,24 +11,24 @@ use Rattle.host_net.specs.Site.{Site}
 use Rattle.ipt_read.specs.TextLines.{IsReading as IsReadingOfRules, HasFault as HasFaultInRules, rules_text}
 use Rattle.ipt_rules.specs.Chain.{Chain}
 use Rattle.ipt_rules.specs.ChainTable.{rule_count}
-use Rattle.ipt_rules.specs.Meaning.{Passes as PassesChains}
+use Rattle.ipt_rules.specs.Semantics.{Passes as PassesChains}
 use Rattle.ipt_rules.specs.Text.{text as chains_text}
 use Rattle.ofp_read.specs.TextLines.{IsReading as IsReadingOfFlows, HasFault as HasFaultInFlows, flows_text}
 use Rattle.ofp_rules.specs.Ambiguity.{most_entries}
-use Rattle.ofp_rules.specs.Meaning.{Passes as PassesTable}
+use Rattle.ofp_rules.specs.Semantics.{Passes as PassesTable}
 use Rattle.ofp_rules.specs.Text.{text as table_text}
 use Rattle.ofp_rules.specs.declared.entry.Entry.{Entry}
 use Rattle.pkt_core.specs.Firewall.{Filter}
 use Rattle.report_core.specs.Names.{flow_text}
 use Rattle.topos_top.specs.Reply.{not_emittable}
-use Rattle.topos_top.specs.TextFault.{TellsFault, rules_reason, flows_reason}
+use Rattle.topos_top.specs.TextFault.{ReportsFault, rules_reason, flows_reason}
 use Rattle.topos_top.specs.declared.dialect.Dialect.{Dialect}
 use Rattle.topos_top.specs.declared.dialect.Dialect.TheVariants.{Iptables, OpenFlow}
 
 -- A dialect: the type of its rules, their text, the size limit of the parser, the rules that a text parses to, the reasons to reject a
 -- text, the packets that rules forward in each state, and the treatment of other frames; and, for a site with permitted flows p and
 -- stateful flows s, their rules, if they can be emitted, and the line that gives the reason otherwise (docs/TEXTS.md).
-pub record Language : Type 1 where
+pub record RuleDialect : Type 1 where
   pub Rules : Type 0
   pub text : Rules → List ℕ
   pub byte_limit : ℕ
@@ -38,54 +38,54 @@ pub record Language : Type 1 where
   pub OtherFrames : Rules → Type 0
   pub layout : Site → (p s : List Flow) → Rules
   pub CanWrite : Site → (p s : List Flow) → Type 0
-  pub Hinders : (line : List ℕ) → Site → (p s : List Flow) → Type 0
+  pub CannotEmit : (line : List ℕ) → Site → (p s : List Flow) → Type 0
 
 -- The chains have too many rules, and the line reports their number.
-abbrev pub BarsChains : (line : List ℕ) → Site → (p s : List Flow) → Type 0
-BarsChains line site p s =
+abbrev pub CannotEmitChains : (line : List ℕ) → Site → (p s : List Flow) → Type 0
+CannotEmitChains line site p s =
     (rule_limit < rule_count (layout site p s)) × (line ≡ not_emittable (decimal (rule_count (layout site p s)) ++ codes " rules exceed 600000\n"))
 
 -- Chains of iptables, which process only IPv4 packets.
-abbrev pub iptables : Language
+abbrev pub iptables : RuleDialect
 iptables = record {
   Rules = List Chain;
   text = chains_text;
   byte_limit = rules_text.byte_limit;
   IsReading = IsReadingOfRules;
-  Refuses = TellsFault (codes "rules") rules_reason HasFaultInRules;
+  Refuses = ReportsFault (codes "rules") rules_reason HasFaultInRules;
   filter = PassesChains;
   OtherFrames = λ chains. Unit {0};
   layout = layout;
   CanWrite = λ site p s. rule_count (layout site p s) ≤ rule_limit;
-  Hinders = BarsChains;
+  CannotEmit = CannotEmitChains;
 }
 
 -- The reason for no table, and the line that reports it: the first flow of s whose answers are not covered, since a table is stateless;
 -- otherwise the first flow of p with a range of ports; otherwise too many entries.
-pub data BarsTable (line : List ℕ) (site : Site) (p s : List Flow) : Type 0 where
-  NeedsState : (flow : Flow) → IsFirstBarred site.services p s flow
-      → line ≡ not_emittable (codes "answers of " ++ (flow_text site.hosts flow ++ codes " need state\n")) → BarsTable line site p s
+pub data CannotEmitTable (line : List ℕ) (site : Site) (p s : List Flow) : Type 0 where
+  NeedsState : (flow : Flow) → IsFirstUncovered site.services p s flow
+      → line ≡ not_emittable (codes "answers of " ++ (flow_text site.hosts flow ++ codes " need state\n")) → CannotEmitTable line site p s
   RangeOfPorts : (flow : Flow) → AnswersAreCovered site.services p s → IsFirstRange site.services p flow
-      → line ≡ not_emittable (codes "ports of " ++ (flow_text site.hosts flow ++ codes " are a range\n")) → BarsTable line site p s
+      → line ≡ not_emittable (codes "ports of " ++ (flow_text site.hosts flow ++ codes " are a range\n")) → CannotEmitTable line site p s
   TooManyFlows : AnswersAreCovered site.services p s → HasNoRange site.services p → most_entries < length (flow_entries site p)
-      → line ≡ not_emittable (decimal (length (flow_entries site p)) ++ codes " flows exceed 8192\n") → BarsTable line site p s
+      → line ≡ not_emittable (decimal (length (flow_entries site p)) ++ codes " flows exceed 8192\n") → CannotEmitTable line site p s
 
 -- A flow table of OpenFlow. It can be emitted unless there is such a reason.
-abbrev pub openflow : Language
+abbrev pub openflow : RuleDialect
 openflow = record {
   Rules = List Entry;
   text = table_text;
   byte_limit = flows_text.byte_limit;
   IsReading = IsReadingOfFlows;
-  Refuses = TellsFault (codes "rules") flows_reason HasFaultInFlows;
+  Refuses = ReportsFault (codes "rules") flows_reason HasFaultInFlows;
   filter = PassesTable;
   OtherFrames = ForwardsArpAlone;
   layout = λ site p s. flow_entries site p;
   CanWrite = λ site p s. AnswersAreCovered site.services p s × HasNoRange site.services p × (length (flow_entries site p) ≤ most_entries);
-  Hinders = BarsTable;
+  CannotEmit = CannotEmitTable;
 }
 
 -- The definition of each dialect.
-abbrev pub language_of : Dialect → Language
-language_of Iptables = iptables
-language_of OpenFlow = openflow
+abbrev pub rule_dialect_of : Dialect → RuleDialect
+rule_dialect_of Iptables = iptables
+rule_dialect_of OpenFlow = openflow

@@ -7,9 +7,9 @@ use Rattle.edit_core.specs.declared.summary.Summary.{Summary}
 use Rattle.edit_core.specs.Edit.{Edit}
 use Rattle.net_core.specs.Network.{Network}
 use Rattle.report_core.specs.PolicyReport.{IsPolicyReport}
-use Rattle.report_core.specs.ReportPromises.{TellsPolicy}
+use Rattle.report_core.specs.ReportPromises.{ReportsPolicy}
 use Rattle.toml.specs.Data.{Members}
-use Rattle.topos_top.specs.Job.{End, Job, says_why}
+use Rattle.topos_top.specs.Outcomes.{Outcome, Outcomes, says_why}
 use Rattle.topos_top.specs.TextFault.{edit_fault_line}
 use Rattle.topos_top.specs.declared.status.Status.TheVariants.{BadText, Done}
 
@@ -28,7 +28,7 @@ summary_lines k [] = []
 summary_lines k (s ∷ ss) = summary_line k s ++ summary_lines (k + 1) ss
 
 -- The text lists the summaries, and then reports the network that this table describes.
-pub record SaysTable (Reports : Network → List ℕ → Type 0) (table : Members) (summaries : List Summary) (text : List ℕ) : Type 0 where
+pub record ReportsTable (Reports : Network → List ℕ → Type 0) (table : Members) (summaries : List Summary) (text : List ℕ) : Type 0 where
   pub network : Network
   pub described : described_by_table table ≡ Ok network
   pub report : List ℕ
@@ -37,29 +37,29 @@ pub record SaysTable (Reports : Network → List ℕ → Type 0) (table : Member
 
 -- No edit is refused. For the description after each edit, the text reports the number of asked, permitted and stateful flows and of
 -- failing invariants; then it reports the network of the last table.
-pub record SaysEdits (Reports : Network → List ℕ → Type 0) (table : Members) (edits : List Edit) (text : List ℕ) : Type 0 where
+pub record ReportsEdits (Reports : Network → List ℕ → Type 0) (table : Members) (edits : List Edit) (text : List ℕ) : Type 0 where
   pub last : Members
   pub accepted : after_edits edits table ≡ Ok last
   pub summaries : List Summary
   pub told : AreSummaries edits table summaries
-  pub says : SaysTable Reports last summaries text
+  pub says : ReportsTable Reports last summaries text
 
 -- The line reports the first edit that is refused, on the table that the edits before it leave, and the reason.
-pub record SaysRefusal (table : Members) (edits : List Edit) (line : List ℕ) : Type 0 where
+pub record ReportsRefusal (table : Members) (edits : List Edit) (line : List ℕ) : Type 0 where
   pub number : ℕ
   pub why : EditWhy
   pub refused : after_edits edits table ≡ Err (number, why)
   pub told : line ≡ edit_fault_line number why
 
 -- No edit is refused.
-abbrev pub acceptance : Members → List Edit → End
+abbrev pub acceptance : Members → List Edit → Outcome
 acceptance table edits = record {
   status = Done;
   when = (last : Members) × (after_edits edits table ≡ Ok last);
-  is = SaysEdits IsPolicyReport table edits;
-  tells = SaysEdits TellsPolicy table edits;
+  is = ReportsEdits IsPolicyReport table edits;
+  guarantees = ReportsEdits ReportsPolicy table edits;
 }
 
 -- The outcomes of edits: an edit is refused, or all are accepted.
-abbrev pub edit_job : Members → List Edit → Job
-edit_job table edits = says_why BadText (Unit {0}) (SaysRefusal table edits) ∷ (acceptance table edits ∷ [])
+abbrev pub edit_outcomes : Members → List Edit → Outcomes
+edit_outcomes table edits = says_why BadText (Unit {0}) (ReportsRefusal table edits) ∷ (acceptance table edits ∷ [])

@@ -1,9 +1,9 @@
-pub mod Ask
+pub mod Command
 pub mod TextFault
 pub mod Reply
 pub mod Dialects
-pub mod Kinds
-pub mod Job
+pub mod FileFormats
+pub mod Outcomes
 pub mod Check
 pub mod Policy
 pub mod Rules
@@ -15,9 +15,9 @@ pub mod Trace
 pub mod Sample
 pub mod Migrate
 pub mod Shelf
-pub mod Course
+pub mod CommandPlan
 pub mod Commands
 pub mod Replies
-pub mod Taken
+pub mod SinkChanges
 pub mod Promises
 pub mod inner

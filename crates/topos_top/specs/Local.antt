@@ -1,7 +1,7 @@
 -- `local FILE HOST`: the rules for the machines of one host, unless the policy was listed and violates an invariant.
 use Rattle.std.specs.Prelude.{◌≡◌, ℕ, List, [], ◌∷◌, ◌++◌, None, Some, codes, IsTrue}
-use Rattle.host_emit.specs.Guarding.{Guards}
-use Rattle.host_emit.specs.LocalEvents.{PassesExpected}
+use Rattle.host_emit.specs.HostEnforcement.{EnforcesAtHost}
+use Rattle.host_emit.specs.LocalEvents.{DeliversAsExpected}
 use Rattle.host_emit.specs.LocalLayout.{is_specific, local_layout}
 use Rattle.host_net.specs.Host.{host_named, rest_of}
 use Rattle.ipt_read.specs.TextLines.{IsReading}
@@ -10,16 +10,16 @@ use Rattle.ipt_rules.specs.Text.{text}
 use Rattle.net_core.specs.Network.{Network, site_of}
 use Rattle.net_core.specs.Policies.{Policy}
 use Rattle.topos_top.specs.Check.{offences_when}
-use Rattle.topos_top.specs.Job.{Job, says_why}
+use Rattle.topos_top.specs.Outcomes.{Outcomes, says_why}
 use Rattle.topos_top.specs.Reply.{not_emittable}
-use Rattle.topos_top.specs.Rules.{KeepInvariants, ListedHolds, OfPolicy}
+use Rattle.topos_top.specs.Rules.{PolicyMeetsInvariants, ListedHolds, OfPolicy}
 use Rattle.topos_top.specs.declared.status.Status.TheVariants.{Violated, NotEmittable, Done}
 
 -- The reason for no rules for a host of that name, and the line that reports it (docs/TEXTS.md): there is no such host, or it is the rest
 -- host, which has no machines.
-pub data IsBarred (d : Network) (host line : List ℕ) : Type 0 where
-  NoHost : host_named d.hosts host ≡ None → line ≡ not_emittable (codes "no host " ++ (host ++ codes "\n")) → IsBarred d host line
-  RestHost : (h : ℕ) → host_named d.hosts host ≡ Some h → rest_of d.hosts ≡ Some h → line ≡ not_emittable (host ++ codes " is the rest host\n") → IsBarred d host line
+pub data CannotEmitLocal (d : Network) (host line : List ℕ) : Type 0 where
+  NoHost : host_named d.hosts host ≡ None → line ≡ not_emittable (codes "no host " ++ (host ++ codes "\n")) → CannotEmitLocal d host line
+  RestHost : (h : ℕ) → host_named d.hosts host ≡ Some h → rest_of d.hosts ≡ Some h → line ≡ not_emittable (host ++ codes " is the rest host\n") → CannotEmitLocal d host line
 
 -- The host of that name is specific, with this number.
 pub record IsSpecific (d : Network) (host : List ℕ) : Type 0 where
@@ -28,34 +28,34 @@ pub record IsSpecific (d : Network) (host : List ℕ) : Type 0 where
   pub specific : IsTrue (is_specific d.hosts number)
 
 -- The text is the rules for the machines of that host, for the policy of the network.
-abbrev pub IsLocal : Network → (host rules : List ℕ) → Type 0
-IsLocal d host rules = OfPolicy d (λ site p s. (found : IsSpecific d host) × (rules ≡ text (local_layout site p s found.number)))
+abbrev pub IsLocalText : Network → (host rules : List ℕ) → Type 0
+IsLocalText d host rules = OfPolicy d (λ site p s. (found : IsSpecific d host) × (rules ≡ text (local_layout site p s found.number)))
 
 -- The chains for the machines of each host, for a policy of the network.
-abbrev pub machines_for : Network → Policy → ℕ → List Chain
-machines_for d policy = local_layout (site_of d) policy.permitted.flows policy.stateful.flows
+abbrev pub local_chains_for : Network → Policy → ℕ → List Chain
+local_chains_for d policy = local_layout (site_of d) policy.permitted.flows policy.stateful.flows
 
 -- The guarantee of the rules for the machines of a host. They enforce the policy on the host; the policy is that of the network and
 -- satisfies its invariants. If every specific host has its rules on its machines, a packet passes if and only if the policy and its answers
 -- expect it, for every list of events. The text parses to exactly these rules.
-pub record KeepLocal (d : Network) (host rules : List ℕ) : Type 0 where
+pub record EnforcesPolicyLocally (d : Network) (host rules : List ℕ) : Type 0 where
   pub policy : Policy
-  pub invariants : KeepInvariants d policy
+  pub invariants : PolicyMeetsInvariants d policy
   pub found : IsSpecific d host
-  pub written : rules ≡ text (machines_for d policy found.number)
-  pub guards : Guards (machines_for d policy found.number) (site_of d) policy.permitted.flows policy.stateful.flows found.number
-  pub passes : PassesExpected (machines_for d policy) (site_of d) policy.permitted.flows policy.stateful.flows
-  pub read : IsReading rules (machines_for d policy found.number)
-  pub only_reading : (others : List Chain) → IsReading rules others → others ≡ machines_for d policy found.number
+  pub written : rules ≡ text (local_chains_for d policy found.number)
+  pub enforces_at_host : EnforcesAtHost (local_chains_for d policy found.number) (site_of d) policy.permitted.flows policy.stateful.flows found.number
+  pub passes : DeliversAsExpected (local_chains_for d policy) (site_of d) policy.permitted.flows policy.stateful.flows
+  pub read : IsReading rules (local_chains_for d policy found.number)
+  pub only_reading : (others : List Chain) → IsReading rules others → others ≡ local_chains_for d policy found.number
 
 -- The rules, if the condition holds and the host is specific; with higher precedence the line with the reason, if the condition holds and
 -- the host is not specific.
-abbrev pub machines_when : Type 0 → Network → (host : List ℕ) → Job
+abbrev pub machines_when : Type 0 → Network → (host : List ℕ) → Outcomes
 machines_when holds d host =
-    says_why NotEmittable holds (IsBarred d host)
-    ∷ (record { status = Done; when = holds × IsSpecific d host; is = IsLocal d host; tells = KeepLocal d host }
+    says_why NotEmittable holds (CannotEmitLocal d host)
+    ∷ (record { status = Done; when = holds × IsSpecific d host; is = IsLocalText d host; guarantees = EnforcesPolicyLocally d host }
     ∷ [])
 
 -- The same, or the report of `check` if a listed policy violates an invariant.
-abbrev pub local_job : Network → (host : List ℕ) → Job
-local_job d host = offences_when Violated (ListedHolds d → ⊥) d ∷ machines_when (ListedHolds d) d host
+abbrev pub local_outcomes : Network → (host : List ℕ) → Outcomes
+local_outcomes d host = offences_when Violated (ListedHolds d → ⊥) d ∷ machines_when (ListedHolds d) d host

@@ -1,7 +1,7 @@
 -- The reply of the program to its arguments: the exit status of the run, and a text for one of the two streams (docs/GUIDE.md,
 -- docs/TEXTS.md).
 use Rattle.std.specs.Prelude.{ℕ, List, ◌++◌, codes}
-use Rattle.topos_top.specs.Ask.{usage_text}
+use Rattle.topos_top.specs.Command.{usage_text}
 use Rattle.topos_top.specs.declared.status.Status.{Status}
 use Rattle.topos_top.specs.declared.status.Status.TheVariants as status
 use Rattle.topos_top.specs.declared.status.Stream.{Stream}

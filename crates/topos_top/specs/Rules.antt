@@ -5,11 +5,11 @@ use Rattle.flow_set.specs.FlowSet.{has, with_flow}
 use Rattle.flow_set.specs.declared.flow.Flow.{Flow}
 use Rattle.host_net.specs.Site.{Site}
 use Rattle.net_core.specs.Network.{Network, site_of}
-use Rattle.net_core.specs.Policies.{CompliesWithAll, IsGreatestPolicy, IsPolicyOf, JudgesFlowsAlone, MeetsAll, Policy}
-use Rattle.pkt_core.specs.Filter.{Enforces, ForwardsExpected}
+use Rattle.net_core.specs.Policies.{CompliesWithAll, IsGreatestPolicy, IsPolicyOf, IsEdgeWiseNetwork, MeetsAll, Policy}
+use Rattle.pkt_core.specs.Filter.{Enforces, ForwardsAsExpected}
 use Rattle.topos_top.specs.Check.{AskedHolds, offences_when}
-use Rattle.topos_top.specs.Dialects.{Language, language_of}
-use Rattle.topos_top.specs.Job.{Job, says_why}
+use Rattle.topos_top.specs.Dialects.{RuleDialect, rule_dialect_of}
+use Rattle.topos_top.specs.Outcomes.{Outcomes, says_why}
 use Rattle.topos_top.specs.declared.dialect.Dialect.{Dialect}
 use Rattle.topos_top.specs.declared.status.Status.TheVariants.{Violated, NotEmittable, Done}
 
@@ -24,47 +24,47 @@ pub record OfPolicy (d : Network) (Holds : Site → (p s : List Flow) → Type 0
   pub so : Holds (site_of d) policy.permitted.flows policy.stateful.flows
 
 -- The text is the rules of the policy of the network: its permitted flows pass, and the answers of its stateful flows.
-abbrev pub IsRules : Language → Network → (rules : List ℕ) → Type 0
+abbrev pub IsRules : RuleDialect → Network → (rules : List ℕ) → Type 0
 IsRules language d rules = OfPolicy d (λ site p s. rules ≡ language.text (language.layout site p s))
 
 -- The properties of a policy of a network, regardless of what is emitted for it. The permitted flows are the first subset of the asked
 -- flows that satisfies every invariant, and the greatest if all of them are edge-wise. Each asked flow that is omitted violates an
 -- invariant together with the permitted flows. A listed policy that satisfies every invariant is permitted unchanged. The stateful flows
 -- are the first whose answers violate no strict invariant, and with these answers the policy complies with every invariant.
-pub record KeepInvariants (d : Network) (policy : Policy) : Type 0 where
+pub record PolicyMeetsInvariants (d : Network) (policy : Policy) : Type 0 where
   pub is_policy : IsPolicyOf d policy
   pub meets : MeetsAll d policy.permitted.flows
   pub left_out : (f : Flow) → IsTrue (has d.asked.flows f) → IsFalse (has policy.permitted.flows f) → MeetsAll d (with_flow policy.permitted.flows f) → ⊥
-  pub greatest : JudgesFlowsAlone d → IsGreatestPolicy d policy
+  pub greatest : IsEdgeWiseNetwork d → IsGreatestPolicy d policy
   pub listed : IsTrue d.given → AskedHolds d → policy.permitted.flows ≡ d.asked.flows
   pub complies : CompliesWithAll d policy
 
 -- The rules of a policy of the network.
-abbrev pub rules_for : (language : Language) → Network → Policy → language.Rules
+abbrev pub rules_for : (language : RuleDialect) → Network → Policy → language.Rules
 rules_for language d policy = language.layout (site_of d) policy.permitted.flows policy.stateful.flows
 
 -- The guarantee of the rules of a network. The policy has the properties above. The text parses to exactly these rules. From an empty
 -- connection table, for every list of events, they forward exactly the packets of a permitted flow and those that answer a stateful flow.
 -- For a single packet in either connection state they have exactly the verdict of the policy. They treat frames of other kinds as the
 -- dialect specifies.
-pub record KeepPolicy (language : Language) (d : Network) (rules : List ℕ) : Type 0 where
+pub record EnforcesPolicyText (language : RuleDialect) (d : Network) (rules : List ℕ) : Type 0 where
   pub policy : Policy
-  pub invariants : KeepInvariants d policy
+  pub invariants : PolicyMeetsInvariants d policy
   pub written : rules ≡ language.text (rules_for language d policy)
   pub read : language.IsReading rules (rules_for language d policy)
   pub only_reading : (others : language.Rules) → language.IsReading rules others → others ≡ rules_for language d policy
-  pub expected : ForwardsExpected (language.filter (rules_for language d policy)) (site_of d) policy.permitted.flows policy.stateful.flows
+  pub expected : ForwardsAsExpected (language.filter (rules_for language d policy)) (site_of d) policy.permitted.flows policy.stateful.flows
   pub enforces : Enforces (language.filter (rules_for language d policy)) (site_of d) policy.permitted.flows policy.stateful.flows
   pub other_frames : language.OtherFrames (rules_for language d policy)
 
 -- The rules, if the condition holds and they can be emitted; with higher precedence the line with the reason, if the condition holds and
 -- they cannot.
-abbrev pub rules_when : Type 0 → Language → Network → Job
+abbrev pub rules_when : Type 0 → RuleDialect → Network → Outcomes
 rules_when holds language d =
-    says_why NotEmittable holds (λ line. OfPolicy d (language.Hinders line))
-    ∷ (record { status = Done; when = holds × OfPolicy d language.CanWrite; is = IsRules language d; tells = KeepPolicy language d }
+    says_why NotEmittable holds (λ line. OfPolicy d (language.CannotEmit line))
+    ∷ (record { status = Done; when = holds × OfPolicy d language.CanWrite; is = IsRules language d; guarantees = EnforcesPolicyText language d }
     ∷ [])
 
 -- The rules, or the report of `check` if a listed policy violates an invariant.
-abbrev pub rules_job : Dialect → Network → Job
-rules_job dialect d = offences_when Violated (ListedHolds d → ⊥) d ∷ rules_when (ListedHolds d) (language_of dialect) d
+abbrev pub rules_outcomes : Dialect → Network → Outcomes
+rules_outcomes dialect d = offences_when Violated (ListedHolds d → ⊥) d ∷ rules_when (ListedHolds d) (rule_dialect_of dialect) d

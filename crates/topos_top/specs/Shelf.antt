@@ -3,9 +3,9 @@ use Rattle.std.specs.Prelude.{◌≡◌, ℕ, ◌+◌, ◌≤◌, ◌⊎◌, Lis
 use Rattle.std.specs.FinMap.{get}
 use Rattle.edge_io.specs.Counts.{more, Rose}
 use Rattle.edge_io.specs.Failures.{ShelfCountsOnlyFailures}
-use Rattle.edge_io.specs.Told.{Files, Lacks}
+use Rattle.edge_io.specs.Observable.{Files, Lacks}
 use Rattle.edge_io.specs.declared.traits.Shelf.{Ghosts}
-use Rattle.topos_top.specs.Kinds.{contents_of}
+use Rattle.topos_top.specs.FileFormats.{format_of}
 use Rattle.topos_top.specs.declared.kind.Kind.{Kind}
 
 -- The files of a shelf, if they are observable, and its counts: of errors, of opened files, and of the bytes read from the last of them.
@@ -22,12 +22,12 @@ pub record ShelfChange : Type 1 where
   pub only_failures : Type 0
 
 -- A shelf as its implementation models it.
-abbrev pub shelf_seen : {S : Type 0} → Ghosts S → S → Shelf
-shelf_seen H shelf = record { told = H.files shelf; faults = H.faults shelf; begins = H.begins shelf; taken = H.taken shelf }
+abbrev pub shelf_view : {S : Type 0} → Ghosts S → S → Shelf
+shelf_view H shelf = record { told = H.files shelf; faults = H.faults shelf; begins = H.begins shelf; taken = H.taken shelf }
 
 -- A shelf before and after a call, as its implementation models it.
 abbrev pub shelf_change : {S : Type 0} → Ghosts S → (old new : S) → ShelfChange
-shelf_change H old new = record { before = shelf_seen H old; after = shelf_seen H new; only_failures = ShelfCountsOnlyFailures H }
+shelf_change H old new = record { before = shelf_view H old; after = shelf_view H new; only_failures = ShelfCountsOnlyFailures H }
 
 -- The change of the shelf from this state on.
 abbrev pub since : Shelf → ShelfChange → ShelfChange
@@ -39,19 +39,19 @@ Holds shelf name bytes = IfSome shelf.told (λ files. get files name ≡ Some by
 
 -- The observation of a file. If the files are observable, the observed bytes are those of the file. A file is
 -- unavailable only if the count of errors increased, or if an observable shelf lacks it.
-abbrev pub SawFile : ShelfChange → (name : List ℕ) → Option (List ℕ) → Type 0
-SawFile shelf name None = Rose shelf.before.faults shelf.after.faults ⊎ Lacks shelf.before.told name
-SawFile shelf name (Some bytes) = Holds shelf.before name bytes
+abbrev pub ObservesFile : ShelfChange → (name : List ℕ) → Option (List ℕ) → Type 0
+ObservesFile shelf name None = Rose shelf.before.faults shelf.after.faults ⊎ Lacks shelf.before.told name
+ObservesFile shelf name (Some bytes) = Holds shelf.before name bytes
 
 -- The number of bytes that are read of a file: all, or one more than the limit.
 abbrev pub taken_of : Kind → List ℕ → ℕ
-taken_of kind bytes = min (length bytes) ((contents_of kind).most + 1)
+taken_of kind bytes = min (length bytes) ((format_of kind).most + 1)
 
 -- A file with these bytes was read. No error was counted if the shelf counts only calls that fail; otherwise the call may have recovered
 -- from some errors.
-pub record TookBytes (only_failures : Type 0) (kind : Kind) (bytes : List ℕ) (before after : Shelf) : Type 0 where
+pub record ConsumesBytes (only_failures : Type 0) (kind : Kind) (bytes : List ℕ) (before after : Shelf) : Type 0 where
   pub told : after.told ≡ before.told
-  pub faults_stay : before.faults ≤ after.faults
+  pub faults_monotone : before.faults ≤ after.faults
   pub no_fault : only_failures → after.faults ≡ before.faults
   pub begins : after.begins ≡ more before.begins 1
   pub taken : after.taken ≡ taken_of kind bytes

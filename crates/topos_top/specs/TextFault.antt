@@ -55,7 +55,7 @@ abbrev pub fault_line : (text : List ℕ) → (line : ℕ) → (reason : List �
 fault_line text line reason = codes "topos: " ++ (text ++ (codes ": line " ++ (decimal line ++ (codes ": " ++ (reason ++ codes "\n")))))
 
 -- The line reports an error of the bytes, for this kind of file. A file of rules has the same name in every dialect.
-pub record TellsFault {Why : Type 0} (text : List ℕ) (reason_of : Why → List ℕ) (HasFault : List ℕ → ℕ → Why → Type 0) (bytes line : List ℕ) : Type 0 where
+pub record ReportsFault {Why : Type 0} (text : List ℕ) (reason_of : Why → List ℕ) (HasFault : List ℕ → ℕ → Why → Type 0) (bytes line : List ℕ) : Type 0 where
   pub number : ℕ
   pub why : Why
   pub fault : HasFault bytes number why

@@ -1,6 +1,6 @@
-pub mod Ask
+pub mod Command
 pub mod Blocks
-pub mod JobReplies
+pub mod OutcomesReplies
 pub mod Local
 pub mod Reads
 pub mod Replies

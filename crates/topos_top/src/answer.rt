@@ -3,7 +3,7 @@
 ghost use Rattle.std.specs.Prelude.{◌≡◌};
 ghost use Rattle.topos_top.specs.Reply.{no_memory, error};
 ghost use Rattle.topos_top.specs.TextFault.{fault_line};
-ghost use Rattle.topos_top.specs.inner.JobReplies.{job_reply};
+ghost use Rattle.topos_top.specs.inner.OutcomesReplies.{outcomes_reply};
 ghost use Rattle.topos_top.specs.inner.Views.{reply_in, reply_on, reply_view, text_view};
 
 use crate::status::{Status, Stream};
@@ -68,9 +68,9 @@ impl<'a> Answer<'a> {
         Answer::error(Status::Memory, Text::NoMemory)
     }
 
-    /// Returns the reply of a job, or that memory for it ran out.
-    pub fn of_job(made: Result<Answer<'a>, AllocError>) -> Result<Answer<'a>, Answer<'a>>
-        ensures { reply_in result ≡ job_reply made.entry }
+    /// Returns the reply of the outcomes of a command, or that memory for it ran out.
+    pub fn of_outcomes(made: Result<Answer<'a>, AllocError>) -> Result<Answer<'a>, Answer<'a>>
+        ensures { reply_in result ≡ outcomes_reply made.entry }
     {
         Ok(made?)
     }

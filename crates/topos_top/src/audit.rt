@@ -5,14 +5,14 @@ ghost use Rattle.std.specs.Prelude.{◌≡◌, ◌≤◌, IfOk, true};
 ghost use Rattle.audit_core.specs.Rules.{filter_of};
 ghost use Rattle.audit_core.specs.Verdicts.{GivesOne};
 ghost use Rattle.audit_core.specs.RulesView.{rules_of};
-ghost use Rattle.topos_top.specs.Ask.{Audit};
-ghost use Rattle.topos_top.specs.Audit.{audit_job, rules_in};
-ghost use Rattle.topos_top.specs.Commands.{course_of};
-ghost use Rattle.topos_top.specs.Course.{reads, ends};
-ghost use Rattle.topos_top.specs.Job.{Answers};
-ghost use Rattle.topos_top.specs.Replies.{MayReply};
+ghost use Rattle.topos_top.specs.Command.{Audit};
+ghost use Rattle.topos_top.specs.Audit.{audit_outcomes, rules_in};
+ghost use Rattle.topos_top.specs.Commands.{plan_of};
+ghost use Rattle.topos_top.specs.CommandPlan.{reads, ends};
+ghost use Rattle.topos_top.specs.Outcomes.{Answers};
+ghost use Rattle.topos_top.specs.Replies.{IsPossibleReply};
 ghost use Rattle.topos_top.specs.Shelf.{shelf_change};
-ghost use Rattle.topos_top.specs.inner.JobReplies.{finding_reply};
+ghost use Rattle.topos_top.specs.inner.OutcomesReplies.{finding_reply};
 ghost use Rattle.topos_top.specs.inner.Views.{reply_view, reply_in, rules_view};
 
 use crate::answer::Answer;
@@ -35,9 +35,9 @@ pub fn reply<'a, H: Shelf>(
     rules: &'a str,
     shelf: &mut H,
 ) -> Result<Answer<'a>, Answer<'a>>
-    ensures same_files { H.files shelf.new ≡ H.files shelf.old }
-    ensures faults_stay { H.faults shelf.old ≤ H.faults shelf.new }
-    ensures reply { MayReply true (course_of (Audit dialect file.now rules.now))
+    ensures files_unchanged { H.files shelf.new ≡ H.files shelf.old }
+    ensures faults_monotone { H.faults shelf.old ≤ H.faults shelf.new }
+    ensures reply { IsPossibleReply true (plan_of (Audit dialect file.now rules.now))
         (shelf_change H.Shelf shelf.old shelf.new) (reply_in result) }
 {
     let description = read_description(alloc, file, shelf)?;
@@ -52,13 +52,13 @@ fn reply_for<'a, H: Shelf>(
     rules: &'a str,
     shelf: &mut H,
 ) -> Result<Answer<'a>, Answer<'a>>
-    ensures same_files { H.files shelf.new ≡ H.files shelf.old }
-    ensures faults_stay { H.faults shelf.old ≤ H.faults shelf.new }
-    ensures reply { MayReply true (reads (Kind.Rules dialect) rules.now (λ said. ends (audit_job description.now (rules_in dialect said))))
+    ensures files_unchanged { H.files shelf.new ≡ H.files shelf.old }
+    ensures faults_monotone { H.faults shelf.old ≤ H.faults shelf.new }
+    ensures reply { IsPossibleReply true (reads (Kind.Rules dialect) rules.now (λ said. ends (audit_outcomes description.now (rules_in dialect said))))
         (shelf_change H.Shelf shelf.old shelf.new) (reply_in result) }
 {
     let rules = read_rules(alloc, dialect, rules, shelf)?;
-    Answer::of_job(answer(alloc, description, &rules))
+    Answer::of_outcomes(answer(alloc, description, &rules))
 }
 
 /// Returns the reply of an audit of these rules. They have one verdict for every packet in each
@@ -69,7 +69,7 @@ fn answer<'a>(
     rules: &Rules,
 ) -> Result<Answer<'a>, AllocError>
     requires { GivesOne (filter_of (rules_view rules.now)) }
-    ensures { IfOk result (λ answer. Answers true (audit_job description.now (rules_view rules.now)) (reply_view answer)) }
+    ensures { IfOk result (λ answer. Answers true (audit_outcomes description.now (rules_view rules.now)) (reply_view answer)) }
 {
     match rules {
         Rules::Chains(chains) => finding(alloc, description, audit_core::Text::Ipt(chains)),
@@ -84,7 +84,7 @@ fn finding<'a>(
     rules: audit_core::Text<'_>,
 ) -> Result<Answer<'a>, AllocError>
     requires { GivesOne (filter_of (rules_of rules)) }
-    ensures { IfOk result (λ answer. Answers true (audit_job description.now (rules_of rules.entry)) (reply_view answer)) }
+    ensures { IfOk result (λ answer. Answers true (audit_outcomes description.now (rules_of rules.entry)) (reply_view answer)) }
 {
     let policy = policy_of(alloc, description)?;
     match audit_core::audit_policy(alloc, &policy_between(description, &policy), &rules) {

@@ -3,8 +3,8 @@
 ghost use Rattle.std.specs.Prelude.{◌≡◌, IfOk, false, length};
 ghost use Rattle.net_core.specs.Policies.{IsPolicyOf};
 ghost use Rattle.topos_top.specs.inner.Views.{reply_view};
-ghost use Rattle.topos_top.specs.Job.{Answers};
-ghost use Rattle.topos_top.specs.Repair.{repair_job};
+ghost use Rattle.topos_top.specs.Outcomes.{Answers};
+ghost use Rattle.topos_top.specs.Repair.{repair_outcomes};
 ghost use Rattle.topos_top.specs.declared.dialect.Dialect.TheVariants.{Iptables};
 
 use crate::answer::Answer;
@@ -25,7 +25,7 @@ pub fn answer<'a>(
     requires policy { IsPolicyOf description.now policy.now }
     requires permitted { policy.now.permitted.size ≡ length description.now.hosts }
     requires stateful { policy.now.stateful.size ≡ length description.now.hosts }
-    ensures { IfOk result (λ answer. Answers false (repair_job Iptables description.now) (reply_view answer)) }
+    ensures { IfOk result (λ answer. Answers false (repair_outcomes Iptables description.now) (reply_view answer)) }
 {
     match iptables_layout(alloc, &policy_between(description, policy)) {
         Ok(rules) => Ok(Answer::done(Text::Rules(rules))),

@@ -1,11 +1,11 @@
 //! `check FILE`: whether the asked flows satisfy the invariants.
 
 ghost use Rattle.std.specs.Prelude.{◌≡◌, ◌≤◌, IfOk, true};
-ghost use Rattle.topos_top.specs.Ask.{Check};
-ghost use Rattle.topos_top.specs.Check.{check_job};
-ghost use Rattle.topos_top.specs.Commands.{course_of};
-ghost use Rattle.topos_top.specs.Job.{Answers};
-ghost use Rattle.topos_top.specs.Replies.{MayReply};
+ghost use Rattle.topos_top.specs.Command.{Check};
+ghost use Rattle.topos_top.specs.Check.{check_outcomes};
+ghost use Rattle.topos_top.specs.Commands.{plan_of};
+ghost use Rattle.topos_top.specs.Outcomes.{Answers};
+ghost use Rattle.topos_top.specs.Replies.{IsPossibleReply};
 ghost use Rattle.topos_top.specs.Shelf.{shelf_change};
 ghost use Rattle.topos_top.specs.inner.Views.{reply_view, reply_in};
 
@@ -23,18 +23,18 @@ pub fn reply<'a, H: Shelf>(
     file: &'a str,
     shelf: &mut H,
 ) -> Result<Answer<'a>, Answer<'a>>
-    ensures same_files { H.files shelf.new ≡ H.files shelf.old }
-    ensures faults_stay { H.faults shelf.old ≤ H.faults shelf.new }
-    ensures reply { MayReply true (course_of (Check file.now))
+    ensures files_unchanged { H.files shelf.new ≡ H.files shelf.old }
+    ensures faults_monotone { H.faults shelf.old ≤ H.faults shelf.new }
+    ensures reply { IsPossibleReply true (plan_of (Check file.now))
         (shelf_change H.Shelf shelf.old shelf.new) (reply_in result) }
 {
     let description = read_description(alloc, file, shelf)?;
-    Answer::of_job(answer(alloc, &description))
+    Answer::of_outcomes(answer(alloc, &description))
 }
 
 /// Returns the report, with status violated if an invariant fails on the asked flows.
 fn answer<'a>(alloc: Global, description: &Description) -> Result<Answer<'a>, AllocError>
-    ensures { IfOk result (λ answer. Answers true (check_job description.now) (reply_view answer)) }
+    ensures { IfOk result (λ answer. Answers true (check_outcomes description.now) (reply_view answer)) }
 {
     let (report, holds) = check_report(alloc, description)?;
     if holds {

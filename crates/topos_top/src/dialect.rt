@@ -1,7 +1,7 @@
 //! The dialects of rules.
 
 ghost use Rattle.std.specs.Prelude.{◌≡◌};
-ghost use Rattle.topos_top.specs.inner.Ask.{dialect_named};
+ghost use Rattle.topos_top.specs.inner.Command.{dialect_named};
 
 use ipt_rules::Ruleset;
 use ofp_rules::Table;

@@ -5,12 +5,12 @@ ghost use Rattle.std.specs.Prelude.{◌≡◌, ◌≤◌, ◌++◌, OnOk, IfOk, 
 ghost use Rattle.edit_core.specs.inner.Kept.{table_of};
 ghost use Rattle.edit_core.specs.inner.EditView.{edit_view};
 ghost use Rattle.report_core.specs.PolicyReport.{IsPolicyReport};
-ghost use Rattle.topos_top.specs.Ask.{Edit};
-ghost use Rattle.topos_top.specs.Commands.{course_of};
-ghost use Rattle.topos_top.specs.Course.{reads, ends};
-ghost use Rattle.topos_top.specs.Edit.{SaysTable, edit_job, summary_line, summary_lines};
-ghost use Rattle.topos_top.specs.Job.{Answers};
-ghost use Rattle.topos_top.specs.Replies.{MayReply};
+ghost use Rattle.topos_top.specs.Command.{Edit};
+ghost use Rattle.topos_top.specs.Commands.{plan_of};
+ghost use Rattle.topos_top.specs.CommandPlan.{reads, ends};
+ghost use Rattle.topos_top.specs.Edit.{ReportsTable, edit_outcomes, summary_line, summary_lines};
+ghost use Rattle.topos_top.specs.Outcomes.{Answers};
+ghost use Rattle.topos_top.specs.Replies.{IsPossibleReply};
 ghost use Rattle.topos_top.specs.Shelf.{shelf_change};
 ghost use Rattle.topos_top.specs.inner.Views.{reply_view, reply_in};
 
@@ -31,9 +31,9 @@ pub fn reply<'a, H: Shelf>(
     edits: &'a str,
     shelf: &mut H,
 ) -> Result<Answer<'a>, Answer<'a>>
-    ensures same_files { H.files shelf.new ≡ H.files shelf.old }
-    ensures faults_stay { H.faults shelf.old ≤ H.faults shelf.new }
-    ensures reply { MayReply false (course_of (Edit file.now edits.now))
+    ensures files_unchanged { H.files shelf.new ≡ H.files shelf.old }
+    ensures faults_monotone { H.faults shelf.old ≤ H.faults shelf.new }
+    ensures reply { IsPossibleReply false (plan_of (Edit file.now edits.now))
         (shelf_change H.Shelf shelf.old shelf.new) (reply_in result) }
 {
     let mut session = read_session(alloc, file, shelf)?;
@@ -47,13 +47,13 @@ fn reply_for<'a, H: Shelf>(
     edits: &'a str,
     shelf: &mut H,
 ) -> Result<Answer<'a>, Answer<'a>>
-    ensures same_files { H.files shelf.new ≡ H.files shelf.old }
-    ensures faults_stay { H.faults shelf.old ≤ H.faults shelf.new }
-    ensures reply { MayReply false (reads Kind.Edits edits.now (λ es. ends (edit_job (table_of session.old) es)))
+    ensures files_unchanged { H.files shelf.new ≡ H.files shelf.old }
+    ensures faults_monotone { H.faults shelf.old ≤ H.faults shelf.new }
+    ensures reply { IsPossibleReply false (reads Kind.Edits edits.now (λ es. ends (edit_outcomes (table_of session.old) es)))
         (shelf_change H.Shelf shelf.old shelf.new) (reply_in result) }
 {
     let edits = read_edits(alloc, edits, shelf)?;
-    Answer::of_job(answer(alloc, session, &edits))
+    Answer::of_outcomes(answer(alloc, session, &edits))
 }
 
 /// Returns the summaries and the final policy, or the first edit that is refused.
@@ -62,7 +62,7 @@ fn answer<'a>(
     session: &mut Session,
     edits: &[edit_core::Edit],
 ) -> Result<Answer<'a>, AllocError>
-    ensures { IfOk result (λ answer. Answers false (edit_job (table_of session.old) (map edit_view edits.now)) (reply_view answer)) }
+    ensures { IfOk result (λ answer. Answers false (edit_outcomes (table_of session.old) (map edit_view edits.now)) (reply_view answer)) }
 {
     match session.apply_all(alloc, edits) {
         Ok(summaries) => {
@@ -79,7 +79,7 @@ fn answer<'a>(
 /// Returns the lines of the summaries, followed by the status of each flow of the current
 /// description.
 fn text_of(alloc: Global, session: &Session, summaries: &[Summary]) -> Result<Vec<u8>, AllocError>
-    ensures { IfOk result (λ text. SaysTable IsPolicyReport (table_of session.now) summaries.now text.items) }
+    ensures { IfOk result (λ text. ReportsTable IsPolicyReport (table_of session.now) summaries.now text.items) }
 {
     let mut text = Vec::new(alloc);
     push_summaries(&mut text, summaries)?;

@@ -1,8 +1,8 @@
 //! Delivery of a reply: its text is written to its stream.
 
 ghost use Rattle.std.specs.Prelude.{◌≡◌, ◌≢◌, ◌≤◌};
-ghost use Rattle.topos_top.specs.Taken.{IsGiven};
-ghost use Rattle.topos_top.specs.Taken.{sink_change};
+ghost use Rattle.topos_top.specs.SinkChanges.{IsDelivered};
+ghost use Rattle.topos_top.specs.SinkChanges.{sink_change};
 ghost use Rattle.topos_top.specs.inner.Views.{reply_view};
 
 use crate::answer::Answer;
@@ -11,11 +11,11 @@ use edge_io::{Sink, put_all};
 
 /// Writes the reply to its stream, and returns the status of the run. A failure of `err` changes
 /// nothing else.
-pub fn give<O: Sink, E: Sink>(answer: &Answer<'_>, out: &mut O, err: &mut E) -> Status
-    ensures given { IsGiven (sink_change O.Sink out.old out.new)
+pub fn deliver<O: Sink, E: Sink>(answer: &Answer<'_>, out: &mut O, err: &mut E) -> Status
+    ensures given { IsDelivered (sink_change O.Sink out.old out.new)
         (sink_change E.Sink err.old err.new) (reply_view answer.now) result }
-    ensures untouched { answer.now.stream ≡ Stream.Errors → out.new ≡ out.old }
-    ensures silent { result ≢ Status.WriteFault → answer.now.stream ≡ Stream.Output → err.new ≡ err.old }
+    ensures output_unchanged { answer.now.stream ≡ Stream.Errors → out.new ≡ out.old }
+    ensures stderr_unchanged { result ≢ Status.WriteFault → answer.now.stream ≡ Stream.Output → err.new ≡ err.old }
     ensures out_faults_stay { O.faults out.old ≤ O.faults out.new }
     ensures err_faults_stay { E.faults err.old ≤ E.faults err.new }
 {

@@ -3,7 +3,7 @@
 ghost use Rattle.std.specs.Prelude.{◌≡◌, ◌≤◌, ◌<◌, ◌^◌, ℕ, List, length};
 ghost use Rattle.desc_form.specs.Refusals.{refused};
 ghost use Rattle.report_core.specs.RefusalLine.{refusal_text};
-ghost use Rattle.topos_top.specs.Kinds.{contents_of, IsRefused};
+ghost use Rattle.topos_top.specs.FileFormats.{format_of, IsRefused};
 ghost use Rattle.topos_top.specs.Reply.{error};
 ghost use Rattle.topos_top.specs.inner.Views.{reply_view};
 
@@ -34,7 +34,7 @@ pub enum Kind {
 impl Kind {
     /// Returns the size limit of such a file.
     pub fn most(self) -> usize
-        ensures most { result ≡ (contents_of self).most }
+        ensures most { result ≡ (format_of self).most }
         ensures small { result ≤ 2 ^ 26 }
     {
         match self {
@@ -48,7 +48,7 @@ impl Kind {
 
     /// Returns the reply to a file above the limit.
     pub fn too_long<'a>(self) -> Answer<'a>
-        ensures { (bytes : List ℕ) → (contents_of self).most < length bytes → IsRefused self bytes (reply_view result) }
+        ensures { (bytes : List ℕ) → (format_of self).most < length bytes → IsRefused self bytes (reply_view result) }
     {
         match self {
             Kind::Description => too_long_description(),

@@ -1,15 +1,15 @@
 //! The entire program, generic over the file source (`Shelf`) and the two output sinks. The
 //! arguments form a command, a command reads its files in order, and its outcome gives the reply.
-//! Each command has its own file here and in `specs/`; `ask` and `commands`, `specs/Ask.antt` and
+//! Each command has its own file here and in `specs/`; `command` and `commands`, `specs/Command.antt` and
 //! `specs/Commands.antt` list the commands. The program `topos-query` reads its files and writes
 //! its replies with the same calls.
 #![tactic(auto)]
 
 mod answer;
-mod ask;
 mod audit;
 mod chains;
 mod check;
+mod command;
 mod commands;
 mod dialect;
 mod edit;
@@ -34,9 +34,9 @@ mod text_fault;
 mod trace;
 
 pub use answer::Answer;
-pub use ask::{one_word, three_words};
+pub use command::{one_word, three_words};
 pub use dialect::{Dialect, Rules};
-pub use ending::give;
+pub use ending::deliver;
 pub use flow_policy::policy_between;
 pub use local::no_host_line;
 pub use program::run;

@@ -5,7 +5,7 @@ ghost use Rattle.std.specs.Prelude.{◌≡◌, ◌<◌, ◌≤◌, OnOk, OnErr, 
 ghost use Rattle.std.specs.List.{concat};
 ghost use Rattle.std.specs.Io.KnownBytes.{append_known};
 ghost use Rattle.edge_io.specs.Counts.{Rose};
-ghost use Rattle.edge_io.specs.Told.{TookPrefix};
+ghost use Rattle.edge_io.specs.Observable.{AppendsPrefixOf};
 ghost use Rattle.topos_top.specs.inner.Blocks.{HasRoom};
 
 use edge_io::{Sink, WriteFault, put_all};
@@ -70,9 +70,9 @@ impl Lines for Table {
 /// Writes the lines of a text to the sink, in blocks, and stops at the first error. Does not
 /// allocate.
 pub fn put_lines<T: Lines, O: Sink>(sink: &mut O, text: &T) -> Result<(), WriteFault>
-    ensures prefix { TookPrefix (O.held sink.old) (O.held sink.new) (concat (T.lines_of text.now)) }
+    ensures prefix { AppendsPrefixOf (O.held sink.old) (O.held sink.new) (concat (T.lines_of text.now)) }
     ensures whole { OnOk result (O.held sink.new ≡ append_known (O.held sink.old) (concat (T.lines_of text.now))) }
-    ensures faults_stay { O.faults sink.old ≤ O.faults sink.new }
+    ensures faults_monotone { O.faults sink.old ≤ O.faults sink.new }
     ensures fault { OnErr result (Rose (O.faults sink.old) (O.faults sink.new)) }
 {
     let mut block = [0; BLOCK];
@@ -103,8 +103,8 @@ fn make_room<O: Sink>(sink: &mut O, block: &[u8; 8512], filled: usize) -> Result
     ensures room { IfOk result (λ left. left ≤ 8192) }
     ensures left { IfOk result (λ left.
         HasRoom (O.held sink.old) (O.held sink.new) (take filled block.now) (take left block.now)) }
-    ensures prefix { OnErr result (TookPrefix (O.held sink.old) (O.held sink.new) (take filled block.now)) }
-    ensures faults_stay { O.faults sink.old ≤ O.faults sink.new }
+    ensures prefix { OnErr result (AppendsPrefixOf (O.held sink.old) (O.held sink.new) (take filled block.now)) }
+    ensures faults_monotone { O.faults sink.old ≤ O.faults sink.new }
     ensures fault { OnErr result (Rose (O.faults sink.old) (O.faults sink.new)) }
 {
     if filled + LINE <= BLOCK {

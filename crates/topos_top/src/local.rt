@@ -4,12 +4,12 @@
 ghost use Rattle.std.specs.Prelude.{◌≡◌, ◌≤◌, ◌<◌, IfOk, IsTrue, Some, false};
 ghost use Rattle.host_emit.specs.LocalLayout.{is_specific};
 ghost use Rattle.host_net.specs.Host.{host_named};
-ghost use Rattle.topos_top.specs.Ask.{Local};
-ghost use Rattle.topos_top.specs.Commands.{course_of};
-ghost use Rattle.topos_top.specs.Job.{Answers};
-ghost use Rattle.topos_top.specs.Local.{local_job};
-ghost use Rattle.topos_top.specs.inner.Local.{machines_job, no_host_line, rest_host_line};
-ghost use Rattle.topos_top.specs.Replies.{MayReply};
+ghost use Rattle.topos_top.specs.Command.{Local};
+ghost use Rattle.topos_top.specs.Commands.{plan_of};
+ghost use Rattle.topos_top.specs.Outcomes.{Answers};
+ghost use Rattle.topos_top.specs.Local.{local_outcomes};
+ghost use Rattle.topos_top.specs.inner.Local.{machines_outcomes, no_host_line, rest_host_line};
+ghost use Rattle.topos_top.specs.Replies.{IsPossibleReply};
 ghost use Rattle.topos_top.specs.Shelf.{shelf_change};
 ghost use Rattle.topos_top.specs.inner.Views.{reply_view, reply_in};
 
@@ -32,13 +32,13 @@ pub fn reply<'a, H: Shelf>(
     host: &str,
     shelf: &mut H,
 ) -> Result<Answer<'a>, Answer<'a>>
-    ensures same_files { H.files shelf.new ≡ H.files shelf.old }
-    ensures faults_stay { H.faults shelf.old ≤ H.faults shelf.new }
-    ensures reply { MayReply false (course_of (Local file.now host.now))
+    ensures files_unchanged { H.files shelf.new ≡ H.files shelf.old }
+    ensures faults_monotone { H.faults shelf.old ≤ H.faults shelf.new }
+    ensures reply { IsPossibleReply false (plan_of (Local file.now host.now))
         (shelf_change H.Shelf shelf.old shelf.new) (reply_in result) }
 {
     let description = read_description(alloc, file, shelf)?;
-    Answer::of_job(answer(alloc, &description, host))
+    Answer::of_outcomes(answer(alloc, &description, host))
 }
 
 /// Returns the rules, or the reason why there are none.
@@ -47,7 +47,7 @@ fn answer<'a>(
     description: &Description,
     host: &str,
 ) -> Result<Answer<'a>, AllocError>
-    ensures { IfOk result (λ answer. Answers false (local_job description.now host.now) (reply_view answer)) }
+    ensures { IfOk result (λ answer. Answers false (local_outcomes description.now host.now) (reply_view answer)) }
 {
     match listed_offences(alloc, description)? {
         Some(report) => Ok(Answer::error(Status::Violated, Text::Report(report))),
@@ -61,7 +61,7 @@ fn machines<'a>(
     description: &Description,
     host: &str,
 ) -> Result<Answer<'a>, AllocError>
-    ensures { IfOk result (λ answer. Answers false (machines_job description.now host.now) (reply_view answer)) }
+    ensures { IfOk result (λ answer. Answers false (machines_outcomes description.now host.now) (reply_view answer)) }
 {
     let hosts = description.hosts();
     let Some(number) = hosts.find(host.as_bytes()) else {
@@ -82,7 +82,7 @@ fn specific_machines<'a>(
 ) -> Result<Answer<'a>, AllocError>
     requires named { host_named description.now.hosts host.now ≡ Some number }
     requires specific { IsTrue (is_specific description.now.hosts number) }
-    ensures { IfOk result (λ answer. Answers false (machines_job description.now host.now) (reply_view answer)) }
+    ensures { IfOk result (λ answer. Answers false (machines_outcomes description.now host.now) (reply_view answer)) }
 {
     let policy = policy_of(alloc, description)?;
     let rules = local_rules(alloc, &policy_between(description, &policy), number)?;

@@ -1,11 +1,11 @@
 //! `policy FILE`: the status of each flow, and the reason.
 
 ghost use Rattle.std.specs.Prelude.{◌≡◌, ◌≤◌, IfOk, false};
-ghost use Rattle.topos_top.specs.Ask.{Policy};
-ghost use Rattle.topos_top.specs.Commands.{course_of};
-ghost use Rattle.topos_top.specs.Job.{Answers};
-ghost use Rattle.topos_top.specs.Policy.{policy_job};
-ghost use Rattle.topos_top.specs.Replies.{MayReply};
+ghost use Rattle.topos_top.specs.Command.{Policy};
+ghost use Rattle.topos_top.specs.Commands.{plan_of};
+ghost use Rattle.topos_top.specs.Outcomes.{Answers};
+ghost use Rattle.topos_top.specs.Policy.{policy_outcomes};
+ghost use Rattle.topos_top.specs.Replies.{IsPossibleReply};
 ghost use Rattle.topos_top.specs.Shelf.{shelf_change};
 ghost use Rattle.topos_top.specs.inner.Views.{reply_view, reply_in};
 
@@ -23,18 +23,18 @@ pub fn reply<'a, H: Shelf>(
     file: &'a str,
     shelf: &mut H,
 ) -> Result<Answer<'a>, Answer<'a>>
-    ensures same_files { H.files shelf.new ≡ H.files shelf.old }
-    ensures faults_stay { H.faults shelf.old ≤ H.faults shelf.new }
-    ensures reply { MayReply false (course_of (Policy file.now))
+    ensures files_unchanged { H.files shelf.new ≡ H.files shelf.old }
+    ensures faults_monotone { H.faults shelf.old ≤ H.faults shelf.new }
+    ensures reply { IsPossibleReply false (plan_of (Policy file.now))
         (shelf_change H.Shelf shelf.old shelf.new) (reply_in result) }
 {
     let description = read_description(alloc, file, shelf)?;
-    Answer::of_job(answer(alloc, &description))
+    Answer::of_outcomes(answer(alloc, &description))
 }
 
 /// Returns the report.
 fn answer<'a>(alloc: Global, description: &Description) -> Result<Answer<'a>, AllocError>
-    ensures { IfOk result (λ answer. Answers false (policy_job description.now) (reply_view answer)) }
+    ensures { IfOk result (λ answer. Answers false (policy_outcomes description.now) (reply_view answer)) }
 {
     let report = policy_report(alloc, description)?;
     Ok(Answer::done(Text::Report(report)))

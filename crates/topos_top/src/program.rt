@@ -1,19 +1,19 @@
 //! The entire program, generic over the file source and the two output sinks.
 
 ghost use Rattle.std.specs.Prelude.{◌≡◌, ◌≢◌, ℕ, ◌≤◌, ◌↔◌, ◌⊎◌, map, string_bytes};
-ghost use Rattle.topos_top.specs.Ask.{Ask, Sample, AskFor, AskNothing, AsksToReport};
+ghost use Rattle.topos_top.specs.Command.{Command, Sample, ParseAs, ParseAsNothing, ReportsViolationsOnOutput};
 ghost use Rattle.topos_top.specs.Commands.{NamesNoFile};
-ghost use Rattle.topos_top.specs.Promises.{GaveReply, HasCause, Keeps, EndsAsSample, IsComplete};
+ghost use Rattle.topos_top.specs.Promises.{DeliversReply, HasCause, MeetsHeadline, EndsAsSample, IsComplete};
 ghost use Rattle.topos_top.specs.Shelf.{shelf_change};
-ghost use Rattle.topos_top.specs.Taken.{sink_change};
-ghost use Rattle.topos_top.specs.inner.Ask.{ask_of};
-ghost use Rattle.topos_top.specs.inner.Replies.{MayGiveBy, NamesNothing};
+ghost use Rattle.topos_top.specs.SinkChanges.{sink_change};
+ghost use Rattle.topos_top.specs.inner.Command.{command_of};
+ghost use Rattle.topos_top.specs.inner.Replies.{AllowsReplyTo, NamesNothing};
 ghost use Rattle.topos_top.specs.inner.Views.{reply_view};
 
 use crate::answer::Answer;
-use crate::ask::ask_of_words;
+use crate::command::parse_command;
 use crate::commands::reply;
-use crate::ending::give;
+use crate::ending::deliver;
 use crate::status::Status;
 use crate::text::Text;
 use edge_io::{Shelf, Sink};
@@ -28,19 +28,19 @@ pub fn run<H: Shelf, O: Sink, E: Sink>(
     out: &mut O,
     err: &mut E,
 ) -> Status
-    ensures same_files { H.files shelf.new ≡ H.files shelf.old }
-    ensures faults_stay { (H.faults shelf.old ≤ H.faults shelf.new) × (O.faults out.old ≤ O.faults out.new)
+    ensures files_unchanged { H.files shelf.new ≡ H.files shelf.old }
+    ensures faults_monotone { (H.faults shelf.old ≤ H.faults shelf.new) × (O.faults out.old ≤ O.faults out.new)
         × (E.faults err.old ≤ E.faults err.new) }
 
     // The run delivers exactly one allowed reply: a status, and a text on `out` or a line on `err`.
-    ensures reply { GaveReply (map string_bytes words.now) (shelf_change H.Shelf shelf.old shelf.new)
+    ensures reply { DeliversReply (map string_bytes words.now) (shelf_change H.Shelf shelf.old shelf.new)
         (sink_change O.Sink out.old out.new) (sink_change E.Sink err.old err.new) result }
 
     // Consequences of `reply`. `Usage` is returned iff the arguments match no command form; no file
     // is read then.
-    ensures usage { (result ≡ Status.Usage) ↔ AskNothing (map string_bytes words.now) }
-    ensures usage_reads_nothing { result ≡ Status.Usage → shelf.new ≡ shelf.old }
-    ensures reads_nothing { NamesNoFile (map string_bytes words.now) → shelf.new ≡ shelf.old }
+    ensures usage { (result ≡ Status.Usage) ↔ ParseAsNothing (map string_bytes words.now) }
+    ensures usage_opens_no_file { result ≡ Status.Usage → shelf.new ≡ shelf.old }
+    ensures opens_no_file { NamesNoFile (map string_bytes words.now) → shelf.new ≡ shelf.old }
 
     // Every other status has its cause.
     ensures read_fault { result ≡ Status.ReadFault → HasCause Status.ReadFault (map string_bytes words.now)
@@ -75,19 +75,19 @@ pub fn run<H: Shelf, O: Sink, E: Sink>(
     // description's own table, in version 2. `audit` reports `equal` only if the rules forward what
     // the policy expects. If the machines of every specific host have their rules, a packet passes
     // between hosts iff the policy expects it.
-    ensures headline { result ≡ Status.Done → (ask : Ask) → AskFor (map string_bytes words.now) ask
-        → Keeps ask (shelf_change H.Shelf shelf.old shelf.new) (sink_change O.Sink out.old out.new) }
+    ensures headline { result ≡ Status.Done → (command : Command) → ParseAs (map string_bytes words.now) command
+        → MeetsHeadline command (shelf_change H.Shelf shelf.old shelf.new) (sink_change O.Sink out.old out.new) }
 
     // `sample` reads no file, and always writes its report unless the output fails or memory runs
     // out.
-    ensures sample { (n : ℕ) → AskFor (map string_bytes words.now) (Sample n)
+    ensures sample { (n : ℕ) → ParseAs (map string_bytes words.now) (Sample n)
         → (shelf.new ≡ shelf.old) × EndsAsSample n (sink_change O.Sink out.old out.new) result }
 
     // A stream that gets no text is unchanged. A command reports violations on one stream and
     // leaves the other unchanged.
-    ensures untouched { result ≢ Status.Done → result ≢ Status.WriteFault
-        → (result ≡ Status.Violated → AsksToReport (map string_bytes words.now) → ⊥) → out.new ≡ out.old }
-    ensures silent { (result ≡ Status.Done) ⊎ ((result ≡ Status.Violated) × AsksToReport (map string_bytes words.now))
+    ensures output_unchanged { result ≢ Status.Done → result ≢ Status.WriteFault
+        → (result ≡ Status.Violated → ReportsViolationsOnOutput (map string_bytes words.now) → ⊥) → out.new ≡ out.old }
+    ensures stderr_unchanged { (result ≡ Status.Done) ⊎ ((result ≡ Status.Violated) × ReportsViolationsOnOutput (map string_bytes words.now))
         → err.new ≡ err.old }
 
     // If the shelf's files are observable, the arguments and the files determine the reply, and so
@@ -96,20 +96,20 @@ pub fn run<H: Shelf, O: Sink, E: Sink>(
         (sink_change O.Sink out.old out.new) (sink_change E.Sink err.old err.new) result }
 {
     let answer = answer_to(alloc, words, shelf);
-    give(&answer, out, err)
+    deliver(&answer, out, err)
 }
 
 /// Computes the reply to `words`, reading files from `shelf` as needed. Writes nothing.
 fn answer_to<'a, H: Shelf>(alloc: Global, words: &'a [String], shelf: &mut H) -> Answer<'a>
-    ensures same_files { H.files shelf.new ≡ H.files shelf.old }
-    ensures faults_stay { H.faults shelf.old ≤ H.faults shelf.new }
-    ensures reply { MayGiveBy (ask_of (map string_bytes words.now))
+    ensures files_unchanged { H.files shelf.new ≡ H.files shelf.old }
+    ensures faults_monotone { H.faults shelf.old ≤ H.faults shelf.new }
+    ensures reply { AllowsReplyTo (command_of (map string_bytes words.now))
         (shelf_change H.Shelf shelf.old shelf.new) (reply_view result) }
-    ensures reads_nothing { NamesNothing (ask_of (map string_bytes words.now)) → shelf.new ≡ shelf.old }
+    ensures opens_no_file { NamesNothing (command_of (map string_bytes words.now)) → shelf.new ≡ shelf.old }
 {
-    match ask_of_words(words) {
+    match parse_command(words) {
         None => Answer::error(Status::Usage, Text::Usage),
-        Some(ask) => match reply(alloc, ask, shelf) {
+        Some(command) => match reply(alloc, command, shelf) {
             Ok(answer) => answer,
             Err(answer) => answer,
         },

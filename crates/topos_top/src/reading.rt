@@ -28,8 +28,8 @@ pub fn read_description<'a, H: Shelf>(
     name: &'a str,
     shelf: &mut H,
 ) -> Result<Description, Answer<'a>>
-    ensures same_files { H.files shelf.new ≡ H.files shelf.old }
-    ensures faults_stay { H.faults shelf.old ≤ H.faults shelf.new }
+    ensures files_unchanged { H.files shelf.new ≡ H.files shelf.old }
+    ensures faults_monotone { H.faults shelf.old ≤ H.faults shelf.new }
     ensures reading { MayRead Kind.Description name.now
         (shelf_change H.Shelf shelf.old shelf.new) (outcome_view result) }
 {
@@ -44,8 +44,8 @@ pub fn read_rules<'a, H: Shelf>(
     name: &'a str,
     shelf: &mut H,
 ) -> Result<Rules, Answer<'a>>
-    ensures same_files { H.files shelf.new ≡ H.files shelf.old }
-    ensures faults_stay { H.faults shelf.old ≤ H.faults shelf.new }
+    ensures files_unchanged { H.files shelf.new ≡ H.files shelf.old }
+    ensures faults_monotone { H.faults shelf.old ≤ H.faults shelf.new }
     ensures reading { MayReadRules dialect name.now (shelf_change H.Shelf shelf.old shelf.new) (rules_outcome result) }
     ensures one_verdict { IfOk result (λ rules. GivesOne (filter_of (rules_view rules))) }
 {
@@ -78,8 +78,8 @@ pub fn read_events<'a, H: Shelf>(
     name: &'a str,
     shelf: &mut H,
 ) -> Result<Vec<Event>, Answer<'a>>
-    ensures same_files { H.files shelf.new ≡ H.files shelf.old }
-    ensures faults_stay { H.faults shelf.old ≤ H.faults shelf.new }
+    ensures files_unchanged { H.files shelf.new ≡ H.files shelf.old }
+    ensures faults_monotone { H.faults shelf.old ≤ H.faults shelf.new }
     ensures reading { MayRead Kind.Events name.now (shelf_change H.Shelf shelf.old shelf.new) (items_view result) }
 {
     let bytes = take(alloc, Kind::Events, name, shelf)?;
@@ -100,8 +100,8 @@ pub fn read_document<'a, H: Shelf>(
     name: &'a str,
     shelf: &mut H,
 ) -> Result<Vec<u8>, Answer<'a>>
-    ensures same_files { H.files shelf.new ≡ H.files shelf.old }
-    ensures faults_stay { H.faults shelf.old ≤ H.faults shelf.new }
+    ensures files_unchanged { H.files shelf.new ≡ H.files shelf.old }
+    ensures faults_monotone { H.faults shelf.old ≤ H.faults shelf.new }
     ensures reading { MayRead Kind.Document name.now (shelf_change H.Shelf shelf.old shelf.new) (items_view result) }
 {
     let bytes = take(alloc, Kind::Document, name, shelf)?;
@@ -114,8 +114,8 @@ pub fn read_session<'a, H: Shelf>(
     name: &'a str,
     shelf: &mut H,
 ) -> Result<Session, Answer<'a>>
-    ensures same_files { H.files shelf.new ≡ H.files shelf.old }
-    ensures faults_stay { H.faults shelf.old ≤ H.faults shelf.new }
+    ensures files_unchanged { H.files shelf.new ≡ H.files shelf.old }
+    ensures faults_monotone { H.faults shelf.old ≤ H.faults shelf.new }
     ensures reading { MayRead Kind.Edited name.now (shelf_change H.Shelf shelf.old shelf.new) (session_view result) }
 {
     let bytes = take(alloc, Kind::Edited, name, shelf)?;
@@ -128,8 +128,8 @@ pub fn read_edits<'a, H: Shelf>(
     name: &'a str,
     shelf: &mut H,
 ) -> Result<Vec<Edit>, Answer<'a>>
-    ensures same_files { H.files shelf.new ≡ H.files shelf.old }
-    ensures faults_stay { H.faults shelf.old ≤ H.faults shelf.new }
+    ensures files_unchanged { H.files shelf.new ≡ H.files shelf.old }
+    ensures faults_monotone { H.faults shelf.old ≤ H.faults shelf.new }
     ensures reading { MayRead Kind.Edits name.now (shelf_change H.Shelf shelf.old shelf.new) (edits_view result) }
 {
     let bytes = take(alloc, Kind::Edits, name, shelf)?;
@@ -151,8 +151,8 @@ fn take<'a, H: Shelf>(
     name: &'a str,
     shelf: &mut H,
 ) -> Result<Vec<u8>, Answer<'a>>
-    ensures same_files { H.files shelf.new ≡ H.files shelf.old }
-    ensures faults_stay { H.faults shelf.old ≤ H.faults shelf.new }
+    ensures files_unchanged { H.files shelf.new ≡ H.files shelf.old }
+    ensures faults_monotone { H.faults shelf.old ≤ H.faults shelf.new }
     ensures taken { MayTake kind name.now (shelf_change H.Shelf shelf.old shelf.new) (items_view result) }
 {
     match take_all(alloc, shelf, name, kind.most()) {

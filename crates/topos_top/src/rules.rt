@@ -2,12 +2,12 @@
 //! and violates an invariant.
 
 ghost use Rattle.std.specs.Prelude.{◌≡◌, ◌≤◌, IfOk, false};
-ghost use Rattle.topos_top.specs.Ask.{Rules};
-ghost use Rattle.topos_top.specs.Commands.{course_of};
-ghost use Rattle.topos_top.specs.Job.{Answers};
-ghost use Rattle.topos_top.specs.Repair.{repair_job};
-ghost use Rattle.topos_top.specs.Replies.{MayReply};
-ghost use Rattle.topos_top.specs.Rules.{rules_job};
+ghost use Rattle.topos_top.specs.Command.{Rules};
+ghost use Rattle.topos_top.specs.Commands.{plan_of};
+ghost use Rattle.topos_top.specs.Outcomes.{Answers};
+ghost use Rattle.topos_top.specs.Repair.{repair_outcomes};
+ghost use Rattle.topos_top.specs.Replies.{IsPossibleReply};
+ghost use Rattle.topos_top.specs.Rules.{rules_outcomes};
 ghost use Rattle.topos_top.specs.Shelf.{shelf_change};
 ghost use Rattle.topos_top.specs.inner.Views.{reply_view, reply_in};
 
@@ -30,13 +30,13 @@ pub fn reply<'a, H: Shelf>(
     file: &'a str,
     shelf: &mut H,
 ) -> Result<Answer<'a>, Answer<'a>>
-    ensures same_files { H.files shelf.new ≡ H.files shelf.old }
-    ensures faults_stay { H.faults shelf.old ≤ H.faults shelf.new }
-    ensures reply { MayReply false (course_of (Rules dialect file.now))
+    ensures files_unchanged { H.files shelf.new ≡ H.files shelf.old }
+    ensures faults_monotone { H.faults shelf.old ≤ H.faults shelf.new }
+    ensures reply { IsPossibleReply false (plan_of (Rules dialect file.now))
         (shelf_change H.Shelf shelf.old shelf.new) (reply_in result) }
 {
     let description = read_description(alloc, file, shelf)?;
-    Answer::of_job(answer(alloc, dialect, &description))
+    Answer::of_outcomes(answer(alloc, dialect, &description))
 }
 
 /// Returns the rules, or the reason why there are none.
@@ -45,7 +45,7 @@ fn answer<'a>(
     dialect: Dialect,
     description: &Description,
 ) -> Result<Answer<'a>, AllocError>
-    ensures { IfOk result (λ answer. Answers false (rules_job dialect description.now) (reply_view answer)) }
+    ensures { IfOk result (λ answer. Answers false (rules_outcomes dialect description.now) (reply_view answer)) }
 {
     match listed_offences(alloc, description)? {
         Some(report) => Ok(Answer::error(Status::Violated, Text::Report(report))),
@@ -59,7 +59,7 @@ pub fn policy_rules<'a>(
     dialect: Dialect,
     description: &Description,
 ) -> Result<Answer<'a>, AllocError>
-    ensures { IfOk result (λ answer. Answers false (repair_job dialect description.now) (reply_view answer)) }
+    ensures { IfOk result (λ answer. Answers false (repair_outcomes dialect description.now) (reply_view answer)) }
 {
     let policy = policy_of(alloc, description)?;
     match dialect {

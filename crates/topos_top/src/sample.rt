@@ -2,8 +2,8 @@
 
 ghost use Rattle.std.specs.Prelude.{◌≤◌, IfOk, false};
 ghost use Rattle.host_net.specs.Limits.{host_limit};
-ghost use Rattle.topos_top.specs.Job.{Answers};
-ghost use Rattle.topos_top.specs.Sample.{sample_job};
+ghost use Rattle.topos_top.specs.Outcomes.{Answers};
+ghost use Rattle.topos_top.specs.Sample.{sample_outcomes};
 ghost use Rattle.topos_top.specs.inner.Views.{reply_view};
 
 use crate::answer::Answer;
@@ -14,7 +14,7 @@ use std::alloc::{AllocError, Global};
 /// Returns the numbers of the sample.
 pub fn answer<'a>(alloc: Global, hosts: u16) -> Result<Answer<'a>, AllocError>
     requires { hosts ≤ host_limit }
-    ensures { IfOk result (λ answer. Answers false (sample_job hosts) (reply_view answer)) }
+    ensures { IfOk result (λ answer. Answers false (sample_outcomes hosts) (reply_view answer)) }
 {
     Ok(Answer::done(Text::Bytes(sample_text(alloc, hosts)?)))
 }

@@ -3,9 +3,9 @@
 ghost use Rattle.std.specs.Prelude.{◌≡◌, ◌≤◌, OnOk, OnErr};
 ghost use Rattle.std.specs.Io.KnownBytes.{append_known};
 ghost use Rattle.edge_io.specs.Counts.{Rose};
-ghost use Rattle.edge_io.specs.Told.{TookPrefix};
+ghost use Rattle.edge_io.specs.Observable.{AppendsPrefixOf};
 ghost use Rattle.report_core.specs.RefusalLine.{refusal_text};
-ghost use Rattle.topos_top.specs.Ask.{usage_text};
+ghost use Rattle.topos_top.specs.Command.{usage_text};
 ghost use Rattle.topos_top.specs.TextFault.{fault_line, edit_fault_line};
 ghost use Rattle.topos_top.specs.inner.Views.{text_view};
 
@@ -48,9 +48,9 @@ impl<'a> Text<'a> {
     /// Writes the text to the sink, without allocation, and stops at the first error.
     #[tactic(auto, unfolding(crate::specs::TextFault::edit_fault_line))]
     pub fn put<O: Sink>(&self, sink: &mut O) -> Result<(), WriteFault>
-        ensures prefix { TookPrefix (O.held sink.old) (O.held sink.new) (text_view self.now) }
+        ensures prefix { AppendsPrefixOf (O.held sink.old) (O.held sink.new) (text_view self.now) }
         ensures whole { OnOk result (O.held sink.new ≡ append_known (O.held sink.old) (text_view self.now)) }
-        ensures faults_stay { O.faults sink.old ≤ O.faults sink.new }
+        ensures faults_monotone { O.faults sink.old ≤ O.faults sink.new }
         ensures fault { OnErr result (Rose (O.faults sink.old) (O.faults sink.new)) }
     {
         match self {
@@ -71,11 +71,11 @@ impl<'a> Text<'a> {
 }
 
 /// Writes the usage text.
-#[tactic(auto, unfolding(crate::specs::Ask::usage_text))]
+#[tactic(auto, unfolding(crate::specs::Command::usage_text))]
 fn put_usage<O: Sink>(sink: &mut O) -> Result<(), WriteFault>
-    ensures prefix { TookPrefix (O.held sink.old) (O.held sink.new) usage_text }
+    ensures prefix { AppendsPrefixOf (O.held sink.old) (O.held sink.new) usage_text }
     ensures whole { OnOk result (O.held sink.new ≡ append_known (O.held sink.old) usage_text) }
-    ensures faults_stay { O.faults sink.old ≤ O.faults sink.new }
+    ensures faults_monotone { O.faults sink.old ≤ O.faults sink.new }
     ensures fault { OnErr result (Rose (O.faults sink.old) (O.faults sink.new)) }
 {
     put_pieces(
@@ -97,9 +97,9 @@ fn put_usage<O: Sink>(sink: &mut O) -> Result<(), WriteFault>
 
 /// Writes the line for a refused description.
 fn put_refusal<O: Sink>(sink: &mut O, why: &Refusal) -> Result<(), WriteFault>
-    ensures prefix { TookPrefix (O.held sink.old) (O.held sink.new) (refusal_text why.now) }
+    ensures prefix { AppendsPrefixOf (O.held sink.old) (O.held sink.new) (refusal_text why.now) }
     ensures whole { OnOk result (O.held sink.new ≡ append_known (O.held sink.old) (refusal_text why.now)) }
-    ensures faults_stay { O.faults sink.old ≤ O.faults sink.new }
+    ensures faults_monotone { O.faults sink.old ≤ O.faults sink.new }
     ensures fault { OnErr result (Rose (O.faults sink.old) (O.faults sink.new)) }
 {
     let mut line = [0; 256];
@@ -109,9 +109,9 @@ fn put_refusal<O: Sink>(sink: &mut O, why: &Refusal) -> Result<(), WriteFault>
 
 /// Writes the line for a rejected file, with the number of its bad line and the reason.
 fn put_fault<O: Sink>(sink: &mut O, text: &[u8], line: u32, reason: &[u8]) -> Result<(), WriteFault>
-    ensures prefix { TookPrefix (O.held sink.old) (O.held sink.new) (fault_line text.now line reason.now) }
+    ensures prefix { AppendsPrefixOf (O.held sink.old) (O.held sink.new) (fault_line text.now line reason.now) }
     ensures whole { OnOk result (O.held sink.new ≡ append_known (O.held sink.old) (fault_line text.now line reason.now)) }
-    ensures faults_stay { O.faults sink.old ≤ O.faults sink.new }
+    ensures faults_monotone { O.faults sink.old ≤ O.faults sink.new }
     ensures fault { OnErr result (Rose (O.faults sink.old) (O.faults sink.new)) }
 {
     let mut digits = itoa::Buffer::new();

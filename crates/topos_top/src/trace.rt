@@ -3,13 +3,13 @@
 ghost use Rattle.std.specs.Prelude.{◌≡◌, ◌≤◌, IfOk, false};
 ghost use Rattle.audit_core.specs.Rules.{filter_of};
 ghost use Rattle.report_core.specs.Trace.{IsTrace};
-ghost use Rattle.topos_top.specs.Ask.{Trace};
-ghost use Rattle.topos_top.specs.Commands.{course_of};
-ghost use Rattle.topos_top.specs.Course.{reads, ends};
-ghost use Rattle.topos_top.specs.Job.{Answers};
-ghost use Rattle.topos_top.specs.Replies.{MayReply};
+ghost use Rattle.topos_top.specs.Command.{Trace};
+ghost use Rattle.topos_top.specs.Commands.{plan_of};
+ghost use Rattle.topos_top.specs.CommandPlan.{reads, ends};
+ghost use Rattle.topos_top.specs.Outcomes.{Answers};
+ghost use Rattle.topos_top.specs.Replies.{IsPossibleReply};
 ghost use Rattle.topos_top.specs.Shelf.{shelf_change};
-ghost use Rattle.topos_top.specs.Trace.{trace_job};
+ghost use Rattle.topos_top.specs.Trace.{trace_outcomes};
 ghost use Rattle.topos_top.specs.inner.Views.{reply_in, reply_view, rules_view};
 
 use crate::answer::Answer;
@@ -30,9 +30,9 @@ pub fn reply<'a, H: Shelf>(
     events: &'a str,
     shelf: &mut H,
 ) -> Result<Answer<'a>, Answer<'a>>
-    ensures same_files { H.files shelf.new ≡ H.files shelf.old }
-    ensures faults_stay { H.faults shelf.old ≤ H.faults shelf.new }
-    ensures reply { MayReply false (course_of (Trace dialect rules.now events.now))
+    ensures files_unchanged { H.files shelf.new ≡ H.files shelf.old }
+    ensures faults_monotone { H.faults shelf.old ≤ H.faults shelf.new }
+    ensures reply { IsPossibleReply false (plan_of (Trace dialect rules.now events.now))
         (shelf_change H.Shelf shelf.old shelf.new) (reply_in result) }
 {
     let rules = read_rules(alloc, dialect, rules, shelf)?;
@@ -46,18 +46,18 @@ fn reply_for<'a, H: Shelf>(
     events: &'a str,
     shelf: &mut H,
 ) -> Result<Answer<'a>, Answer<'a>>
-    ensures same_files { H.files shelf.new ≡ H.files shelf.old }
-    ensures faults_stay { H.faults shelf.old ≤ H.faults shelf.new }
-    ensures reply { MayReply false (reads Kind.Events events.now (λ es. ends (trace_job (filter_of (rules_view rules.now)) es)))
+    ensures files_unchanged { H.files shelf.new ≡ H.files shelf.old }
+    ensures faults_monotone { H.faults shelf.old ≤ H.faults shelf.new }
+    ensures reply { IsPossibleReply false (reads Kind.Events events.now (λ es. ends (trace_outcomes (filter_of (rules_view rules.now)) es)))
         (shelf_change H.Shelf shelf.old shelf.new) (reply_in result) }
 {
     let events = read_events(alloc, events, shelf)?;
-    Answer::of_job(answer(alloc, rules, &events))
+    Answer::of_outcomes(answer(alloc, rules, &events))
 }
 
 /// Returns the lines of the events.
 fn answer<'a>(alloc: Global, rules: &Rules, events: &[Event]) -> Result<Answer<'a>, AllocError>
-    ensures { IfOk result (λ answer. Answers false (trace_job (filter_of (rules_view rules.now)) events.now) (reply_view answer)) }
+    ensures { IfOk result (λ answer. Answers false (trace_outcomes (filter_of (rules_view rules.now)) events.now) (reply_view answer)) }
 {
     let text = trace_text(alloc, rules, events)?;
     Ok(Answer::done(Text::Bytes(text)))

@@ -16,8 +16,8 @@ pub record IsFirstBad (IsBad : List Given → Given → Type 0) (assigns : List 
   pub before : NoneIsBad IsBad (take k assigns)
 
 -- The number is that of the first bad assign, or there is none.
-abbrev pub TellsFirstBad : (List Given → Given → Type 0) → List Given → Option ℕ → Type 0
-TellsFirstBad IsBad assigns bad = MatchOption bad (NoneIsBad IsBad assigns) (IsFirstBad IsBad assigns)
+abbrev pub IsFirstBadOrNone : (List Given → Given → Type 0) → List Given → Option ℕ → Type 0
+IsFirstBadOrNone IsBad assigns bad = MatchOption bad (NoneIsBad IsBad assigns) (IsFirstBad IsBad assigns)
 
 -- A call succeeds only if none of the assigns is bad, and the assign that it reports is the first bad one.
 abbrev pub BlamesFirstBad : {A : Type 0} → (List Given → Given → Type 0) → List Given → Result A AttrFault → Type 0

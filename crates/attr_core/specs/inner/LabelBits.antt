@@ -7,12 +7,12 @@ use Rattle.inv_any.specs.declared.any_inv.AnyInv.TheVariants as any
 use Rattle.tmpl_levels.specs.Tainting.{HasLabel, untainted}
 use Rattle.tmpl_levels.specs.declared.tainting.Labels.{Labels}
 use Rattle.attr_core.specs.Assigns.{Given}
-use Rattle.attr_core.specs.Forms.{last_said}
+use Rattle.attr_core.specs.Forms.{last_assigned}
 use Rattle.attr_core.specs.Tainting.{is_listed, labels_in, labels_of}
 
 -- The last assign for the host.
 abbrev pub assign_of : List Given → ℕ → Option Given
-assign_of assigns host = last_said (λ earlier a. Some a) [] host assigns
+assign_of assigns host = last_assigned (λ earlier a. Some a) [] host assigns
 
 -- The labels that it lists at a key; none if no assign is for the host.
 abbrev pub listed_at : List ℕ → Option Given → List (List ℕ)

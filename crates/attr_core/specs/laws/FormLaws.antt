@@ -8,7 +8,7 @@ use Rattle.std.specs.List.{range_with_len}
 use Rattle.std.specs.Option.{option_or}
 use Rattle.std.specs.Prelude.{if◌then◌else◌, slice_set, unwrap_or}
 use Rattle.attr_core.specs.Assigns.{Given}
-use Rattle.attr_core.specs.Forms.{assigned, bad_from, last_said}
+use Rattle.attr_core.specs.Forms.{assigned, bad_from, last_assigned}
 
 abbrev pub set_said : {A : Type 0} → List A → ℕ → Option A → List A
 set_said xs host None = xs
@@ -45,12 +45,12 @@ last_by xs i host d None (Some x) false is within = get_or-set_other xs i host x
 
 pub get_or-set_all : {A : Type 0} (says : List Given → Given → Option A) (earlier : List Given) (xs : List A) (rest : List Given)
     (host : ℕ) (d : A) → host < length xs
-    → get_or (set_all says earlier xs rest) host d ≡ unwrap_or (last_said says earlier host rest) (get_or xs host d)
+    → get_or (set_all says earlier xs rest) host d ≡ unwrap_or (last_assigned says earlier host rest) (get_or xs host d)
 get_or-set_all says earlier xs [] host d within = refl
 get_or-set_all says earlier xs (a ∷ rest) host d within =
     let still : host < length (set_said xs a.host (says earlier a)) = rw (length-set_said xs a.host (says earlier a)) within in
     get_or-set_all says (earlier ++ a ∷ []) (set_said xs a.host (says earlier a)) rest host d still
-    ∙ last_by xs a.host host d (last_said says (earlier ++ a ∷ []) host rest) (says earlier a) (a.host == host) refl within
+    ∙ last_by xs a.host host d (last_assigned says (earlier ++ a ∷ []) host rest) (says earlier a) (a.host == host) refl within
 
 pub set_all_assigned : {A : Type 0} (says : List Given → Given → Option A) (default : ℕ → A) (n : ℕ) (assigns : List Given)
     → set_all says [] (map default (range_with_len 0 n)) assigns ≡ assigned says default n assigns
@@ -58,12 +58,12 @@ set_all_assigned says default n assigns =
     let sized : length (map default (range_with_len 0 n)) ≡ n = length-map-range_with_len default 0 n in
     let whole : length (set_all says [] (map default (range_with_len 0 n)) assigns) ≡ n = length-set_all says [] (map default (range_with_len 0 n)) assigns ∙ sized in
     ext_get_or (default 0) (set_all says [] (map default (range_with_len 0 n)) assigns) (assigned says default n assigns)
-    (whole ∙ sym (length-map-range_with_len (λ host. unwrap_or (last_said says [] host assigns) (default host)) 0 n))
+    (whole ∙ sym (length-map-range_with_len (λ host. unwrap_or (last_assigned says [] host assigns) (default host)) 0 n))
     (λ host within.
     let below : host < n = rw whole at within in
     get_or-set_all says [] (map default (range_with_len 0 n)) assigns host (default 0) (rw sized below)
-    ∙ ap (unwrap_or (last_said says [] host assigns)) (get_or-map-range_with_len default 0 n host host (default 0) below (omega arith))
-    ∙ sym (get_or-map-range_with_len (λ i. unwrap_or (last_said says [] i assigns) (default i)) 0 n host host (default 0) below (omega arith)))
+    ∙ ap (unwrap_or (last_assigned says [] host assigns)) (get_or-map-range_with_len default 0 n host host (default 0) below (omega arith))
+    ∙ sym (get_or-map-range_with_len (λ i. unwrap_or (last_assigned says [] i assigns) (default i)) 0 n host host (default 0) below (omega arith)))
 
 -- A bad assign is one of the given assigns.
 within_by : {A : Type 0} (o : Option A) (n m k : ℕ) (later : Option ℕ) → (later ≡ Some k → k < n + 1 + m)
@@ -81,5 +81,5 @@ bad_within says earlier (a ∷ rest) k is =
 -- Host by host.
 pub attribute_at : {A : Type 0} (says : List Given → Given → Option A) (default : ℕ → A) (n : ℕ) (assigns : List Given) (host : ℕ)
     (d : A) → host < n
-    → get_or (assigned says default n assigns) host d ≡ unwrap_or (last_said says [] host assigns) (default host)
-attribute_at says default n assigns host d within = get_or-map-range_with_len (λ i. unwrap_or (last_said says [] i assigns) (default i)) 0 n host host d within (omega arith)
+    → get_or (assigned says default n assigns) host d ≡ unwrap_or (last_assigned says [] host assigns) (default host)
+attribute_at says default n assigns host d within = get_or-map-range_with_len (λ i. unwrap_or (last_assigned says [] i assigns) (default i)) 0 n host host d within (omega arith)

@@ -13,17 +13,17 @@ use Rattle.audit_core.specs.Agreement.{AgreeOn}
 abbrev pub alone : Packet → List Event
 alone p = Seen p ∷ []
 
-abbrev pub behind_swap : Packet → List Event
-behind_swap p = Seen (swap_of p) ∷ Seen p ∷ []
+abbrev pub after_swap : Packet → List Event
+after_swap p = Seen (swap_of p) ∷ Seen p ∷ []
 
-abbrev pub behind_both : Packet → List Event
-behind_both p = Seen p ∷ Seen (swap_of p) ∷ Seen p ∷ []
+abbrev pub after_both : Packet → List Event
+after_both p = Seen p ∷ Seen (swap_of p) ∷ Seen p ∷ []
 
 -- The filter and the policy agree on the three lists at a packet.
 pub record AgreeAt (filter : Filter) (permitted stateful : Packet → Bool) (p : Packet) : Type 0 where
   pub first : AgreeOn filter permitted stateful (alone p)
-  pub second : AgreeOn filter permitted stateful (behind_swap p)
-  pub third : AgreeOn filter permitted stateful (behind_both p)
+  pub second : AgreeOn filter permitted stateful (after_swap p)
+  pub third : AgreeOn filter permitted stateful (after_both p)
 
 -- The filter has the verdict of the policy on the packet: always in the state New, and in the state Established if the packet or its swap
 -- is permitted, because no other packet enters this state.

@@ -8,29 +8,29 @@ use Rattle.host_net.specs.Packet.{IsPacket, swap_of}
 use Rattle.header_space.specs.Order.{ComesBefore}
 use Rattle.pkt_core.specs.Firewall.{may_pass}
 use Rattle.audit_core.specs.declared.kind.Kind.{Kind}
-use Rattle.audit_core.specs.declared.kind.Kind.TheVariants.{Alone, BehindSwap, BehindBoth}
+use Rattle.audit_core.specs.declared.kind.Kind.TheVariants.{Alone, AfterSwap, AfterBoth}
 use Rattle.audit_core.specs.declared.finding.Finding.{Finding}
 use Rattle.audit_core.specs.declared.finding.Finding.TheVariants.{Equal, Differ as Differing}
 use Rattle.audit_core.specs.declared.finding.Trace.{Trace}
 use Rattle.audit_core.specs.Findings.{place_of, trace_of}
 use Rattle.audit_core.specs.Rules.{filter_of}
-use Rattle.audit_core.specs.Sides.{Sides, lets_answer, permits}
+use Rattle.audit_core.specs.Sides.{Sides, permits_reply_to, permits}
 
 abbrev pub state_in : Kind → CtState
 state_in Alone = New
-state_in BehindSwap = Established
-state_in BehindBoth = Established
+state_in AfterSwap = Established
+state_in AfterBoth = Established
 
 -- The policy expects that p passes at the end of the list of that kind.
 abbrev pub expected_at : Sides → Kind → Packet → Bool
-expected_at sides kind p = may_pass (permits sides) (lets_answer sides) (state_in kind) p
+expected_at sides kind p = may_pass (permits sides) (permits_reply_to sides) (state_in kind) p
 
 -- The condition applies to the packet in the list of that kind. After its swap the packet is established if the swap is permitted; after
 -- itself and its swap, if the packet is permitted.
 abbrev pub is_asked : (Packet → Bool) → Kind → Packet → Bool
 is_asked permitted Alone p = true
-is_asked permitted BehindSwap p = permitted (swap_of p)
-is_asked permitted BehindBoth p = permitted p
+is_asked permitted AfterSwap p = permitted (swap_of p)
+is_asked permitted AfterBoth p = permitted p
 
 -- If the condition applies, the rules have the verdict of the policy.
 abbrev pub Right : Sides → Kind → Packet → Type 0
@@ -52,7 +52,7 @@ IsAnyFault sides p = (kind : Kind) × IsFault sides kind p
 
 -- The policy allows the packet in the state if and only if `expected` is true.
 abbrev pub IsExpected : Sides → CtState → Packet → Bool → Type 0
-IsExpected sides state p expected = may_pass (permits sides) (lets_answer sides) state p ≡ expected
+IsExpected sides state p expected = may_pass (permits sides) (permits_reply_to sides) state p ≡ expected
 
 -- In the state, the rules have a verdict on the packet that is not the expected verdict.
 abbrev pub SaysOther : Sides → CtState → Bool → Packet → Type 0

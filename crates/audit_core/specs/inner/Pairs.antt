@@ -15,7 +15,7 @@ use Rattle.header_space.specs.inner.Splitting.{IsEarlier}
 use Rattle.audit_core.specs.declared.difference.Difference.{Difference}
 use Rattle.audit_core.specs.declared.difference.Direction.{Direction}
 use Rattle.audit_core.specs.declared.kind.Kind.{Kind}
-use Rattle.audit_core.specs.declared.kind.Kind.TheVariants.{Alone, BehindSwap, BehindBoth}
+use Rattle.audit_core.specs.declared.kind.Kind.TheVariants.{Alone, AfterSwap, AfterBoth}
 use Rattle.audit_core.specs.declared.list_end.Ends.{Ends}
 use Rattle.header_space.specs.declared.address_range.AddressRange.{AddressRange}
 use Rattle.audit_core.specs.declared.sources.Sender.{Sender}
@@ -34,9 +34,9 @@ state_after passed = if passed then Established else New
 -- The rules for packets, together with the rules for their swaps, forward p at the end of the list of that kind, or drop it.
 abbrev pub EndsBy : Rules → Rules → Kind → Packet → Bool → Type 0
 EndsBy rules swaps Alone p passes = filter_of rules New p passes
-EndsBy rules swaps BehindSwap p passes =
+EndsBy rules swaps AfterSwap p passes =
     (passed : Bool) × filter_of swaps New (swap_of p) passed × filter_of rules (state_after passed) p passes
-EndsBy rules swaps BehindBoth p passes = (first : Bool) × filter_of rules New p first
+EndsBy rules swaps AfterBoth p passes = (first : Bool) × filter_of rules New p first
     × (passed : Bool) × filter_of swaps New (swap_of p) passed × filter_of rules (state_after (first || passed)) p passes
 
 -- The rules forward or drop p in this way at the end of the list of that kind, and the policy expects the opposite.

@@ -5,11 +5,11 @@ use Rattle.pkt_core.specs.declared.event.Event.{Event}
 use Rattle.pkt_core.specs.Filter.{ArePackets}
 use Rattle.audit_core.specs.inner.Agreement.{AgreeAt}
 use Rattle.audit_core.specs.Rules.{filter_of}
-use Rattle.audit_core.specs.Sides.{Agree, Sides, lets_answer, permits}
+use Rattle.audit_core.specs.Sides.{Agree, Sides, permits_reply_to, permits}
 
 -- The two sides agree on the three short lists at a packet.
 abbrev pub AgreeShortly : Sides → Packet → Type 0
-AgreeShortly sides = AgreeAt (filter_of sides.rules) (permits sides) (lets_answer sides)
+AgreeShortly sides = AgreeAt (filter_of sides.rules) (permits sides) (permits_reply_to sides)
 
 -- The two sides agree on every list of events with valid packets.
 abbrev pub AgreeAlways : Sides → Type 0

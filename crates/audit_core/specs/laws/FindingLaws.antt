@@ -6,7 +6,7 @@ use Rattle.pkt_core.specs.declared.event.Event.TheVariants.{Seen}
 use Rattle.pkt_core.specs.Events.{SeenAt}
 use Rattle.pkt_core.specs.Filter.{ArePackets}
 use Rattle.audit_core.specs.declared.kind.Kind.{Kind}
-use Rattle.audit_core.specs.declared.kind.Kind.TheVariants.{Alone, BehindSwap, BehindBoth}
+use Rattle.audit_core.specs.declared.kind.Kind.TheVariants.{Alone, AfterSwap, AfterBoth}
 use Rattle.audit_core.specs.declared.finding.Finding.{Finding}
 use Rattle.audit_core.specs.declared.finding.Finding.TheVariants.{Equal, Differ as Differing}
 use Rattle.audit_core.specs.declared.finding.Trace.{Trace}
@@ -14,7 +14,7 @@ use Rattle.audit_core.specs.Findings.{DifferSomewhere, events_of, trace_of}
 use Rattle.audit_core.specs.inner.Findings.{IsFinding}
 use Rattle.audit_core.specs.laws.ListLaws.{agree_not_differ}
 use Rattle.audit_core.specs.Rules.{filter_of}
-use Rattle.audit_core.specs.Sides.{Sides, lets_answer, permits}
+use Rattle.audit_core.specs.Sides.{Sides, permits_reply_to, permits}
 
 -- The swap of a packet is a packet.
 pub swaps_known : (p : Packet) → IsPacket p → IsPacket (swap_of p)
@@ -30,18 +30,18 @@ none_there k p h = cc
 pub trace_packets : (kind : Kind) (q : Packet) (f : Bool) → IsPacket q → ArePackets (events_of (trace_of kind q f))
 trace_packets Alone q f known zero p there = subst IsPacket (seen_is q p there) known
 trace_packets Alone q f known (suc k) p there = absurd (none_there k p there)
-trace_packets BehindSwap q f known zero p there = subst IsPacket (seen_is (swap_of q) p there) (swaps_known q known)
-trace_packets BehindSwap q f known (suc zero) p there = subst IsPacket (seen_is q p there) known
-trace_packets BehindSwap q f known (suc (suc k)) p there = absurd (none_there k p there)
-trace_packets BehindBoth q f known zero p there = subst IsPacket (seen_is q p there) known
-trace_packets BehindBoth q f known (suc zero) p there = subst IsPacket (seen_is (swap_of q) p there) (swaps_known q known)
-trace_packets BehindBoth q f known (suc (suc zero)) p there = subst IsPacket (seen_is q p there) known
-trace_packets BehindBoth q f known (suc (suc (suc k))) p there = absurd (none_there k p there)
+trace_packets AfterSwap q f known zero p there = subst IsPacket (seen_is (swap_of q) p there) (swaps_known q known)
+trace_packets AfterSwap q f known (suc zero) p there = subst IsPacket (seen_is q p there) known
+trace_packets AfterSwap q f known (suc (suc k)) p there = absurd (none_there k p there)
+trace_packets AfterBoth q f known zero p there = subst IsPacket (seen_is q p there) known
+trace_packets AfterBoth q f known (suc zero) p there = subst IsPacket (seen_is (swap_of q) p there) (swaps_known q known)
+trace_packets AfterBoth q f known (suc (suc zero)) p there = subst IsPacket (seen_is q p there) known
+trace_packets AfterBoth q f known (suc (suc (suc k))) p there = absurd (none_there k p there)
 
 -- A finding is `Equal` iff the two sides differ on no list of events.
 pub equal_exactly : (sides : Sides) (finding : Finding) → IsFinding sides finding → (finding ≡ Equal) ↔ (DifferSomewhere sides → ⊥)
 equal_exactly sides Equal agree = (
-  (λ is differ. agree_not_differ (filter_of sides.rules) (permits sides) (lets_answer sides) differ.0 (agree differ.0 differ.1) differ.2),
+  (λ is differ. agree_not_differ (filter_of sides.rules) (permits sides) (permits_reply_to sides) differ.0 (agree differ.0 differ.1) differ.2),
   (λ none. refl),
 )
 equal_exactly sides (Differing trace) found = (

@@ -9,13 +9,13 @@ use Rattle.pkt_core.specs.declared.event.Event.TheVariants.{Seen, Forget}
 use Rattle.pkt_core.specs.laws.EventLaws.{get_back, get_before, get_last}
 use Rattle.pkt_core.specs.Expected.{AreExpected, Expected}
 use Rattle.pkt_core.specs.Firewall.{Filter}
-use Rattle.pkt_core.specs.inner.Kept.{kept_after}
-use Rattle.pkt_core.specs.Tracking.{Kept, Runs, after_forget, after_seen, nothing_kept, state_of}
+use Rattle.pkt_core.specs.inner.ConnectionTable.{kept_after}
+use Rattle.pkt_core.specs.Tracking.{ConnectionTable, Runs, after_forget, after_seen, no_connections, state_of}
 use Rattle.audit_core.specs.Agreement.{AgreeOn, DifferOn, IsWrong}
-use Rattle.audit_core.specs.Lists.{DifferBehind}
+use Rattle.audit_core.specs.Lists.{DifferAfter}
 
 module _ (filter : Filter) where
-  pub run_more : (kept : Kept) (past : List Event) (answers : List (Option Bool)) → Runs filter kept past answers → (p : Packet) (b : Bool) → filter (state_of (kept_after kept past answers) p) p b →
+  pub run_more : (kept : ConnectionTable) (past : List Event) (answers : List (Option Bool)) → Runs filter kept past answers → (p : Packet) (b : Bool) → filter (state_of (kept_after kept past answers) p) p b →
       Runs filter kept (past ++ Seen p ∷ []) (answers ++ Some b ∷ [])
   run_more kept [] [] run p b h = (h, tt)
   run_more kept [] (x ∷ xs) run p b h = absurd run
@@ -26,7 +26,7 @@ module _ (filter : Filter) where
   run_more kept (Forget q ∷ past) (Some a ∷ xs) run p b h = absurd run
   run_more kept (Forget q ∷ past) (None ∷ xs) run p b h = run_more (after_forget kept q) past xs run p b h
 
-  pub run_long : (kept : Kept) (past : List Event) (answers : List (Option Bool)) → Runs filter kept past answers → length answers ≡ length past
+  pub run_long : (kept : ConnectionTable) (past : List Event) (answers : List (Option Bool)) → Runs filter kept past answers → length answers ≡ length past
   run_long kept [] [] run = refl
   run_long kept [] (x ∷ xs) run = absurd run
   run_long kept (Seen q ∷ past) [] run = absurd run
@@ -71,18 +71,18 @@ module _ (filter : Filter) where
         apart p q h = cc
 
     -- The filter and the policy differ on one more packet whose result is not the expected result.
-    pub differ_more : (past : List Event) (answers : List (Option Bool)) → Runs filter nothing_kept past answers → (p : Packet) (b : Bool)
-        → filter (state_of (kept_after nothing_kept past answers) p) p b → IsWrong b (Expected permitted stateful past p)
-        → DifferBehind filter permitted stateful past p b
+    pub differ_more : (past : List Event) (answers : List (Option Bool)) → Runs filter no_connections past answers → (p : Packet) (b : Bool)
+        → filter (state_of (kept_after no_connections past answers) p) p b → IsWrong b (Expected permitted stateful past p)
+        → DifferAfter filter permitted stateful past p b
     differ_more past answers run p b h wrong = record {
       answers = answers;
-      run = run_more nothing_kept past answers run p b h;
-      many = run_long nothing_kept past answers run;
+      run = run_more no_connections past answers run p b h;
+      many = run_long no_connections past answers run;
       wrong = wrong;
     }
 
     -- A difference at the end of a list is a difference on the list with the packet.
-    pub differ_on : (past : List Event) (p : Packet) (b : Bool) → DifferBehind filter permitted stateful past p b → DifferOn filter permitted stateful (past ++ Seen p ∷ [])
+    pub differ_on : (past : List Event) (p : Packet) (b : Bool) → DifferAfter filter permitted stateful past p b → DifferOn filter permitted stateful (past ++ Seen p ∷ [])
     differ_on past p b behind = record {
       answers = behind.answers ++ Some b ∷ [];
       run = behind.run;

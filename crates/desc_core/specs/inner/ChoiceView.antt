@@ -2,7 +2,7 @@
 use Rattle.desc_core.specs.Choices as meant
 use Rattle.desc_core.specs.declared.choice.Choice.{Choice}
 use Rattle.desc_core.specs.declared.choice.Choice.TheVariants.{OneOfTen, OwnTable}
-use Rattle.desc_form.specs.inner.WrittenView.{template_view}
+use Rattle.desc_form.specs.inner.RawView.{template_view}
 
 abbrev pub choice_view : Choice → meant.Choice
 choice_view (OneOfTen t) = meant.OneOfTen t

@@ -5,29 +5,29 @@ use Rattle.std.specs.List.{cons_option}
 use Rattle.std.specs.Option.{ok_or, option_or}
 use Rattle.toml.specs.Data.{Members}
 use Rattle.desc_core.specs.Conditions.{byte_limit}
-use Rattle.desc_core.specs.Description.{refused_or}
+use Rattle.desc_core.specs.Description.{ok_unless_refused}
 use Rattle.desc_core.specs.Document.{document}
 use Rattle.net_core.specs.Network.{Network}
-use Rattle.desc_core.specs.WrittenNetwork.{Known, narrowed_to, network_of, services_said}
+use Rattle.desc_core.specs.RawNetwork.{Known, narrowed_to, network_of, declared_services}
 use Rattle.desc_core.specs.TemplateConditions.{bad_template, not_lawful}
 use Rattle.desc_core.specs.UseConditions.{bad_at, bad_service_of, undeclared_host, unknown_template, use_conditions}
 use Rattle.desc_core.specs.inner.Flows.{has_many_services}
 use Rattle.desc_form.specs.Refusals.{barred_at, first_at, refused}
-use Rattle.desc_form.specs.WrittenFlow.{WrittenFlow}
+use Rattle.desc_form.specs.RawFlow.{RawFlow}
 use Rattle.desc_form.specs.declared.refusal.Place.TheVariants.{Document, FlowAt}
 use Rattle.desc_form.specs.declared.refusal.Why.TheVariants.{DuplicateFlow, ManyServices, NotToml, SelfFlow, TooLong}
-use Rattle.text_core.specs.Firsts.{first_found, numbered}
+use Rattle.text_core.specs.FirstMatch.{first_found, numbered}
 use Rattle.text_core.specs.Steps.{◌>>=◌}
-use Rattle.desc_form.specs.Written.{Written}
+use Rattle.desc_form.specs.RawDescription.{RawDescription}
 use Rattle.desc_form.specs.HostConditions.{host_conditions}
 use Rattle.desc_form.specs.declared.refusal.Refusal.{Refusal}
 use Rattle.flow_set.specs.Flow.{same_flow}
 use Rattle.flow_set.specs.declared.flow.Flow.{Flow}
 use Rattle.host_net.specs.Host.{Host, host_named}
-use Rattle.host_net.specs.Services.{NarrowedFlow}
+use Rattle.host_net.specs.Services.{RestrictedFlow}
 use Rattle.host_net.specs.inner.Services.{with_service}
 use Rattle.host_net.specs.declared.service.Service.{Service}
-use Rattle.text_core.specs.Firsts.{first_of}
+use Rattle.text_core.specs.FirstMatch.{first_of}
 
 -- The table of the bytes, or refusal 1 or 2.
 unfoldable pub table_of : List ℕ → Result Members Refusal
@@ -35,19 +35,19 @@ table_of bytes =
     if nat_lt byte_limit (length bytes) then Err (refused TooLong Document) else ok_or (document bytes) (refused NotToml Document)
 
 -- The network, or the first of refusals 6 to 24.
-unfoldable pub network_or : Written → Result Network Refusal
-network_or w = refused_or (first_of (host_conditions w ++ use_conditions w)) (network_of w)
+unfoldable pub network_or : RawDescription → Result Network Refusal
+network_or w = ok_unless_refused (first_of (host_conditions w ++ use_conditions w)) (network_of w)
 
 -- The network, or the first of refusals 15 to 24.
-abbrev pub network_by_uses : Written → Result Network Refusal
-network_by_uses w = refused_or (first_of (use_conditions w)) (network_of w)
+abbrev pub network_by_uses : RawDescription → Result Network Refusal
+network_by_uses w = ok_unless_refused (first_of (use_conditions w)) (network_of w)
 
 -- Conditions 15 and 16.
-abbrev pub name_conditions : Written → List (Option Refusal)
+abbrev pub name_conditions : RawDescription → List (Option Refusal)
 name_conditions w = unknown_template w ∷ undeclared_host w ∷ []
 
 -- The hosts of the names of a flow; they may be equal.
-abbrev pub ends_of : List Host → WrittenFlow → Option Flow
+abbrev pub ends_of : List Host → RawFlow → Option Flow
 ends_of hosts f = do
   from ← host_named hosts f.from
   to ← host_named hosts f.to
@@ -66,24 +66,24 @@ abbrev pub twice_found : List Flow → Option Refusal
 twice_found fs = barred_at DuplicateFlow FlowAt same_flow fs
 
 -- Condition 22, for raw flows.
-abbrev pub many_found : List WrittenFlow → Option Refusal
+abbrev pub many_found : List RawFlow → Option Refusal
 many_found ws = first_at ManyServices FlowAt has_many_services ws
 
 -- Conditions 21 and 22.
-abbrev pub services_found : List WrittenFlow → Option Refusal
+abbrev pub services_found : List RawFlow → Option Refusal
 services_found ws = option_or (first_found bad_service_of (numbered ws)) (many_found ws)
 
 -- Conditions 23 and 24.
-abbrev pub templates_found : Written → Option Refusal
+abbrev pub templates_found : RawDescription → Option Refusal
 templates_found w = option_or (bad_template w) (not_lawful w)
 
 -- The restricted flows, from flows with resolved hosts and the raw flows.
-abbrev pub narrowed_among : List Flow → List WrittenFlow → List NarrowedFlow
+abbrev pub narrowed_among : List Flow → List RawFlow → List RestrictedFlow
 narrowed_among [] ws = []
 narrowed_among (e ∷ es) [] = []
-narrowed_among (e ∷ es) (w ∷ ws) = cons_option (narrowed_to e (services_said w)) (narrowed_among es ws)
+narrowed_among (e ∷ es) (w ∷ ws) = cons_option (narrowed_to e (declared_services w)) (narrowed_among es ws)
 
 -- The services of a flow, added one by one.
-abbrev pub with_services : List NarrowedFlow → Flow → List Service → List NarrowedFlow
+abbrev pub with_services : List RestrictedFlow → Flow → List Service → List RestrictedFlow
 with_services ns flow [] = ns
 with_services ns flow (s ∷ ss) = with_services (with_service ns flow.from flow.to s) flow ss

@@ -2,12 +2,12 @@
 -- names are valid.
 use Rattle.toml.specs.Data.{Members}
 use Rattle.desc_core.specs.inner.UseFacts.{HasUses}
-use Rattle.desc_form.specs.Written.{Written}
-use Rattle.desc_form.specs.inner.WrittenForm.{IsWritten}
+use Rattle.desc_form.specs.RawDescription.{RawDescription}
+use Rattle.desc_form.specs.inner.RawForm.{IsRawOf}
 use Rattle.desc_form.specs.inner.HostFacts.{HasHosts}
 
 pub record IsRight (table : Members) : Type 0 where
-  pub w : Written
-  pub written : IsWritten table w
+  pub w : RawDescription
+  pub written : IsRawOf table w
   pub hosts : HasHosts w
   pub uses : HasUses w

@@ -4,16 +4,16 @@ use Rattle.std.specs.Prelude.{◌≡◌, ◌≢◌, ◌⊎◌, ◌≤◌, ℕ, L
 use Rattle.std.specs.List.{All, AllPairs, Contains}
 use Rattle.attr_core.specs.Templates.{template_named}
 use Rattle.desc_core.specs.TemplateConditions.{kind_limit}
-use Rattle.desc_form.specs.WrittenTemplate.{WrittenPair, WrittenTemplate}
+use Rattle.desc_form.specs.RawTemplate.{RawPair, RawTemplate}
 use Rattle.text_core.specs.Name.{is_name}
 
 -- The word is one of the kinds.
-abbrev pub IsKind : WrittenTemplate → List ℕ → Type 0
+abbrev pub IsKind : RawTemplate → List ℕ → Type 0
 IsKind t word = Contains t.kinds word
 
 -- The name is legal and none of the ten, the strategy is one of the two, there are 1 to 64 kinds with distinct legal names, and the default
 -- and the words of every denied pair are kinds.
-pub record IsTemplate (t : WrittenTemplate) : Type 0 where
+pub record IsTemplate (t : RawTemplate) : Type 0 where
   pub named : IsTrue (is_name t.name)
   pub own : template_named t.name ≡ None
   pub strategy : (t.strategy ≡ codes "access") ⊎ (t.strategy ≡ codes "information")
@@ -25,11 +25,11 @@ pub record IsTemplate (t : WrittenTemplate) : Type 0 where
   pub pairs : All (λ p. IsKind t p.sender × IsKind t p.receiver) t.deny
 
 -- The template denies the flows from hosts of one kind to hosts of the other.
-abbrev pub Denies : WrittenTemplate → List ℕ → List ℕ → Type 0
+abbrev pub Denies : RawTemplate → List ℕ → List ℕ → Type 0
 Denies t sender receiver = Contains t.deny (record { sender = sender; receiver = receiver })
 
 -- The pair is also denied with the default at the offending host: the sender for access control, otherwise the
 -- receiver.
-pub record HasPartner (t : WrittenTemplate) (p : WrittenPair) : Type 0 where
+pub record HasPartner (t : RawTemplate) (p : RawPair) : Type 0 where
   pub at_sender : t.strategy ≡ codes "access" → Denies t t.default p.receiver
   pub at_receiver : t.strategy ≢ codes "access" → Denies t p.sender t.default

@@ -4,20 +4,20 @@ use Rattle.std.specs.Prelude.{◌≡◌, ◌≢◌, ◌≤◌, List, length, Som
 use Rattle.std.specs.List.{All, AllPairs}
 use Rattle.desc_core.specs.Choices.{bad_of, chosen}
 use Rattle.desc_core.specs.inner.TemplateFacts.{HasPartner, IsTemplate}
-use Rattle.desc_form.specs.WrittenTemplate.{WrittenTemplate}
+use Rattle.desc_form.specs.RawTemplate.{RawTemplate}
 use Rattle.desc_core.specs.UseConditions.{is_declared}
-use Rattle.desc_core.specs.WrittenNetwork.{Known, known_of}
-use Rattle.desc_form.specs.Written.{Written, WrittenInvariant}
-use Rattle.desc_form.specs.WrittenHosts.{network_hosts}
+use Rattle.desc_core.specs.RawNetwork.{Known, known_of}
+use Rattle.desc_form.specs.RawDescription.{RawDescription, RawInvariant}
+use Rattle.desc_form.specs.RawHosts.{network_hosts}
 use Rattle.host_net.specs.Host.{Host}
 use Rattle.host_net.specs.Services.{service_limit}
 use Rattle.host_net.specs.ServiceText.{service_of}
 
 -- Each assign of the invariant specifies an attribute of its template.
-abbrev pub SaysAttributes : List WrittenTemplate → List Host → WrittenInvariant → Type 0
+abbrev pub SaysAttributes : List RawTemplate → List Host → RawInvariant → Type 0
 SaysAttributes templates hosts i = (k : Known) → known_of templates hosts i ≡ Some k → bad_of hosts k.template k.assigns ≡ None
 
-pub record HasUses (w : Written) : Type 0 where
+pub record HasUses (w : RawDescription) : Type 0 where
   pub templates : All (λ i. IsTrue (is_some (chosen w.templates i.template))) w.invariants
   pub assigned : All (λ i. All (λ a. IsTrue (is_declared w a.host)) i.assigns) w.invariants
   pub joined : All (λ f. IsTrue (is_declared w f.from) × IsTrue (is_declared w f.to)) w.flows

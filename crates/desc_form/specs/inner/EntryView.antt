@@ -10,7 +10,7 @@ use Rattle.desc_form.specs.declared.refusal.Why.TheVariants.{TooMany}
 use Rattle.host_net.specs.Limits.{prefix_limit}
 use Rattle.host_net.specs.Prefix.{is_exact, prefix_of}
 use Rattle.host_net.specs.declared.prefix.Prefix.{Prefix}
-use Rattle.text_core.specs.Firsts.{Numbered, numbered}
+use Rattle.text_core.specs.FirstMatch.{Numbered, numbered}
 
 abbrev pub entry_view : Entry → condition.Entry
 entry_view e = record { host = e.host; item = e.item; prefix = e.prefix }

@@ -2,7 +2,7 @@
 -- hosts and their prefixes (the description's format, docs/FORMATS.md).
 use Rattle.std.specs.Prelude.{◌≡◌, ◌≢◌, ◌↔◌, ◌⊎◌, ◌≤◌, ◌<◌, ℕ, pos, true, IsTrue, List, [], length, flat_map, Some}
 use Rattle.std.specs.List.{All, AllPairs}
-use Rattle.desc_form.specs.Written.{Written, WrittenHost}
+use Rattle.desc_form.specs.RawDescription.{RawDescription, RawHost}
 use Rattle.desc_form.specs.HostConditions.{template_limit}
 use Rattle.host_net.specs.Limits.{host_limit, invariant_limit, prefix_limit}
 use Rattle.host_net.specs.inner.PrefixView.{ShareAddress}
@@ -11,7 +11,7 @@ use Rattle.host_net.specs.declared.prefix.Prefix.{Prefix}
 use Rattle.text_core.specs.Name.{is_name}
 
 -- The entries of all hosts, in order.
-abbrev pub texts : List WrittenHost → List (List ℕ)
+abbrev pub texts : List RawHost → List (List ℕ)
 texts hs = flat_map (λ h. h.at) hs
 
 -- The entry is a prefix of at least one bit.
@@ -27,10 +27,10 @@ abbrev pub AreApart : List ℕ → List ℕ → Type 0
 AreApart text other = (p q : Prefix) → prefix_of text ≡ Some p → prefix_of other ≡ Some q → ShareAddress p q → ⊥
 
 -- The host has the rest mark if and only if it has no entry.
-abbrev pub HasAddress : WrittenHost → Type 0
+abbrev pub HasAddress : RawHost → Type 0
 HasAddress h = (h.rest ≡ true) ↔ (h.at ≡ [])
 
-pub record HasHosts (w : Written) : Type 0 where
+pub record HasHosts (w : RawDescription) : Type 0 where
   pub version : (w.version ≡ pos 1) ⊎ (w.version ≡ pos 2)
   pub few_hosts : length w.hosts ≤ host_limit
   pub few_prefixes : length (texts w.hosts) ≤ prefix_limit

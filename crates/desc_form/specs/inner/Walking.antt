@@ -8,9 +8,9 @@ use Rattle.desc_form.specs.declared.places.Row.{Row}
 use Rattle.desc_form.specs.declared.places.Row.TheVariants.{Hosts, Assigns, Flows, Templates}
 use Rattle.desc_form.specs.declared.refusal.Place.{Place}
 use Rattle.desc_form.specs.declared.refusal.Place.TheVariants.{Host, Assign, FlowAt, Template}
-use Rattle.text_core.specs.Firsts.{where_holds}
-use Rattle.desc_form.specs.Keys.{version_said}
-use Rattle.desc_form.specs.Places.{Spot, has_unknown_key, has_missing_key, has_wrong_type, invariant_spots, spots}
+use Rattle.text_core.specs.FirstMatch.{some_if}
+use Rattle.desc_form.specs.Keys.{declared_version}
+use Rattle.desc_form.specs.Places.{Location, has_unknown_key, has_missing_key, has_wrong_type, invariant_spots, locations}
 
 -- The place with a number in one of the lists.
 abbrev pub place_in : Row → ℕ → Place
@@ -24,16 +24,16 @@ abbrev pub nothing_found : Option ℤ → Found
 nothing_found said = record { version = said; unknown = None; missing = None; wrong = None }
 
 -- The findings after one more place.
-abbrev pub after : Found → Spot → Found
+abbrev pub after : Found → Location → Found
 after f s = record {
   version = f.version;
-  unknown = option_or f.unknown (where_holds (has_unknown_key f.version s.place s.value) s.place);
-  missing = option_or f.missing (where_holds (has_missing_key f.version s.place s.value) s.place);
-  wrong = option_or f.wrong (where_holds (has_wrong_type f.version s.place s.value) s.place);
+  unknown = option_or f.unknown (some_if (has_unknown_key f.version s.place s.value) s.place);
+  missing = option_or f.missing (some_if (has_missing_key f.version s.place s.value) s.place);
+  wrong = option_or f.wrong (some_if (has_wrong_type f.version s.place s.value) s.place);
 }
 
 -- The findings after further places.
-abbrev pub after_all : Found → List Spot → Found
+abbrev pub after_all : Found → List Location → Found
 after_all f [] = f
 after_all f (s ∷ ss) = after_all (after f s) ss
 
@@ -44,12 +44,12 @@ after_invariants f k (d ∷ ds) = after_invariants (after_all f (invariant_spots
 
 -- The first place whose value satisfies a condition.
 unfoldable pub place_where : (Option ℤ → Place → Data → Bool) → Members → Option Place
-place_where holds document = option_map (λ s. s.place) (find (λ s. holds (version_said document) s.place s.value) (spots document))
+place_where holds document = option_map (λ s. s.place) (find (λ s. holds (declared_version document) s.place s.value) (locations document))
 
 -- The first place for each of the three conditions.
 abbrev pub first_places : Members → Found
 first_places document = record {
-  version = version_said document;
+  version = declared_version document;
   unknown = place_where has_unknown_key document;
   missing = place_where has_missing_key document;
   wrong = place_where has_wrong_type document;

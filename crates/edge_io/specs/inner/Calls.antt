@@ -4,7 +4,7 @@ use Rattle.edge_io.specs.declared.faults.Failed.{Failed}
 use Rattle.edge_io.specs.Counts.{more}
 use Rattle.std.specs.Option.{option_and_then}
 use Rattle.std.specs.FinMap.{get}
-use Rattle.edge_io.specs.Told.{Files}
+use Rattle.edge_io.specs.Observable.{Files}
 use Rattle.std.specs.List.{flat_map}
 use Rattle.std.specs.Borrow.{Bor}
 
@@ -18,12 +18,12 @@ CountsOnce {S = S} {T = T} faults gives =
     (old : S) (bytes : List ℕ) (result : Result T Failed) (new : S) → gives old bytes result new → CountsFault result (faults old) (faults new)
 
 -- The bytes of the file of that name, if the files of the shelf are observable and it exists.
-abbrev pub file_told : Option Files → List ℕ → Option (List ℕ)
-file_told told name = option_and_then (λ files. get files name) told
+abbrev pub observed_file : Option Files → List ℕ → Option (List ℕ)
+observed_file told name = option_and_then (λ files. get files name) told
 
 -- If the files of the shelf are observable, one of them has that name.
-abbrev pub HasIfTold : Option Files → List ℕ → Type 0
-HasIfTold told name = IfSome told (λ files. IsSome (get files name))
+abbrev pub HasIfObservable : Option Files → List ℕ → Type 0
+HasIfObservable told name = IfSome told (λ files. IsSome (get files name))
 
 -- The concatenation of the pieces.
 abbrev pub joined : List (Bor (List ℕ)) → List ℕ

@@ -4,7 +4,7 @@ use Rattle.std.specs.FinMap.{empty, get, insert}
 use Rattle.edge_io.specs.declared.faults.Failed.{Failed}
 use Rattle.edge_io.specs.Counts.{more}
 use Rattle.edge_io.specs.inner.FaultPlan.{Plan, fresh, fails_next, after_call}
-use Rattle.edge_io.specs.Told.{Files}
+use Rattle.edge_io.specs.Observable.{Files}
 
 -- The model: its files, whether one is open, the unread bytes of the open file, its counts, and its planned faults.
 pub record Shelved : Type 0 where

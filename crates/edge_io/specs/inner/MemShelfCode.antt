@@ -4,7 +4,7 @@ use Rattle.std.specs.Coded.{Coded, code_by, coded×, coded_ℕ, coded_bool, code
 use Rattle.std.specs.FinMap.{code}
 use Rattle.edge_io.specs.inner.FaultPlan.{Plan}
 use Rattle.edge_io.specs.inner.MemShelf.{Shelved}
-use Rattle.edge_io.specs.Told.{Files}
+use Rattle.edge_io.specs.Observable.{Files}
 
 abbrev pub plan_code : Coded Plan
 plan_code =

@@ -2,7 +2,7 @@
 use Rattle.std.specs.Prelude.{ℕ, Bool, List, map, bytes_eq, string_bytes}
 use Rattle.std.specs.FinMap.{from_entries}
 use Rattle.edge_io.specs.declared.stored_files.StoredFile.{StoredFile}
-use Rattle.edge_io.specs.Told.{Files}
+use Rattle.edge_io.specs.Observable.{Files}
 
 -- The file has that name.
 abbrev pub is_named : List ℕ → StoredFile → Bool

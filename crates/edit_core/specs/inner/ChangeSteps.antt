@@ -12,7 +12,7 @@ use Rattle.host_net.specs.Limits.{invariant_limit}
 use Rattle.table_core.specs.Tables.{text_at}
 use Rattle.toml.specs.Data.{Members, as_table, get_member}
 use Rattle.toml.specs.Parse.{parse_document}
-use Rattle.edit_core.specs.Behind.{behind_word}
+use Rattle.edit_core.specs.Behind.{after_first_word}
 use Rattle.edit_core.specs.Edit.{Change, Add, Remove, Set, Unset}
 
 -- Tokens that are valid UTF-8.
@@ -79,4 +79,4 @@ change_of_words [] text = Err BadLine
 change_of_words (verb ∷ rest) text = change_by verb rest text
 
 unfoldable pub change_of : List ℕ → Result Change ListWhy
-change_of line = change_of_words (words line) (behind_word (behind_word line))
+change_of line = change_of_words (words line) (after_first_word (after_first_word line))

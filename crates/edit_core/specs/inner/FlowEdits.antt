@@ -1,12 +1,12 @@
 -- A network with one more or one fewer asked flow, and the flow that an edit may add or remove (docs/TEXTS.md).
 use Rattle.std.specs.Prelude.{◌≡◌, ◌≢◌, ◌⊎◌, ◌≤◌, ℕ, not, List, [], ◌∷◌, filter, length, Some, IsFalse, IsTrue}
 use Rattle.desc_core.specs.inner.Parts.{with_services}
-use Rattle.desc_form.specs.Keys.{says_second, version_said}
+use Rattle.desc_form.specs.Keys.{says_second, declared_version}
 use Rattle.flow_set.specs.FlowSet.{has, with_flow}
 use Rattle.flow_set.specs.inner.FlowSetView.{without_flow}
 use Rattle.flow_set.specs.declared.flow.Flow.{Flow}
 use Rattle.host_net.specs.Host.{host_named}
-use Rattle.host_net.specs.Services.{NarrowedFlow, is_between, service_limit}
+use Rattle.host_net.specs.Services.{RestrictedFlow, is_between, service_limit}
 use Rattle.host_net.specs.ServiceText.{service_of}
 use Rattle.host_net.specs.declared.service.Service.{Service}
 use Rattle.net_core.specs.Network.{Network}
@@ -21,7 +21,7 @@ asking_more d f ss = record d {
 }
 
 -- The restricted flows without one.
-abbrev pub without_services : List NarrowedFlow → Flow → List NarrowedFlow
+abbrev pub without_services : List RestrictedFlow → Flow → List RestrictedFlow
 without_services ns f = filter (λ n. not (is_between f.from f.to n)) ns
 
 -- The network with one fewer asked flow, and without its services.
@@ -44,7 +44,7 @@ pub record IsRightFlow (table : Members) (d : Network) (words : List (List ℕ))
   pub fresh : IsFalse (has d.asked.flows f)
   pub services : each service_of texts ≡ Some ss
   pub few : length texts ≤ service_limit
-  pub version : (texts ≡ []) ⊎ IsTrue (says_second (version_said table))
+  pub version : (texts ≡ []) ⊎ IsTrue (says_second (declared_version table))
 
 -- An asked flow, given by the names of its hosts.
 pub record IsAskedFlow (d : Network) (from to : List ℕ) (f : Flow) : Type 0 where

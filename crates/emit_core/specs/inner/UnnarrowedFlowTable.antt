@@ -7,7 +7,7 @@ use Rattle.flow_set.specs.declared.flow.Flow.{Flow}
 use Rattle.ofp_rules.specs.declared.entry.Action.TheVariants.{Normal}
 use Rattle.ofp_rules.specs.declared.entry.Entry.{Entry}
 use Rattle.emit_core.specs.FlowTable.{ip_entry, for_each_host, rest_drop, arp_entry, other_entry}
-use Rattle.emit_core.specs.Sides.{permits}
+use Rattle.emit_core.specs.Directions.{permits}
 
 -- The entry from the prefix q to the prefix t: it forwards a permitted flow; if there is a rest host, it drops another.
 abbrev pub whole_pair : Bool → Option ℕ → Prefix → Prefix → List Entry

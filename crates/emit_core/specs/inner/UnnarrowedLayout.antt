@@ -5,29 +5,29 @@ use Rattle.host_net.specs.Host.{Host, rest_of}
 use Rattle.flow_set.specs.declared.flow.Flow.{Flow}
 use Rattle.ipt_rules.specs.declared.rule.Rule.{Rule}
 use Rattle.ipt_rules.specs.declared.rule.Target.TheVariants.{Accept, Drop}
-use Rattle.emit_core.specs.declared.side.Side.{Side}
-use Rattle.emit_core.specs.Layout.{for_each_prefix, at_other, answering, is_open}
-use Rattle.emit_core.specs.Sides.{links, other_side}
+use Rattle.emit_core.specs.declared.direction.Direction.{Direction}
+use Rattle.emit_core.specs.Layout.{for_each_prefix, match_peer, match_established, is_open}
+use Rattle.emit_core.specs.Directions.{connects, other_direction}
 
 -- The rule that accepts at the prefix q of host j: all packets if the flow is permitted; only answers if its reverse is stateful; otherwise
 -- there is no rule.
-abbrev pub whole_accepts : Side → List Flow → List Flow → ℕ → ℕ → Option Prefix → List Rule
+abbrev pub whole_accepts : Direction → List Flow → List Flow → ℕ → ℕ → Option Prefix → List Rule
 whole_accepts side p s i j q =
-    if links side p i j then at_other side q None Accept ∷ []
-    else (if links (other_side side) s i j then at_other side q answering Accept ∷ [] else [])
+    if connects side p i j then match_peer side q None Accept ∷ []
+    else (if connects (other_direction side) s i j then match_peer side q match_established Accept ∷ [] else [])
 
 -- The rule of an open chain that drops all packets at the prefix q of host j, unless the flow is permitted.
-abbrev pub whole_drops : Side → List Flow → List Flow → ℕ → Option ℕ → ℕ → Prefix → List Rule
+abbrev pub whole_drops : Direction → List Flow → List Flow → ℕ → Option ℕ → ℕ → Prefix → List Rule
 whole_drops side p s i rest j q =
-    if is_open side p s i rest && not (links side p i j) then at_other side (Some q) None Drop ∷ [] else []
+    if is_open side p s i rest && not (connects side p i j) then match_peer side (Some q) None Drop ∷ [] else []
 
 -- The rule that accepts packets to the rest host, or from it.
-abbrev pub whole_to_rest : Side → List Flow → List Flow → ℕ → Option ℕ → List Rule
+abbrev pub whole_to_rest : Direction → List Flow → List Flow → ℕ → Option ℕ → List Rule
 whole_to_rest side p s i None = []
 whole_to_rest side p s i (Some r) = whole_accepts side p s i r None
 
 -- The chain of host i has these rules at the prefixes of each host, then the rule for the rest host, and a last rule that drops all packets.
-abbrev pub whole_host_rules : Side → List Host → List Flow → List Flow → ℕ → List Rule
+abbrev pub whole_host_rules : Direction → List Host → List Flow → List Flow → ℕ → List Rule
 whole_host_rules side hosts p s i =
     for_each_prefix (λ j q. whole_accepts side p s i j (Some q) ++ whole_drops side p s i (rest_of hosts) j q) 0 hosts
-    ++ (whole_to_rest side p s i (rest_of hosts) ++ at_other side None None Drop ∷ [])
+    ++ (whole_to_rest side p s i (rest_of hosts) ++ match_peer side None None Drop ∷ [])

@@ -2,14 +2,14 @@
 //! then answers.
 
 ghost use Rattle.std.specs.Prelude.{◌≡◌, ◌<◌, ◌++◌, length, map, option_map, OnOk};
-ghost use Rattle.host_net.specs.Service.{narrowings};
-ghost use Rattle.emit_core.specs.Sides.{links, services_on};
+ghost use Rattle.host_net.specs.Service.{service_matches};
+ghost use Rattle.emit_core.specs.Directions.{connects, services_on};
 ghost use Rattle.emit_core.specs.inner.Link.{accept_rules, accepting, answer_rules, drop_rules, flow_rules, is_open_link, is_whole_link, link_of, prefix_rules, served};
 
+use crate::direction::Direction;
 use crate::narrowing::is_whole;
-use crate::parts::{Accepted, accepting, at_other};
+use crate::parts::{Accepted, accepting, match_peer};
 use crate::permitted::permits;
-use crate::side::Side;
 use flow_set::FlowSet;
 use host_net::{Prefix, Service, Services};
 use ipt_rules::{Rule, Target};
@@ -20,7 +20,7 @@ use std::marker::Model;
 /// The packets that pass between a host and another in one direction.
 #[derive(Drop)]
 pub(super) struct Link<'a> {
-    side: Side,
+    side: Direction,
     /// The services of their flow, if it is permitted.
     flow: Option<&'a [Service]>,
     /// The services of the answered flow, if answers pass.
@@ -41,7 +41,7 @@ impl<'a> Model for Link<'a> {
 }
 
 impl<'a> Link<'a> {
-    pub(super) fn of(policy: &FlowPolicy<'a>, side: Side, host: u16, other: u16) -> Link<'a>
+    pub(super) fn of(policy: &FlowPolicy<'a>, side: Direction, host: u16, other: u16) -> Link<'a>
         requires host { host < length policy.now.site.hosts }
         requires other { other < length policy.now.site.hosts }
         ensures { result ≡ link_of side policy.now.site policy.now.permitted policy.now.stateful host other }
@@ -127,7 +127,7 @@ impl<'a> Link<'a> {
         ensures { OnOk result (rules.new.items ≡ rules.old.items ++ drop_rules self.now opened at) }
     {
         if opened && !self.is_whole() {
-            rules.push(at_other(self.side, Some(at), Target::Drop))?;
+            rules.push(match_peer(self.side, Some(at), Target::Drop))?;
         }
         Ok(())
     }
@@ -138,14 +138,14 @@ impl<'a> Link<'a> {
 fn services_in<'a>(
     flows: &FlowSet,
     services: &'a Services,
-    side: Side,
+    side: Direction,
     host: u16,
     other: u16,
 ) -> Option<&'a [Service]>
     requires host { host < flows.now.size }
     requires other { other < flows.now.size }
     ensures { option_map (λ ss. ss.now) result
-        ≡ served (links side flows.now.flows host other) (services_on side services.now host other) }
+        ≡ served (connects side flows.now.flows host other) (services_on side services.now host other) }
 {
     let flow = side.flow(host, other);
     if !permits(flows, flow.from, flow.to) {
@@ -159,12 +159,12 @@ fn services_in<'a>(
 fn push_accepted(
     rules: &mut Vec<Rule>,
     accepted: Accepted,
-    side: Side,
+    side: Direction,
     at: Option<Prefix>,
     services: &[Service],
 ) -> Result<(), AllocError>
     ensures { OnOk result (rules.new.items ≡ rules.old.items
-        ++ map (accepting accepted side at) (narrowings services.now)) }
+        ++ map (accepting accepted side at) (service_matches services.now)) }
 {
     if is_whole(services) {
         rules.push(accepting(accepted, side, at, None))?;

@@ -12,13 +12,13 @@ use Rattle.flow_set.specs.inner.HostSet.{row_of}
 abbrev pub marks : List HostNumbers → Flow → Bool
 marks rows f = set.contains (row_of rows f.from) f.to
 
-abbrev pub where_so : Bool → Flow → List Flow
-where_so b f = if b then f ∷ [] else []
+abbrev pub singleton_if : Bool → Flow → List Flow
+singleton_if b f = if b then f ∷ [] else []
 
 -- The flows from i to the hosts below n in the row.
 unfoldable pub row_flows : ℕ → HostNumbers → ℕ → List Flow
 row_flows i row zero = []
-row_flows i row (suc n) = row_flows i row n ++ where_so (set.contains row n) (record { from = i; to = n })
+row_flows i row (suc n) = row_flows i row n ++ singleton_if (set.contains row n) (record { from = i; to = n })
 
 -- The flows of the first m rows to hosts below n.
 unfoldable pub rows_flows : List HostNumbers → ℕ → ℕ → List Flow

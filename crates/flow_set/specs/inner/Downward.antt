@@ -5,8 +5,8 @@ use Rattle.flow_set.specs.FlowSet.{has, IsSubset}
 use Rattle.flow_set.specs.inner.FlowSetView.{IsFlowSet}
 
 -- A condition is downward closed if it holds for every subset of a set between n hosts for which it holds.
-abbrev pub IsDownward : ℕ → (List Flow → Type 0) → Type 0
-IsDownward n Holds = (e s : List Flow) → IsFlowSet n e → IsSubset s e → Holds e → Holds s
+abbrev pub IsDownwardClosed : ℕ → (List Flow → Type 0) → Type 0
+IsDownwardClosed n Holds = (e s : List Flow) → IsFlowSet n e → IsSubset s e → Holds e → Holds s
 
 -- The condition holds for each single flow of e.
 abbrev pub HoldsOfEach : (List Flow → Type 0) → List Flow → Type 0

@@ -6,7 +6,7 @@ use Rattle.std.proofs.lemmas.Bool.{eqb-true, and_parts, or_cases, or_left, or_ri
 use Rattle.std.proofs.lemmas.Bool.Decides.{nat_tests}
 use Rattle.std.proofs.Math.Bool.{or_assoc, or-false}
 use Rattle.flow_set.specs.declared.flow.Flow.{Flow}
-use Rattle.flow_set.specs.Flow.{before, same_flow, back_of}
+use Rattle.flow_set.specs.Flow.{before, same_flow, reverse_of}
 use Rattle.flow_set.specs.FlowSet.{SetOfFlows, has, IsOrdered, with_flow, without, with_back}
 use Rattle.flow_set.specs.inner.FlowSetView.{without_flow}
 
@@ -26,7 +26,7 @@ same_flow_self f = grind (arith, nat_tests)
 pub same_flow_sym : (f g : Flow) → same_flow f g ≡ same_flow g f
 same_flow_sym f g = grind (arith, nat_tests)
 
-pub same_flow_back : (f g : Flow) → same_flow (back_of f) g ≡ same_flow f (back_of g)
+pub same_flow_back : (f g : Flow) → same_flow (reverse_of f) g ≡ same_flow f (reverse_of g)
 same_flow_back f g = grind (arith, nat_tests)
 
 pub before_self : (f : Flow) → IsFalse (before f f)
@@ -128,13 +128,13 @@ has-without_flow fs f g = has-filter (λ h. not (same_flow f h)) fs g
 pub has-without : (fs gs : List Flow) (f : Flow) → has (without fs gs) f ≡ (has fs f && not (has gs f))
 has-without fs gs f = has-filter (λ h. not (has gs h)) fs f
 
-pub has-with_back : (fs gs : List Flow) (f : Flow) → has (with_back fs gs) f ≡ (has fs f || has gs (back_of f))
+pub has-with_back : (fs gs : List Flow) (f : Flow) → has (with_back fs gs) f ≡ (has fs f || has gs (reverse_of f))
 has-with_back fs [] f = sym (or-false (has fs f))
 has-with_back fs (g ∷ gs) f =
-    has-with_flow (with_back fs gs) (back_of g) f
-    ∙ ap (λ b. same_flow (back_of g) f || b) (has-with_back fs gs f)
-    ∙ ap (λ b. b || (has fs f || has gs (back_of f))) (same_flow_back g f)
-    ∙ or_swap (same_flow g (back_of f)) (has fs f) (has gs (back_of f))
+    has-with_flow (with_back fs gs) (reverse_of g) f
+    ∙ ap (λ b. same_flow (reverse_of g) f || b) (has-with_back fs gs f)
+    ∙ ap (λ b. b || (has fs f || has gs (reverse_of f))) (same_flow_back g f)
+    ∙ or_swap (same_flow g (reverse_of f)) (has fs f) (has gs (reverse_of f))
 
 -- ---- equal sets
 
@@ -212,7 +212,7 @@ IsOrdered-with_flow (x ∷ xs) f o =
 
 pub IsOrdered-with_back : (fs gs : List Flow) → IsOrdered fs → IsOrdered (with_back fs gs)
 IsOrdered-with_back fs [] o = o
-IsOrdered-with_back fs (g ∷ gs) o = IsOrdered-with_flow (with_back fs gs) (back_of g) (IsOrdered-with_back fs gs o)
+IsOrdered-with_back fs (g ∷ gs) o = IsOrdered-with_flow (with_back fs gs) (reverse_of g) (IsOrdered-with_back fs gs o)
 
 -- The concatenation of two sets is sorted if all flows of the first are before those of the second.
 pub IsOrdered-append : (xs ys : List Flow) → IsOrdered xs → IsOrdered ys
@@ -228,17 +228,17 @@ IsOrdered-append (x ∷ xs) ys o p apart = (
 
 -- ---- the reverse of one more flow
 
-pub with_back-push : (fs gs : List Flow) (g : Flow) → IsOrdered fs → with_back fs (gs ++ g ∷ []) ≡ with_flow (with_back fs gs) (back_of g)
+pub with_back-push : (fs gs : List Flow) (g : Flow) → IsOrdered fs → with_back fs (gs ++ g ∷ []) ≡ with_flow (with_back fs gs) (reverse_of g)
 with_back-push fs gs g o =
-    flows_ext (with_back fs (gs ++ g ∷ [])) (with_flow (with_back fs gs) (back_of g))
-    (IsOrdered-with_back fs (gs ++ g ∷ []) o) (IsOrdered-with_flow (with_back fs gs) (back_of g) (IsOrdered-with_back fs gs o))
+    flows_ext (with_back fs (gs ++ g ∷ [])) (with_flow (with_back fs gs) (reverse_of g))
+    (IsOrdered-with_back fs (gs ++ g ∷ []) o) (IsOrdered-with_flow (with_back fs gs) (reverse_of g) (IsOrdered-with_back fs gs o))
     (λ f.
     has-with_back fs (gs ++ g ∷ []) f
-    ∙ ap (λ b. has fs f || b) (has-append gs (g ∷ []) (back_of f))
-    ∙ or_last (has fs f) (has gs (back_of f)) (same_flow g (back_of f))
-    ∙ ap (λ b. b || (has fs f || has gs (back_of f))) (sym (same_flow_back g f))
-    ∙ ap (λ b. same_flow (back_of g) f || b) (sym (has-with_back fs gs f))
-    ∙ sym (has-with_flow (with_back fs gs) (back_of g) f))
+    ∙ ap (λ b. has fs f || b) (has-append gs (g ∷ []) (reverse_of f))
+    ∙ or_last (has fs f) (has gs (reverse_of f)) (same_flow g (reverse_of f))
+    ∙ ap (λ b. b || (has fs f || has gs (reverse_of f))) (sym (same_flow_back g f))
+    ∙ ap (λ b. same_flow (reverse_of g) f || b) (sym (has-with_back fs gs f))
+    ∙ sym (has-with_flow (with_back fs gs) (reverse_of g) f))
   where
     or_last : (a b c : Bool) → (a || (b || (c || false))) ≡ (c || (a || b))
     or_last true b true = refl

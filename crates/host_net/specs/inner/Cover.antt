@@ -1,6 +1,6 @@
 -- The first entry of a list, each an optional source and destination prefix, that covers both addresses of a packet.
 use Rattle.std.specs.Prelude.{◌≡◌, ◌≤◌, ◌<◌, ℕ, Bool, true, false, ◌&&◌, IsTrue, List, length, slice_get, Option, Some, None}
-use Rattle.host_net.specs.declared.cover.Ends.{Ends}
+use Rattle.host_net.specs.declared.tuple_space.Ends.{Ends}
 use Rattle.host_net.specs.declared.prefix.Prefix.{Prefix}
 use Rattle.host_net.specs.Prefix.{covers}
 

@@ -2,11 +2,11 @@
 use Rattle.std.specs.Prelude.{◌≡◌, ◌≤◌, ◌<◌, ◌+◌, ◌*◌, ◌^◌, ◌==◌, ◌&&◌, ℕ, Bool, false, nat_le, IsTrue, if◌then◌else◌, min, List, [], ◌∷◌, ◌++◌, length, slice_get, Contains, Option, Some, None}
 use Rattle.std.specs.List.{list_any}
 use Rattle.std.specs.List.Sorted.{IsNonDecreasingBy}
-use Rattle.host_net.specs.declared.cover.Covers.{Covers}
-use Rattle.host_net.specs.declared.cover.Ends.{Ends}
-use Rattle.host_net.specs.declared.cover.Group.{Group}
-use Rattle.host_net.specs.declared.cover.Key.{Key}
-use Rattle.host_net.specs.declared.cover.Lengths.{Lengths}
+use Rattle.host_net.specs.declared.tuple_space.TupleSpaceIndex.{TupleSpaceIndex}
+use Rattle.host_net.specs.declared.tuple_space.Ends.{Ends}
+use Rattle.host_net.specs.declared.tuple_space.Group.{Group}
+use Rattle.host_net.specs.declared.tuple_space.Key.{Key}
+use Rattle.host_net.specs.declared.tuple_space.Lengths.{Lengths}
 use Rattle.host_net.specs.declared.prefix.Prefix.{Prefix}
 use Rattle.host_net.specs.Prefix.{front}
 
@@ -113,9 +113,9 @@ pub record AreIndexOf (all : List Ends) (keys : List Key) (groups : List Group) 
   pub firsts : AreFirst groups keys
 
 -- The number of `Ends` in the index.
-abbrev pub count_in : Covers → ℕ
+abbrev pub count_in : TupleSpaceIndex → ℕ
 count_in index = length index.keys.items
 
 -- The index is built from the list.
-abbrev pub IsIndexOf : List Ends → Covers → Type 0
+abbrev pub IsIndexOf : List Ends → TupleSpaceIndex → Type 0
 IsIndexOf all index = AreIndexOf all index.keys.items index.groups.items

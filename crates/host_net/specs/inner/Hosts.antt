@@ -4,7 +4,7 @@ use Rattle.std.specs.List.{list_all, list_any, sum_by}
 use Rattle.std.specs.Str.{bytes_eq}
 use Rattle.text_core.specs.inner.Pairs.{no_pair}
 use Rattle.text_core.specs.Name.{is_name}
-use Rattle.host_net.specs.Host.{Host, lacks_address}
+use Rattle.host_net.specs.Host.{Host, has_no_address}
 use Rattle.host_net.specs.Limits.{host_limit, prefix_limit}
 use Rattle.host_net.specs.Prefix.{is_exact, meets}
 use Rattle.host_net.specs.declared.prefix.Prefix.{Prefix}
@@ -33,7 +33,7 @@ pub record IsHosts (hs : List Host) : Type 0 where
   pub few_prefixes : prefix_count hs ≤ prefix_limit
   pub named : IsTrue (list_all (λ h. is_name h.name) hs)
   pub distinct : IsTrue (no_pair (λ h g. bytes_eq h.name g.name) hs)
-  pub addressed : IsTrue (list_all (λ h. not (lacks_address h.prefixes h.rest)) hs)
+  pub addressed : IsTrue (list_all (λ h. not (has_no_address h.prefixes h.rest)) hs)
   pub one_rest : IsTrue (no_pair (λ h g. h.rest && g.rest) hs)
   pub networks : IsTrue (list_all is_network (all_prefixes hs))
   pub apart : IsTrue (no_pair meets (all_prefixes hs))

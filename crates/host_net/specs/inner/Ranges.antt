@@ -1,7 +1,7 @@
 -- The addresses of hosts as ranges, and the relation between the hosts and their sorted ranges.
 use Rattle.std.specs.Prelude.{◌≡◌, ℕ, Bool, true, ◌&&◌, nat_le, nat_lt, if◌then◌else◌, IsTrue, List, [], ◌∷◌, Option, Some, None}
 use Rattle.std.specs.List.{list_all}
-use Rattle.host_net.specs.Host.{Host, holder_of}
+use Rattle.host_net.specs.Host.{Host, prefix_owner_of}
 use Rattle.host_net.specs.declared.ranges.Range.{Range}
 
 -- The address is in the range.
@@ -22,4 +22,4 @@ is_ordered (r ∷ rs) = nat_le r.first r.last && (list_all (λ s. nat_lt r.last 
 -- has the number of the prefix's host.
 pub record AreRanges (hs : List Host) (rs : List Range) : Type 0 where
   pub ordered : IsTrue (is_ordered rs)
-  pub held : (a : ℕ) → holder_among rs a ≡ holder_of hs a
+  pub held : (a : ℕ) → holder_among rs a ≡ prefix_owner_of hs a

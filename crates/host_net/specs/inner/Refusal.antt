@@ -3,8 +3,8 @@ use Rattle.std.specs.Prelude.{ℕ, ◌+◌, Bool, not, ◌||◌, nat_lt, nat_le,
 use Rattle.std.specs.List.{position_from}
 use Rattle.std.specs.Option.{option_map, option_or}
 use Rattle.text_core.specs.Name.{is_name}
-use Rattle.text_core.specs.Firsts.{first_of, where_holds}
-use Rattle.host_net.specs.Host.{Host, host_named, rest_of, lacks_address}
+use Rattle.text_core.specs.FirstMatch.{first_of, some_if}
+use Rattle.host_net.specs.Host.{Host, host_named, rest_of, has_no_address}
 use Rattle.host_net.specs.inner.Hosts.{meets_any, prefix_count, prefix_lists}
 use Rattle.host_net.specs.Limits.{host_limit, prefix_limit}
 use Rattle.host_net.specs.declared.prefix.Prefix.{Prefix}
@@ -16,10 +16,10 @@ abbrev pub is_full : List Host → ℕ → Bool
 is_full hs more = nat_le host_limit (length hs) || nat_lt prefix_limit (prefix_count hs + more)
 
 abbrev pub too_many : List Host → List Prefix → Option HostRefusal
-too_many hs at = where_holds (is_full hs (length at)) TooMany
+too_many hs at = some_if (is_full hs (length at)) TooMany
 
 abbrev pub bad_name : List ℕ → Option HostRefusal
-bad_name name = where_holds (not (is_name name)) BadName
+bad_name name = some_if (not (is_name name)) BadName
 
 -- A host already has the name.
 abbrev pub duplicate : List Host → List ℕ → Option HostRefusal
@@ -27,7 +27,7 @@ duplicate hs name = option_map Duplicate (host_named hs name)
 
 -- Neither prefixes nor the rest mark are present, or both are.
 abbrev pub no_address : List Prefix → Bool → Option HostRefusal
-no_address at rest = where_holds (lacks_address at rest) NoAddress
+no_address at rest = some_if (has_no_address at rest) NoAddress
 
 -- The host is a second rest host.
 abbrev pub two_rests : List Host → Bool → Option HostRefusal

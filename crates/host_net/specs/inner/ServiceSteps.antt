@@ -4,7 +4,7 @@ use Rattle.text_core.specs.inner.Decimal.{number}
 use Rattle.text_core.specs.Steps.{◌>>=◌}
 use Rattle.text_core.specs.inner.Pieces.{split_once}
 use Rattle.host_net.specs.declared.service.Service.{Service}
-use Rattle.host_net.specs.Service.{icmp, tcp, udp, last_port, has_ports}
+use Rattle.host_net.specs.Service.{icmp, tcp, udp, max_port, has_ports}
 
 abbrev pub protocol_of : List ℕ → Option ℕ
 protocol_of name =
@@ -13,11 +13,11 @@ protocol_of name =
 -- The ports that a string denotes, given the two parts that a dash separates, or a single port.
 abbrev pub ports_of_parts : List ℕ → Option (List ℕ × List ℕ) → Option (ℕ × ℕ)
 ports_of_parts text None = do
-  port ← number last_port text
+  port ← number max_port text
   Some (port, port)
 ports_of_parts text (Some parts) = do
-  low ← number last_port parts.0
-  high ← number last_port parts.1
+  low ← number max_port parts.0
+  high ← number max_port parts.1
   if nat_lt low high then Some (low, high) else None
 
 -- A port; or two ports separated by a dash (45), the first less than the second.
@@ -32,7 +32,7 @@ with_ports proto ports = if has_ports proto then Some (record { proto = proto; l
 abbrev pub service_of_parts : List ℕ → Option (List ℕ × List ℕ) → Option Service
 service_of_parts text None = do
   proto ← protocol_of text
-  Some (record { proto = proto; low = 0; high = last_port })
+  Some (record { proto = proto; low = 0; high = max_port })
 service_of_parts text (Some parts) = do
   proto ← protocol_of parts.0
   ports ← ports_of parts.1

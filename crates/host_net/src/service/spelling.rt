@@ -2,7 +2,7 @@
 
 ghost use Rattle.std.specs.Prelude.{◌≡◌, ◌↔◌, Some, None, IfSome, IsNone, if◌then◌else◌, nat_lt};
 ghost use Rattle.text_core.specs.inner.Decimal.{number};
-ghost use Rattle.host_net.specs.Service.{last_port};
+ghost use Rattle.host_net.specs.Service.{max_port};
 ghost use Rattle.host_net.specs.ServiceText.{service_of};
 ghost use Rattle.host_net.specs.inner.ServiceSteps.{ports_of, protocol_of, service_by_parts, with_ports};
 ghost use Rattle.host_net.specs.inner.ServiceText.{IsServiceSpelling};
@@ -75,7 +75,7 @@ fn read_ports(text: &[u8]) -> Option<(u16, u16)>
 
 /// Parses a port number.
 pub fn read_port(text: &[u8]) -> Option<u16>
-    ensures { result ≡ number last_port text.now }
+    ensures { result ≡ number max_port text.now }
 {
     Some(read_number(LAST_PORT as u32, text)? as u16)
 }
@@ -88,7 +88,7 @@ fn in_order(low: u16, high: u16) -> Option<(u16, u16)>
 
 /// Returns the service of every packet of a protocol.
 fn whole(proto: u8) -> Service
-    ensures { result ≡ record { proto = proto; low = 0; high = last_port } }
+    ensures { result ≡ record { proto = proto; low = 0; high = max_port } }
 {
     Service {
         proto,

@@ -1,6 +1,6 @@
 -- The trial of an invariant of any template.
 use Rattle.std.specs.Prelude.{◌≡◌}
-use Rattle.flow_set.specs.inner.Steps.{TriedFlows}
+use Rattle.flow_set.specs.inner.Steps.{UndoableFlows}
 use Rattle.inv_any.specs.Templates.{meaning_of}
 use Rattle.inv_any.specs.declared.any_inv.AnyInv.{AnyInv}
 use Rattle.inv_any.specs.declared.any_inv.AnyInv.TheVariants as inv
@@ -10,7 +10,7 @@ use Rattle.tmpl_reach.specs.declared.trial.Half.TheVariants.{Reach, Join}
 use Rattle.tmpl_reach.specs.inner.Trials.{tried_half}
 
 -- The common model of trials, for each template.
-abbrev pub tried_of : Case → TriedFlows
+abbrev pub tried_of : Case → UndoableFlows
 tried_of (trial.Blp t) = t
 tried_of (trial.Tainting t) = t
 tried_of (trial.Sink t) = t
@@ -24,7 +24,7 @@ tried_of (trial.NoReach t) = tried_half t.half
 tried_of (trial.Table t) = t
 
 -- The trial with these flows for the invariant's template.
-abbrev pub trial_like : AnyInv → TriedFlows → Case
+abbrev pub trial_like : AnyInv → UndoableFlows → Case
 trial_like (inv.Blp hosts) t = trial.Blp t
 trial_like (inv.Tainting hosts) t = trial.Tainting t
 trial_like (inv.Sink hosts) t = trial.Sink t

@@ -17,7 +17,7 @@ pub record LetsOff (t : Template) (n host : ℕ) (x : t.Attribute) : Type 0 wher
   pub is_flow : IsFlow n flow
   pub offends : IsMinimalOffending (t.Holds hosts) (flow ∷ []) (flow ∷ [])
   pub blamed : IsOffendingHost t.strategy (flow ∷ []) host
-  pub mended : t.Holds (slice_set hosts host x) (flow ∷ [])
+  pub holds_without : t.Holds (slice_set hosts host x) (flow ∷ [])
 
 -- The default is the only attribute that is a secure default: every other attribute that a host may have exonerates it,
 -- for two hosts or more and at each host.

@@ -21,6 +21,6 @@ pub record IsOffendingHost (strategy : Strategy) (f : List Flow) (host : ℕ) : 
 
 -- If an invariant fails on a set, it still fails after an offending host is reset to the default. So omitting an attribute cannot hide a
 -- violation.
-abbrev pub ResetMendsNothing : ℕ → Strategy → (List Flow → Type 0) → (ℕ → List Flow → Type 0) → Type 0
-ResetMendsNothing n strategy Holds HoldsAfterReset =
+abbrev pub ResetPreservesViolation : ℕ → Strategy → (List Flow → Type 0) → (ℕ → List Flow → Type 0) → Type 0
+ResetPreservesViolation n strategy Holds HoldsAfterReset =
     (e f : List Flow) (host : ℕ) → IsFlowSet n e → IsMinimalOffending Holds e f → IsOffendingHost strategy f host → HoldsAfterReset host e → ⊥

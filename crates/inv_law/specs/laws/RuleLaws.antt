@@ -2,16 +2,16 @@
 use Rattle.std.proofs.Common.{ℕ, ⊎_elim, List, [], ◌∷◌, ◌++◌, ◌∙◌, subst, sym}
 use Rattle.std.specs.Prelude.{IsTrue, ◌↔◌}
 use Rattle.std.proofs.lemmas.Bool.{false≢true, or_cases, or_left}
-use Rattle.flow_set.specs.inner.Downward.{IsDownward, IsEdgeWise}
+use Rattle.flow_set.specs.inner.Downward.{IsDownwardClosed, IsEdgeWise}
 use Rattle.flow_set.specs.laws.FlowLaws.{has-append, has_first, has-with_flow, same_fact, same_flow_self}
 use Rattle.flow_set.specs.FlowSet.{has, with_flow, without}
 use Rattle.flow_set.specs.declared.flow.Flow.{Flow}
-use Rattle.inv_law.specs.inner.Invariants.{ResetMendsNothing}
+use Rattle.inv_law.specs.inner.Invariants.{ResetPreservesViolation}
 use Rattle.inv_law.specs.Rules.{AllFlowsPass}
 use Rattle.inv_law.specs.inner.Resets.{ResetPassesNoMore}
 use Rattle.inv_law.specs.declared.strategy.Strategy.{Strategy}
 
-pub AllFlowsPass-downward : (n : ℕ) (Passes : ℕ → ℕ → Type 0) → IsDownward n (AllFlowsPass Passes)
+pub AllFlowsPass-downward : (n : ℕ) (Passes : ℕ → ℕ → Type 0) → IsDownwardClosed n (AllFlowsPass Passes)
 AllFlowsPass-downward n Passes e s is_set subset passes = λ f in_s. passes f (subset.within f in_s)
 
 pub AllFlowsPass-none : (Passes : ℕ → ℕ → Type 0) → AllFlowsPass Passes []
@@ -48,12 +48,12 @@ AllFlowsPass-edge_wise n Passes e is_set =
 
 pub AllFlowsPass-reset : (n : ℕ) (strategy : Strategy) (Passes : ℕ → ℕ → Type 0) (PassesAfterReset : ℕ → ℕ → ℕ → Type 0)
     → ResetPassesNoMore n strategy Passes PassesAfterReset
-    → ResetMendsNothing n strategy (AllFlowsPass Passes) (λ host. AllFlowsPass (PassesAfterReset host))
+    → ResetPreservesViolation n strategy (AllFlowsPass Passes) (λ host. AllFlowsPass (PassesAfterReset host))
 AllFlowsPass-reset n strategy Passes PassesAfterReset law e f host is_set minimal offending passes =
     let g : Flow = offending.flow in
     let in_e : IsTrue (has e g) = minimal.within.within g offending.offends in
     let put_back : Passes g.from g.to → AllFlowsPass Passes (with_flow (without e f) g) = λ pass x in_both.
-    AllFlowsPass-with Passes g (without e f) pass minimal.mended x (sym (has-with_flow (without e f) g x) ∙ in_both) in
+    AllFlowsPass-with Passes g (without e f) pass minimal.holds_without x (sym (has-with_flow (without e f) g x) ∙ in_both) in
     let fails : Passes g.from g.to → ⊥ = λ pass. minimal.minimal g offending.offends (put_back pass) in
     let P : ℕ → Type 0 = λ h. PassesAfterReset h g.from g.to in
     law g (is_set.flows g in_e) fails (subst P (sym offending.blamed) (passes g in_e))

@@ -2,12 +2,12 @@
 use Rattle.std.proofs.Common.{◌<◌, ℕ, List, [], length, length-set, get_or-set_other, get_or-set_same, inl, inr, sym, subst}
 use Rattle.std.specs.Prelude.{IsTrue, slice_index_or, slice_set}
 use Rattle.std.proofs.lemmas.Bool.{cases_eq, false≢true}
-use Rattle.flow_set.specs.inner.Downward.{IsDownward, IsEdgeWise}
+use Rattle.flow_set.specs.inner.Downward.{IsDownwardClosed, IsEdgeWise}
 use Rattle.flow_set.specs.declared.flow.Flow.{Flow}
 use Rattle.inv_law.specs.laws.AttributeLaws.{ResetPassesNoMore-attributes}
 use Rattle.inv_law.specs.Attributes.{PassesBetween}
 use Rattle.inv_law.specs.inner.Resets.{PassesAfterReset, IsSecureDefault}
-use Rattle.inv_law.specs.inner.Invariants.{ResetMendsNothing}
+use Rattle.inv_law.specs.inner.Invariants.{ResetPreservesViolation}
 use Rattle.inv_law.specs.laws.RuleLaws.{AllFlowsPass-downward, AllFlowsPass-none, AllFlowsPass-edge_wise, AllFlowsPass-reset}
 use Rattle.inv_law.specs.Template.{Template, Meaning, edge_template, meaning, walk_template}
 use Rattle.inv_law.specs.inner.Template.{AllMayHave}
@@ -15,9 +15,9 @@ use Rattle.inv_law.specs.declared.strategy.Strategy.{Strategy}
 
 -- The laws of an invariant.
 pub record IsLawful (m : Meaning) : Type 0 where
-  pub downward : IsDownward m.size m.holds_on
+  pub downward : IsDownwardClosed m.size m.holds_on
   pub holds_on_none : m.holds_on []
-  pub reset_mends_nothing : ResetMendsNothing m.size m.strategy m.holds_on m.holds_after_reset
+  pub reset_preserves_violation : ResetPreservesViolation m.size m.strategy m.holds_on m.holds_after_reset
   pub mark_is_right : IsTrue m.edge_mark → IsEdgeWise m.size m.holds_on
 
 abbrev pub IsLawfulTemplate : Template → Type 0
@@ -30,7 +30,7 @@ pub lawful_edge : {A : Type 0} (name : List ℕ) (strategy : Strategy) (MayHave 
 lawful_edge name strategy MayHave default Passes secure hosts = record {
   downward = AllFlowsPass-downward (length hosts) (PassesBetween default Passes hosts);
   holds_on_none = AllFlowsPass-none (PassesBetween default Passes hosts);
-  reset_mends_nothing =
+  reset_preserves_violation =
       AllFlowsPass-reset (length hosts) strategy (PassesBetween default Passes hosts) (PassesAfterReset default Passes hosts)
       (ResetPassesNoMore-attributes strategy default Passes secure (length hosts) hosts);
   mark_is_right = λ marked. AllFlowsPass-edge_wise (length hosts) (PassesBetween default Passes hosts);
@@ -38,13 +38,13 @@ lawful_edge name strategy MayHave default Passes secure hosts = record {
 
 -- A template on paths is lawful if it is downward closed, holds for the empty set, and a reset cannot hide a violation.
 pub lawful_walk : {A : Type 0} (name : List ℕ) (strategy : Strategy) (MayHave : ℕ → ℕ → A → Type 0) (default : ℕ → ℕ → A) (Holds : List A → List Flow → Type 0)
-    → ((n : ℕ) (hosts : List A) → IsDownward n (Holds hosts)) → ((hosts : List A) → Holds hosts [])
-    → ((hosts : List A) → ResetMendsNothing (length hosts) strategy (Holds hosts) (meaning (walk_template name strategy MayHave default Holds) hosts).holds_after_reset)
+    → ((n : ℕ) (hosts : List A) → IsDownwardClosed n (Holds hosts)) → ((hosts : List A) → Holds hosts [])
+    → ((hosts : List A) → ResetPreservesViolation (length hosts) strategy (Holds hosts) (meaning (walk_template name strategy MayHave default Holds) hosts).holds_after_reset)
     → IsLawfulTemplate (walk_template name strategy MayHave default Holds)
 lawful_walk name strategy MayHave default Holds downward none reset hosts = record {
   downward = downward (length hosts) hosts;
   holds_on_none = none hosts;
-  reset_mends_nothing = reset hosts;
+  reset_preserves_violation = reset hosts;
   mark_is_right = λ marked. absurd (false≢true marked);
 }
 

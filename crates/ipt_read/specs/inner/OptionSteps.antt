@@ -13,7 +13,7 @@ use Rattle.ipt_read.specs.declared.fault.IptWhy.{IptWhy}
 use Rattle.ipt_read.specs.declared.fault.IptWhy.TheVariants.{BadValue}
 use Rattle.ipt_read.specs.declared.option.RuleOption.{RuleOption}
 use Rattle.ipt_read.specs.declared.option.RuleOption.TheVariants.{Source, Destination, Protocol, SourcePort, DestinationPort, Interface, Module, CtState, State, Comment, Jump, RejectWith, LogPrefix, LogLevel}
-use Rattle.ipt_read.specs.Options.{Given, Row, in_front, row_of, is_barred, named_target}
+use Rattle.ipt_read.specs.Options.{PartialRule, Row, in_front, row_of, is_repeated_or_negated, named_target}
 
 -- The name of an option; an interface match also has another name.
 abbrev pub written : RuleOption → List ℕ
@@ -58,11 +58,11 @@ option_of word =
 abbrev pub row : RuleOption → Row
 row o = unwrap_or (row_of (written o)) (record { stands = in_front; part = None; refusal = BadValue })
 
-abbrev pub may_stand : Given → RuleOption → Bool
-may_stand given o = (row o).stands given
+abbrev pub is_allowed_here : PartialRule → RuleOption → Bool
+is_allowed_here given o = (row o).stands given
 
-abbrev pub bars : Given → Bool → RuleOption → Bool
-bars given negated o = is_barred given negated (row o)
+abbrev pub bars : PartialRule → Bool → RuleOption → Bool
+bars given negated o = is_repeated_or_negated given negated (row o)
 
 -- The reason to reject an invalid value.
 abbrev pub value_refusal : RuleOption → IptWhy
@@ -87,7 +87,7 @@ is_own_module None word = false
 is_own_module (Some part) word = names_ports (Some part) && bytes_eq word (protocol_text part.proto)
 
 -- The modules: `conntrack`, `state`, `comment`, and that of the protocol.
-unfoldable pub with_module : Given → List ℕ → Option Given
+unfoldable pub with_module : PartialRule → List ℕ → Option PartialRule
 with_module given word =
     if bytes_eq word (codes "conntrack") then Some (record given { conntrack = true })
     else if bytes_eq word (codes "state") then Some (record given { states = true })
@@ -96,5 +96,5 @@ with_module given word =
     else None
 
 -- The rule that all options yield.
-abbrev pub rule_of : Given → Rule
+abbrev pub rule_of : PartialRule → Rule
 rule_of given = record given.rule { target = unwrap_or given.target Count }

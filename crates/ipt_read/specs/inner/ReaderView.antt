@@ -1,14 +1,14 @@
 -- The models of the parser's values, in terms of the grammar. Callers do not see them.
 use Rattle.std.specs.Prelude.{◌≡◌, Result, Ok, Err, MatchResult}
 use Rattle.ipt_read.specs.declared.fault.IptWhy.{IptWhy}
-use Rattle.ipt_read.specs.declared.option.Given.{Given as Held}
+use Rattle.ipt_read.specs.declared.option.PartialRule.{PartialRule as Held}
 use Rattle.ipt_read.specs.declared.option.Place.{Place}
 use Rattle.ipt_read.specs.declared.stage.Stage.{Stage as HeldStage}
 use Rattle.ipt_read.specs.declared.stage.Stage.TheVariants as held
-use Rattle.ipt_read.specs.Options.{Given}
-use Rattle.ipt_read.specs.Said.{Stage, Front, Table, After}
+use Rattle.ipt_read.specs.Options.{PartialRule}
+use Rattle.ipt_read.specs.ParserStates.{Stage, Front, Table, After}
 
-abbrev pub given_of : Held → Given
+abbrev pub given_of : Held → PartialRule
 given_of g = record {
   rule = g.rule;
   target = g.target;
@@ -19,7 +19,7 @@ given_of g = record {
 }
 
 -- The partial rule, and the position of the next token.
-abbrev pub next_of : Held × Place → Given × Place
+abbrev pub next_of : Held × Place → PartialRule × Place
 next_of next = (given_of next.0, next.1)
 
 abbrev pub stage_of : HeldStage → Stage

@@ -11,25 +11,25 @@ use Rattle.ipt_read.specs.declared.option.RuleOption.{RuleOption}
 use Rattle.ipt_read.specs.declared.option.Place.{Place}
 use Rattle.ipt_read.specs.declared.option.Place.TheVariants.{AtOption, AfterBang, AtValue, InText}
 use Rattle.ipt_read.specs.inner.Counts.{is_count}
-use Rattle.ipt_read.specs.Options.{Given, nothing_given}
-use Rattle.ipt_read.specs.inner.OptionSteps.{option_of, may_stand, is_interface, bars, value_refusal, rule_of}
+use Rattle.ipt_read.specs.Options.{PartialRule, empty_rule}
+use Rattle.ipt_read.specs.inner.OptionSteps.{option_of, is_allowed_here, is_interface, bars, value_refusal, rule_of}
 use Rattle.ipt_read.specs.inner.ValueSteps.{quoted, with_value}
 
 -- A token at the position of an option, negated by `!` or not.
-abbrev pub at_option : Given → Bool → Option RuleOption → Result (Given × Place) IptWhy
+abbrev pub at_option : PartialRule → Bool → Option RuleOption → Result (PartialRule × Place) IptWhy
 at_option given negated None = Err UnknownOption
 at_option given negated (Some o) =
-    if not (may_stand given o) then Err UnknownOption
+    if not (is_allowed_here given o) then Err UnknownOption
     else if is_interface o then Err AnInterface
     else if bars given negated o then Err BadLine
     else Ok (given, AtValue o negated)
 
 -- `!` is allowed before the target.
-unfoldable pub is_bang : Given → List ℕ → Bool
+unfoldable pub is_bang : PartialRule → List ℕ → Bool
 is_bang given word = not (is_some given.target) && bytes_eq word (codes "!")
 
 -- One token.
-unfoldable pub word_step : List Chain → Given → Place → List ℕ → Result (Given × Place) IptWhy
+unfoldable pub word_step : List Chain → PartialRule → Place → List ℕ → Result (PartialRule × Place) IptWhy
 word_step chains given AtOption word =
     if is_bang given word then Ok (given, AfterBang) else at_option given false (option_of word)
 word_step chains given AfterBang word = at_option given true (option_of word)
@@ -37,7 +37,7 @@ word_step chains given (AtValue o negated) word = ok_or (with_value chains given
 word_step chains given InText word = ok_or (option_map (λ place. (given, place)) (quoted false word)) BadValue
 
 -- The end of the line.
-abbrev pub at_end : Given → Place → Result Given IptWhy
+abbrev pub at_end : PartialRule → Place → Result PartialRule IptWhy
 at_end given AtOption = Ok given
 at_end given AfterBang = Err BadLine
 at_end given (AtValue o negated) = Err BadValue
@@ -49,7 +49,7 @@ goes_on (Ok x) f = f x
 goes_on (Err why) f = Err why
 
 -- The remaining tokens.
-abbrev pub word_by_word : List Chain → Given → Place → List (List ℕ) → Result Given IptWhy
+abbrev pub word_by_word : List Chain → PartialRule → Place → List (List ℕ) → Result PartialRule IptWhy
 word_by_word chains given place [] = at_end given place
 word_by_word chains given place (w ∷ ws) = goes_on (word_step chains given place w) (λ t. word_by_word chains t.0 t.1 ws)
 
@@ -57,7 +57,7 @@ word_by_word chains given place (w ∷ ws) = goes_on (word_step chains given pla
 abbrev pub rule_in : List Chain → Option ℕ → List (List ℕ) → Result (ℕ × Rule) IptWhy
 rule_in chains None ws = Err UnknownChain
 rule_in chains (Some c) ws =
-    goes_on (word_by_word chains nothing_given AtOption ws) (λ given. Ok (c, rule_of given))
+    goes_on (word_by_word chains empty_rule AtOption ws) (λ given. Ok (c, rule_of given))
 
 -- `-A`, a chain, and options.
 abbrev pub append_of : List Chain → List (List ℕ) → Result (ℕ × Rule) IptWhy

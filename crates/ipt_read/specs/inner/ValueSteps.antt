@@ -13,7 +13,7 @@ use Rattle.ipt_read.specs.declared.option.RuleOption.{RuleOption}
 use Rattle.ipt_read.specs.declared.option.RuleOption.TheVariants.{Source, Destination, Protocol, SourcePort, DestinationPort, Interface, Module, CtState, State, Comment, Jump, RejectWith, LogPrefix, LogLevel}
 use Rattle.ipt_read.specs.declared.option.Place.{Place}
 use Rattle.ipt_read.specs.declared.option.Place.TheVariants.{AtOption, InText}
-use Rattle.ipt_read.specs.Options.{Given}
+use Rattle.ipt_read.specs.Options.{PartialRule}
 use Rattle.ipt_read.specs.Values.{is_state, listed}
 use Rattle.ipt_read.specs.inner.OptionSteps.{target_of, with_module}
 use Rattle.ipt_read.specs.inner.ServiceSteps.{asked_protocol, asked_ports}
@@ -54,11 +54,11 @@ port_match negated ports = record { low = ports.0; high = ports.1; negated = neg
 abbrev pub state_match : Bool → Bool × Bool → StateMatch
 state_match negated flags = record { new = flags.0; established = flags.1; negated = negated }
 
-abbrev pub then_option : Given → Given × Place
+abbrev pub then_option : PartialRule → PartialRule × Place
 then_option given = (given, AtOption)
 
 -- The partial rule after an option's value, and the position of the next token.
-unfoldable pub with_value : List Chain → Given → RuleOption → Bool → List ℕ → Option (Given × Place)
+unfoldable pub with_value : List Chain → PartialRule → RuleOption → Bool → List ℕ → Option (PartialRule × Place)
 with_value chains given Source negated word =
     option_map (λ p. (record given { rule = record given.rule { src = Some (address_match negated p) } }, AtOption)) (prefix_of word)
 with_value chains given Destination negated word =

@@ -8,12 +8,12 @@ use Rattle.ipt_rules.specs.declared.ruleset.BuildRefusal.{BuildRefusal}
 use Rattle.ipt_rules.specs.declared.ruleset.BuildRefusal.TheVariants.{TooMany, UnknownChain, Loop, Memory}
 use Rattle.ipt_rules.specs.Chain.{Chain}
 use Rattle.ipt_rules.specs.ChainTable.{chain_limit, rule_limit, rule_count}
-use Rattle.ipt_rules.specs.Loops.{IsLeastLoop}
+use Rattle.ipt_rules.specs.Loops.{IsFirstOnCycle}
 
 -- With this number of chains, the target is a jump to a built-in chain or to a chain that does not exist: an invalid jump.
-abbrev pub jumps_nowhere : ℕ → Target → Bool
-jumps_nowhere count (Jump c) = nat_lt c 3 || nat_le count c
-jumps_nowhere count _ = false
+abbrev pub has_unknown_target : ℕ → Target → Bool
+has_unknown_target count (Jump c) = nat_lt c 3 || nat_le count c
+has_unknown_target count _ = false
 
 abbrev pub unknown_at : ℕ → Option ℕ → Option BuildRefusal → Option BuildRefusal
 unknown_at c None others = others
@@ -21,7 +21,7 @@ unknown_at c (Some k) others = Some (UnknownChain c k)
 
 -- The index of the first rule with an invalid jump.
 abbrev pub place_of_unknown : ℕ → List Rule → Option ℕ
-place_of_unknown count rules = position_from (λ r. jumps_nowhere count r.target) 0 rules
+place_of_unknown count rules = position_from (λ r. has_unknown_target count r.target) 0 rules
 
 -- The first rule, by chain and index, with an invalid jump. The chains are numbered from c on.
 abbrev pub first_unknown : ℕ → ℕ → List Chain → Option BuildRefusal
@@ -40,5 +40,5 @@ refusal_of chains =
 -- memory.
 pub data RefusedFor (chains : List Chain) : BuildRefusal → Type 0 where
   at_once : {why : BuildRefusal} → refusal_of chains ≡ Some why → RefusedFor chains why
-  loops : {c : ℕ} → refusal_of chains ≡ None → IsLeastLoop chains c → RefusedFor chains (Loop c)
+  loops : {c : ℕ} → refusal_of chains ≡ None → IsFirstOnCycle chains c → RefusedFor chains (Loop c)
   no_memory : RefusedFor chains Memory

@@ -1,7 +1,7 @@
 -- The rules that a traversal skips, by the addresses that they match on. These definitions are internal; callers use `Meaning`.
 use Rattle.std.specs.Prelude.{◌≡◌, ◌≤◌, ◌<◌, ℕ, Bool, false, if◌then◌else◌, List, map, length, slice_get, Option, Some, None}
-use Rattle.host_net.specs.declared.cover.Covers.{Covers}
-use Rattle.host_net.specs.declared.cover.Ends.{Ends}
+use Rattle.host_net.specs.declared.tuple_space.TupleSpaceIndex.{TupleSpaceIndex}
+use Rattle.host_net.specs.declared.tuple_space.Ends.{Ends}
 use Rattle.host_net.specs.declared.prefix.Prefix.{Prefix}
 use Rattle.host_net.specs.inner.CoverView.{IsIndexOf}
 use Rattle.ipt_rules.specs.declared.rule.AddrMatch.{AddrMatch}
@@ -34,5 +34,5 @@ IsNext fits rules from None = NoneFits fits rules from (length rules)
 IsNext fits rules from (Some at) = IsNextAt fits rules from at
 
 -- Each index is an index of the rules of its chain.
-abbrev pub AreIndexes : List Covers → List Chain → Type 0
-AreIndexes indexes chains = (c : ℕ) (index : Covers) → slice_get indexes c ≡ Some index → IsIndexOf (all_ends (rules_of chains c)) index
+abbrev pub AreIndexes : List TupleSpaceIndex → List Chain → Type 0
+AreIndexes indexes chains = (c : ℕ) (index : TupleSpaceIndex) → slice_get indexes c ≡ Some index → IsIndexOf (all_ends (rules_of chains c)) index

@@ -3,7 +3,7 @@ use Rattle.std.specs.Prelude.{◌≡◌, ℕ, Bool, List, Option, drop}
 use Rattle.ipt_rules.specs.declared.rule.Rule.{Rule}
 use Rattle.host_net.specs.declared.packet.Verdict.{Verdict}
 use Rattle.ipt_rules.specs.Chain.{Chain, rules_of}
-use Rattle.ipt_rules.specs.Meaning.{Gives, HasVerdictIn}
+use Rattle.ipt_rules.specs.Semantics.{Gives, HasVerdictIn}
 use Rattle.host_net.specs.declared.packet.Packet.{Packet}
 use Rattle.host_net.specs.declared.packet.CtState.{CtState}
 
@@ -14,8 +14,8 @@ pub record GivesOne (fits : Rule → Bool) (chains : List Chain) (rules : List R
   pub only : (o : Option Verdict) → Gives fits chains rules o → o ≡ outcome
 
 -- Regardless of which rules match, each chain has exactly one outcome from each index on.
-abbrev pub EachGivesOne : List Chain → Type 0
-EachGivesOne chains = (fits : Rule → Bool) (c k : ℕ) → GivesOne fits chains (drop k (rules_of chains c))
+abbrev pub AreDeterministic : List Chain → Type 0
+AreDeterministic chains = (fits : Rule → Bool) (c k : ℕ) → GivesOne fits chains (drop k (rules_of chains c))
 
 -- The verdict on a packet that is forwarded is the verdict of FORWARD, chain 1.
 abbrev pub HasVerdict : List Chain → Packet → CtState → Verdict → Type 0

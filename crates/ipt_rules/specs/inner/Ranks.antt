@@ -39,16 +39,16 @@ pub record IsOrder (next : ℕ → List ℕ) (count : ℕ) (order : List ℕ) (p
   pub back : (i c d : ℕ) → slice_get order i ≡ Some c → Contains (next c) d → IsBefore places d i
 
 -- The order contains every chain.
-pub record IsRanking (next : ℕ → List ℕ) (count : ℕ) (order : List ℕ) (places : List (Option ℕ)) : Type 0 where
+pub record IsTopologicalOrder (next : ℕ → List ℕ) (count : ℕ) (order : List ℕ) (places : List (Option ℕ)) : Type 0 where
   pub ordered : IsOrder next count order places
   pub short : length order ≤ count
   pub every : (c : ℕ) → c < count → IsBefore places c (length order)
 
 -- The chains have an order that contains all of them.
-pub record HasRanking (chains : List Chain) : Type 0 where
+pub record HasTopologicalOrder (chains : List Chain) : Type 0 where
   pub order : List ℕ
   pub places : List (Option ℕ)
-  pub is : IsRanking (jumps_from chains) (length chains) order places
+  pub is : IsTopologicalOrder (jumps_from chains) (length chains) order places
 
 -- The mark at i is set.
 abbrev pub IsSet : List Bool → ℕ → Type 0

@@ -4,7 +4,7 @@ use Rattle.std.specs.Option.{option_or}
 use Rattle.ipt_rules.specs.declared.rule.Rule.{Rule}
 use Rattle.host_net.specs.declared.packet.Verdict.{Verdict}
 use Rattle.ipt_rules.specs.Chain.{Chain}
-use Rattle.ipt_rules.specs.Meaning.{Gives}
+use Rattle.ipt_rules.specs.Semantics.{Gives}
 
 -- The outcome of a block, regardless of the rules that follow: a verdict, or `None` if the block leaves the packet to the rules
 -- that follow.

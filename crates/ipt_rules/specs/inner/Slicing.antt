@@ -11,8 +11,8 @@ use Rattle.ipt_rules.specs.declared.rule.Target.TheVariants.{Jump}
 use Rattle.ipt_rules.specs.Chain.{Chain}
 use Rattle.ipt_rules.specs.ChainTable.{rule_count}
 use Rattle.ipt_rules.specs.Matching.{matches}
-use Rattle.ipt_rules.specs.inner.Ranks.{HasRanking}
-use Rattle.ipt_rules.specs.inner.Walking.{returns_at}
+use Rattle.ipt_rules.specs.inner.Ranks.{HasTopologicalOrder}
+use Rattle.ipt_rules.specs.inner.Walking.{is_known_to_return}
 
 -- A rule matches no packet of the box, in any state.
 abbrev pub FitsNone : PacketBox → Rule → Type 0
@@ -38,11 +38,11 @@ abbrev pub AreSlices : PacketBox → List Bool → ℕ → List Chain → List C
 AreSlices b marks n [] [] = Unit {0}
 AreSlices b marks n [] (y ∷ ys) = ⊥
 AreSlices b marks n (x ∷ xs) [] = ⊥
-AreSlices b marks n (x ∷ xs) (y ∷ ys) = IsSliceOf b (returns_at marks n) x y × AreSlices b marks (n + 1) xs ys
+AreSlices b marks n (x ∷ xs) (y ∷ ys) = IsSliceOf b (is_known_to_return marks n) x y × AreSlices b marks (n + 1) xs ys
 
 -- A jump goes to a marked chain.
 abbrev pub stays : List Bool → Target → Bool
-stays marks (Jump d) = returns_at marks d
+stays marks (Jump d) = is_known_to_return marks d
 stays marks _ = true
 
 abbrev pub all_stay : List Bool → List Rule → Bool
@@ -56,4 +56,4 @@ pub record IsSlice (chains : List Chain) : Type 0 where
   pub few_chains : length chains ≤ 4096
   pub forward : 1 < length chains
   pub few_rules : rule_count chains ≤ 1000000
-  pub ranking : HasRanking chains
+  pub topological_order : HasTopologicalOrder chains

@@ -1,6 +1,6 @@
 -- The policy of a network in which every invariant is edge-wise: each flow is decided individually.
 use Rattle.std.specs.Prelude.{◌≡◌, ◌↔◌, List, [], ◌∷◌, IsTrue}
-use Rattle.flow_set.specs.Flow.{back_of}
+use Rattle.flow_set.specs.Flow.{reverse_of}
 use Rattle.flow_set.specs.FlowSet.{has, IsSubset}
 use Rattle.flow_set.specs.declared.flow.Flow.{Flow}
 use Rattle.net_core.specs.Network.{Network}
@@ -16,7 +16,7 @@ IsAdmitted d f = MeetsAll d (f ∷ [])
 
 -- The single answer of the flow satisfies every strict invariant.
 abbrev pub IsAnswered : Network → Flow → Type 0
-IsAnswered d f = MeetsStrict d (back_of f ∷ [])
+IsAnswered d f = MeetsStrict d (reverse_of f ∷ [])
 
 -- The permitted flows are the asked flows that are admitted, and the stateful flows are those of them whose answers are
 -- admitted.

@@ -6,7 +6,7 @@ use Rattle.std.specs.Option.{option_map, ok_or}
 use Rattle.text_core.specs.inner.Decimal.{number}
 use Rattle.text_core.specs.inner.Pieces.{split_once}
 use Rattle.host_net.specs.Prefix.{prefix_of}
-use Rattle.host_net.specs.Service.{icmp, tcp, udp, last_port}
+use Rattle.host_net.specs.Service.{icmp, tcp, udp, max_port}
 use Rattle.ofp_rules.specs.declared.entry.FrameKind.{FrameKind}
 use Rattle.ofp_rules.specs.declared.entry.FrameKind.TheVariants.{Arp as ArpFrames, Ip as IpFrames}
 use Rattle.ofp_read.specs.declared.fault.OfpWhy.{OfpWhy}
@@ -77,8 +77,8 @@ with_value given FrameType value = option_map (λ k. record given { kind = Some 
 with_value given Source value = option_map (λ p. record given { src = Some p }) (prefix_of value)
 with_value given Destination value = option_map (λ p. record given { dst = Some p }) (prefix_of value)
 with_value given Protocol value = option_map (λ n. record given { proto = Some n }) (number 255 value)
-with_value given SourcePort value = option_map (λ n. record given { tp_src = Some n }) (number last_port value)
-with_value given DestinationPort value = option_map (λ n. record given { tp_dst = Some n }) (number last_port value)
+with_value given SourcePort value = option_map (λ n. record given { tp_src = Some n }) (number max_port value)
+with_value given DestinationPort value = option_map (λ n. record given { tp_dst = Some n }) (number max_port value)
 
 -- 4. Adding a field: its name is checked first, then repetition, then its value.
 

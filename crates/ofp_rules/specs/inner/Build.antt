@@ -8,7 +8,7 @@ use Rattle.ofp_rules.specs.declared.table.TableRefusal.{TableRefusal}
 use Rattle.ofp_rules.specs.declared.table.TableRefusal.TheVariants.{TooMany, Ambiguous, Memory}
 use Rattle.ofp_rules.specs.Ambiguity.{IsFrame, Contradict, most_entries}
 use Rattle.ofp_rules.specs.Matching.{asks_of_ip}
-use Rattle.ofp_rules.specs.Meaning.{HasVerdict}
+use Rattle.ofp_rules.specs.Semantics.{HasVerdict}
 use Rattle.ofp_rules.specs.inner.Ranges.{AreInRange}
 
 -- The entry at index i and the later entry at index j contradict each other.

@@ -5,7 +5,7 @@ use Rattle.host_net.specs.declared.packet.Verdict.TheVariants.{Drop as Dropped}
 use Rattle.ofp_rules.specs.declared.entry.Frame.{Frame}
 use Rattle.ofp_rules.specs.declared.entry.Entry.{Entry}
 use Rattle.ofp_rules.specs.Matching.{matches}
-use Rattle.ofp_rules.specs.Meaning.{IsHighest, MatchesNone, verdict_of}
+use Rattle.ofp_rules.specs.Semantics.{IsHighest, MatchesNone, verdict_of}
 
 -- The entry found is a matching entry of the highest priority, or None if no entry matches.
 abbrev pub IsFound : List Entry → Frame → Option Entry → Type 0

@@ -6,15 +6,15 @@ use Rattle.std.proofs.lemmas.Bool.Decides.{nat_tests}
 use Rattle.std.proofs.lemmas.List.{length-set}
 use Rattle.flow_set.specs.declared.flow.Flow.{Flow}
 use Rattle.flow_set.specs.FlowSet.{has, IsSubset}
-use Rattle.flow_set.specs.inner.Downward.{IsDownward}
+use Rattle.flow_set.specs.inner.Downward.{IsDownwardClosed}
 use Rattle.flow_set.specs.laws.FlowLaws.{has_nothing, has-filter, IsOrdered-filter}
 use Rattle.flow_set.specs.laws.WalkLaws.{length-IsSubset}
 use Rattle.inv_law.specs.laws.AttributeLaws.{get_or-set_default}
-use Rattle.inv_law.specs.inner.Invariants.{ResetMendsNothing}
+use Rattle.inv_law.specs.inner.Invariants.{ResetPreservesViolation}
 use Rattle.inv_law.specs.declared.strategy.Strategy.TheVariants.{Access}
 use Rattle.out_limit.specs.inner.OutLimit.{sent_by, KeepsLimits}
 
-pub KeepsLimits-downward : (n : ℕ) (limits : List ℕ) → IsDownward n (KeepsLimits limits)
+pub KeepsLimits-downward : (n : ℕ) (limits : List ℕ) → IsDownwardClosed n (KeepsLimits limits)
 KeepsLimits-downward n limits e s is_set sub keeps host below =
     let sends : Flow → Bool = λ f. f.from == host in
     let within : IsSubset (sent_by host s) (sent_by host e) = record {
@@ -39,7 +39,7 @@ some_element (x ∷ xs) f there = omega arith
 
 -- With the default bound 0 an offending host, which sends a flow, still exceeds its bound.
 pub KeepsLimits-reset : (limits : List ℕ)
-    → ResetMendsNothing (length limits) Access (KeepsLimits limits) (λ host. KeepsLimits (set limits host 0))
+    → ResetPreservesViolation (length limits) Access (KeepsLimits limits) (λ host. KeepsLimits (set limits host 0))
 KeepsLimits-reset limits e f host is_set minimal offending keeps =
     let g : Flow = offending.flow in
     let there : IsTrue (has e g) = minimal.within.within g offending.offends in

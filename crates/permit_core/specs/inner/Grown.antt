@@ -6,7 +6,7 @@ use Rattle.flow_set.specs.FlowSet.{has, with_flow}
 use Rattle.flow_set.specs.inner.FlowSetView.{IsFlowSet}
 
 -- fs is a set between n hosts that satisfied the condition, with one more flow.
-pub record IsGrown (n : ℕ) (Holds : List Flow → Type 0) (fs : List Flow) (added : Flow) : Type 0 where
+pub record IsExtended (n : ℕ) (Holds : List Flow → Type 0) (fs : List Flow) (added : Flow) : Type 0 where
   pub old : List Flow
   pub set : IsFlowSet n old
   pub held : Holds old

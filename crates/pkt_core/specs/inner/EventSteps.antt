@@ -6,7 +6,7 @@ use Rattle.text_core.specs.Steps.{◌>>=◌}
 use Rattle.text_core.specs.declared.faults.ListWhy.{ListWhy}
 use Rattle.text_core.specs.declared.faults.ListWhy.TheVariants.{BadLine, BadValue}
 use Rattle.host_net.specs.declared.packet.Packet.{Packet}
-use Rattle.host_net.specs.Service.{last_port}
+use Rattle.host_net.specs.Service.{max_port}
 use Rattle.host_net.specs.inner.PrefixSteps.{address_of}
 use Rattle.host_net.specs.inner.ServiceSteps.{protocol_of as named_protocol}
 use Rattle.pkt_core.specs.declared.event.Event.{Event}
@@ -22,8 +22,8 @@ packet_of src dst protocol sport dport = do
   a ← address_of src
   b ← address_of dst
   n ← protocol_of protocol
-  x ← number last_port sport
-  y ← number last_port dport
+  x ← number max_port sport
+  y ← number max_port dport
   Some (record { src = a; dst = b; proto = n; sport = x; dport = y })
 
 -- The event of a verb: a packet is seen, or its connection is forgotten.

@@ -5,7 +5,7 @@ use Rattle.std.specs.Bool.{Decides}
 use Rattle.std.proofs.lemmas.Bool.Decides.{Decides-and, Decides-eqb}
 use Rattle.host_net.specs.declared.packet.Packet.{Packet}
 use Rattle.host_net.specs.Packet.{swap_of}
-use Rattle.pkt_core.specs.Tracking.{Kept, after_forget, after_seen, same_packet, with_kept}
+use Rattle.pkt_core.specs.Tracking.{ConnectionTable, after_forget, after_seen, same_packet, with_connection}
 
 abbrev SameFields : Packet → Packet → Type 0
 SameFields p q = (p.src ≡ q.src) × ((p.dst ≡ q.dst) × ((p.proto ≡ q.proto) × ((p.sport ≡ q.sport) × (p.dport ≡ q.dport))))
@@ -60,7 +60,7 @@ none_begins b s true false = no_more b s
 none_begins b s false n = no_more b s
 
 -- Marking a tracked packet adds no other packet.
-marked : (kept : Kept) (r q : Packet) → is_some (kept r) ≡ true → is_some (with_kept kept r (Some true) q) ≡ is_some (kept q)
+marked : (kept : ConnectionTable) (r q : Packet) → is_some (kept r) ≡ true → is_some (with_connection kept r (Some true) q) ≡ is_some (kept q)
 marked kept r q is = by_test (same_packet r q) refl
   where
     by_test : (b : Bool) → same_packet r q ≡ b → is_some (if b then Some true else kept q) ≡ is_some (kept q)
@@ -68,7 +68,7 @@ marked kept r q is = by_test (same_packet r q) refl
     by_test false h = refl
 
 -- The table after a packet: the tracked packets, and the packet if it begins a connection.
-pub keys-after_seen : (kept : Kept) (p : Packet) (accepted : Bool) (q : Packet) →
+pub keys-after_seen : (kept : ConnectionTable) (p : Packet) (accepted : Bool) (q : Packet) →
     is_some (after_seen kept p accepted q) ≡ (is_some (kept q) || (same_packet p q && (accepted && (not (is_some (kept p)) && not (is_some (kept (swap_of p)))))))
 keys-after_seen kept p accepted q = by_tests (kept (swap_of p)) (kept p) accepted refl
   where
@@ -79,14 +79,14 @@ keys-after_seen kept p accepted q = by_tests (kept (swap_of p)) (kept p) accepte
     begun false (Some m) = refl
 
     by_tests : (other own : Option Bool) (a : Bool) → kept (swap_of p) ≡ other →
-        is_some ((if is_some other then with_kept kept (swap_of p) (Some true) else (if a && not (is_some own) then with_kept kept p (Some false) else kept)) q) ≡ (is_some (kept q) || (same_packet p q && (a && (not (is_some own) && not (is_some other)))))
+        is_some ((if is_some other then with_connection kept (swap_of p) (Some true) else (if a && not (is_some own) then with_connection kept p (Some false) else kept)) q) ≡ (is_some (kept q) || (same_packet p q && (a && (not (is_some own) && not (is_some other)))))
     by_tests (Some m) own a is = marked kept (swap_of p) q (ap is_some is) ∙ none_begins (is_some (kept q)) (same_packet p q) a (not (is_some own))
     by_tests None None true is = begun (same_packet p q) (kept q)
     by_tests None (Some m) true is = no_more (is_some (kept q)) (same_packet p q)
     by_tests None own false is = no_more (is_some (kept q)) (same_packet p q)
 
 -- The table after a forget event: the tracked packets without the connection.
-pub keys-after_forget : (kept : Kept) (p q : Packet)
+pub keys-after_forget : (kept : ConnectionTable) (p q : Packet)
     → is_some (after_forget kept p q) ≡ (not (same_packet p q || same_packet p (swap_of q)) && is_some (kept q))
 keys-after_forget kept p q = ap (λ b. is_some (if b then None else (if same_packet p q then None else kept q))) (same_packet-swap p q) ∙ by_tests (same_packet p (swap_of q)) (same_packet p q) (kept q)
   where

@@ -3,18 +3,18 @@ use Rattle.std.specs.Prelude.{◌≡◌, List, [], ◌∷◌, Option, None, Some
 use Rattle.audit_core.specs.declared.difference.Difference.{Difference}
 use Rattle.host_net.specs.Host.{Host}
 use Rattle.query_core.specs.CompareJson.{compare_json}
-use Rattle.topos_top.specs.Replies.{MayReply}
+use Rattle.topos_top.specs.Replies.{IsPossibleReply}
 use Rattle.topos_top.specs.Reply.{Reply}
 use Rattle.topos_top.specs.Shelf.{ShelfChange}
 use Rattle.topos_top.specs.declared.status.Status.TheVariants.{Done, Violated}
 use Rattle.topos_top.specs.declared.status.Stream.TheVariants.{Output}
 use Rattle.topos_top.specs.inner.Views.{reply_on}
-use Rattle.query_top.specs.Ask.{Ask, usage}
-use Rattle.query_top.specs.Commands.{course_of}
+use Rattle.query_top.specs.Command.{Command, usage}
+use Rattle.query_top.specs.Commands.{plan_of}
 
-abbrev pub MayGiveBy : Option Ask → ShelfChange → Reply → Type 0
-MayGiveBy None shelf given = (given ≡ usage) × (shelf.after ≡ shelf.before)
-MayGiveBy (Some ask) shelf given = MayReply true (course_of ask) shelf given
+abbrev pub AllowsReplyTo : Option Command → ShelfChange → Reply → Type 0
+AllowsReplyTo None shelf given = (given ≡ usage) × (shelf.after ≡ shelf.before)
+AllowsReplyTo (Some command) shelf given = IsPossibleReply true (plan_of command) shelf given
 
 -- The reply of a comparison with these differences.
 abbrev pub differences_reply : List Host → List Difference → Reply

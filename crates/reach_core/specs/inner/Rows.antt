@@ -5,10 +5,10 @@ use Rattle.std.specs.FinSet as set
 use Rattle.flow_set.specs.declared.flow.Flow.{Flow}
 use Rattle.flow_set.specs.FlowSet.{has}
 use Rattle.flow_set.specs.inner.FlowSetView.{IsFlowSet}
-use Rattle.flow_set.specs.inner.Steps.{TriedFlows}
+use Rattle.flow_set.specs.inner.Steps.{UndoableFlows}
 use Rattle.flow_set.specs.HostSet.{HostNumbers}
 use Rattle.flow_set.specs.inner.HostSet.{row_of}
-use Rattle.reach_core.specs.declared.stepped.SteppedRows.{SteppedRows}
+use Rattle.reach_core.specs.declared.stepped.UndoableRows.{UndoableRows}
 use Rattle.reach_core.specs.Walks.{HasWalk, has_either}
 
 -- ---- the meaning of rows
@@ -47,20 +47,20 @@ pub record IsWidened (old new before : List HostNumbers) (hosts by : HostNumbers
   pub was : (i : ℕ) → IsTrue (set.contains hosts i) → row_of before i ≡ row_of old i
 
 -- A row now.
-abbrev pub row_now : SteppedRows → ℕ → HostNumbers
+abbrev pub row_now : UndoableRows → ℕ → HostNumbers
 row_now r i = row_of r.rows i
 
 -- A row before the last step.
-abbrev pub row_before : SteppedRows → ℕ → HostNumbers
+abbrev pub row_before : UndoableRows → ℕ → HostNumbers
 row_before r i = if set.contains r.changed i then row_of r.before i else row_of r.rows i
 
 -- The rows after the last step was undone.
-pub record IsBack (r : SteppedRows) (rows : List HostNumbers) : Type 0 where
+pub record IsBack (r : UndoableRows) (rows : List HostNumbers) : Type 0 where
   pub same_length : length rows ≡ length r.rows
   pub back : (i : ℕ) → i < length r.rows → row_of rows i ≡ row_before r i
 
 -- Rows of n hosts, with space for an undo record.
-pub record FitsRows (r : SteppedRows) (n : ℕ) : Type 0 where
+pub record FitsRows (r : UndoableRows) (n : ℕ) : Type 0 where
   pub small : n ≤ 256
   pub rows_length : length r.rows ≡ n
   pub before_length : length r.before ≡ n
@@ -68,13 +68,13 @@ pub record FitsRows (r : SteppedRows) (n : ℕ) : Type 0 where
 
 -- ---- the rows of an undoable set of flows, and those before the last step
 
-pub record HasReachRows (t : TriedFlows) (reached coming : SteppedRows) : Type 0 where
+pub record HasReachRows (t : UndoableFlows) (reached coming : UndoableRows) : Type 0 where
   pub reached_fits : FitsRows reached t.size
   pub coming_fits : FitsRows coming t.size
   pub now : ShowsReach t.size t.flows (row_now reached) (row_now coming)
   pub before : IfSome t.before_step (λ fs. ShowsReach t.size fs (row_before reached) (row_before coming))
 
-pub record HasJoinRows (t : TriedFlows) (joined : SteppedRows) : Type 0 where
+pub record HasJoinRows (t : UndoableFlows) (joined : UndoableRows) : Type 0 where
   pub joined_fits : FitsRows joined t.size
   pub now : ShowsJoin t.size t.flows (row_now joined)
   pub before : IfSome t.before_step (λ fs. ShowsJoin t.size fs (row_before joined))

@@ -5,7 +5,7 @@ use Rattle.std.specs.Prelude.{IsTrue, IsFalse, ◌≢◌}
 use Rattle.std.proofs.lemmas.Bool.{or_cases, or_left, or_right, and_parts, and_from, both_ways, cases_Bool, false≢true}
 use Rattle.std.proofs.lemmas.List.Elements.{All-nil, All-cons}
 use Rattle.flow_set.specs.declared.flow.Flow.{Flow}
-use Rattle.flow_set.specs.Flow.{same_flow, back_of}
+use Rattle.flow_set.specs.Flow.{same_flow, reverse_of}
 use Rattle.flow_set.specs.FlowSet.{has, with_flow}
 use Rattle.flow_set.specs.inner.FlowSetView.{IsFlowSet}
 use Rattle.flow_set.specs.laws.FlowLaws.{same_flow-true, same_flow_self, same_flow_back, has-with_flow}
@@ -21,9 +21,9 @@ Reaches-within s e within = HasWalk-weaker (has s) (has e) within
 pub has_either-within : (s e : List Flow) → ((f : Flow) → IsTrue (has s f) → IsTrue (has e f)) → (f : Flow)
     → IsTrue (has_either s f) → IsTrue (has_either e f)
 has_either-within s e within f shown =
-    elim (or_cases (has s f) (has s (back_of f)) shown) [
+    elim (or_cases (has s f) (has s (reverse_of f)) shown) [
       | inl forth ↦ or_left _ _ (within f forth)
-      | inr back ↦ or_right _ _ (within (back_of f) back)
+      | inr back ↦ or_right _ _ (within (reverse_of f) back)
     ]
 
 pub Joined-within : (s e : List Flow) → ((f : Flow) → IsTrue (has s f) → IsTrue (has e f)) → (i j : ℕ) → Joined s i j → Joined e i j
@@ -43,9 +43,9 @@ Reaches-below n e is_set i j walk =
 pub Joined-below : (n : ℕ) (e : List Flow) → IsFlowSet n e → (i j : ℕ) → Joined e i j → (i < n) × (j < n)
 Joined-below n e is_set i j walk =
     let each : (f : Flow) → IsTrue (has_either e f) → (f.from < n) × (f.to < n) =
-    λ f here. elim (or_cases (has e f) (has e (back_of f)) here) [
+    λ f here. elim (or_cases (has e f) (has e (reverse_of f)) here) [
       | inl forth ↦ ((is_set.flows f forth).0, (is_set.flows f forth).1)
-      | inr back ↦ ((is_set.flows (back_of f) back).1, (is_set.flows (back_of f) back).0)
+      | inr back ↦ ((is_set.flows (reverse_of f) back).1, (is_set.flows (reverse_of f) back).0)
     ] in
     walk_ends (has_either e) (λ h. h < n) (λ h. h < n) each i j walk.0 walk.1 walk.2
 
@@ -85,17 +85,17 @@ Joined-one f i j walk =
     let one : (g : Flow) → IsTrue (has (f ∷ []) g) → f ≡ g =
     λ g h. elim (or_cases (same_flow f g) false h) [ inl same ↦ same_flow-true f g same | inr none ↦ absurd (false≢true none) ] in
     let ends : (g : Flow) → IsTrue (has_either (f ∷ []) g) → IsEnd f g.from × IsEnd f g.to =
-    λ g h. elim (or_cases (has (f ∷ []) g) (has (f ∷ []) (back_of g)) h) [
+    λ g h. elim (or_cases (has (f ∷ []) g) (has (f ∷ []) (reverse_of g)) h) [
       | inl forth ↦ (inl (sym (ap (λ (x : Flow). x.from) (one g forth))), inr (sym (ap (λ (x : Flow). x.to) (one g forth))))
-      | inr back ↦ (inr (sym (ap (λ (x : Flow). x.to) (one (back_of g) back))), inl (sym (ap (λ (x : Flow). x.from) (one (back_of g) back))))
+      | inr back ↦ (inr (sym (ap (λ (x : Flow). x.to) (one (reverse_of g) back))), inl (sym (ap (λ (x : Flow). x.from) (one (reverse_of g) back))))
     ] in
     walk_ends (has_either (f ∷ [])) (IsEnd f) (IsEnd f) ends i j walk.0 walk.1 walk.2
 
 -- ---- both directions
 
-has_either-back : (e : List Flow) (f : Flow) → IsTrue (has_either e f) → IsTrue (has_either e (back_of f))
+has_either-back : (e : List Flow) (f : Flow) → IsTrue (has_either e f) → IsTrue (has_either e (reverse_of f))
 has_either-back e f shown =
-    elim (or_cases (has e f) (has e (back_of f)) shown) [
+    elim (or_cases (has e f) (has e (reverse_of f)) shown) [
       | inl forth ↦ or_right _ _ forth
       | inr back ↦ or_left _ _ back
     ]
@@ -104,12 +104,12 @@ turned : (e : List Flow) (i j : ℕ) (fs : List Flow) → LeadsTo (has_either e)
 turned e i j [] here = ([], sym here)
 turned e i j (f ∷ fs) walk =
     let rest = turned e f.to j fs walk.2 in
-    (rest.0 ++ back_of f ∷ [], LeadsTo-append (has_either e) j f.to i rest.0 (back_of f ∷ []) rest.1 (has_either-back e f walk.0, refl, walk.1))
+    (rest.0 ++ reverse_of f ∷ [], LeadsTo-append (has_either e) j f.to i rest.0 (reverse_of f ∷ []) rest.1 (has_either-back e f walk.0, refl, walk.1))
 
 -- Being joined is symmetric.
 pub Joined-back : (e : List Flow) (i j : ℕ) → Joined e i j → Joined e j i
 Joined-back e i j (f, fs, walk) =
-    walk_over (has_either e) (back_of f) (has_either-back e f walk.0) j i (turned e f.to j fs walk.2) ([], walk.1)
+    walk_over (has_either e) (reverse_of f) (has_either-back e f walk.0) j i (turned e f.to j fs walk.2) ([], walk.1)
 
 -- ---- the number of other hosts
 
@@ -144,13 +144,13 @@ pub joined_through : (e : List Flow) (g : Flow) (i j : ℕ) → Joined (with_flo
     → Joined e i j ⊎ (HasPath (has_either (with_flow e g)) i g.to × HasPath (has_either (with_flow e g)) g.to j)
 joined_through e g i j (f, fs, walk) =
     let further : (h : Flow) → IsTrue (has_either (with_flow e g) h) → IsTrue (has_either e h) ⊎ ((h.from ≡ g.to) ⊎ (h.to ≡ g.to)) =
-    λ h shown. elim (or_cases (has (with_flow e g) h) (has (with_flow e g) (back_of h)) shown) [
+    λ h shown. elim (or_cases (has (with_flow e g) h) (has (with_flow e g) (reverse_of h)) shown) [
       | inl forth ↦ elim (or_cases (same_flow g h) (has e h) (sym (has-with_flow e g h) ∙ forth)) [
         | inl same ↦ inr (inr (sym (ap (λ (x : Flow). x.to) (same_flow-true g h same))))
         | inr there ↦ inl (or_left _ _ there)
       ]
-      | inr back ↦ elim (or_cases (same_flow g (back_of h)) (has e (back_of h)) (sym (has-with_flow e g (back_of h)) ∙ back)) [
-        | inl same ↦ inr (inl (sym (ap (λ (x : Flow). x.to) (same_flow-true g (back_of h) same))))
+      | inr back ↦ elim (or_cases (same_flow g (reverse_of h)) (has e (reverse_of h)) (sym (has-with_flow e g (reverse_of h)) ∙ back)) [
+        | inl same ↦ inr (inl (sym (ap (λ (x : Flow). x.to) (same_flow-true g (reverse_of h) same))))
         | inr there ↦ inl (or_right _ _ there)
       ]
     ] in
@@ -197,11 +197,11 @@ regroup false true false d = refl
 regroup false false c d = refl
 
 pub has_either-with_flow : (fs : List Flow) (g f : Flow)
-    → (same_flow (back_of g) f || (same_flow g f || has_either fs f)) ≡ has_either (with_flow fs g) f
+    → (same_flow (reverse_of g) f || (same_flow g f || has_either fs f)) ≡ has_either (with_flow fs g) f
 has_either-with_flow fs g f =
     ap (λ b. b || (same_flow g f || has_either fs f)) (same_flow_back g f)
-    ∙ regroup (same_flow g f) (has fs f) (same_flow g (back_of f)) (has fs (back_of f))
-    ∙ sym (λ i. has-with_flow fs g f i || has-with_flow fs g (back_of f) i)
+    ∙ regroup (same_flow g f) (has fs f) (same_flow g (reverse_of f)) (has fs (reverse_of f))
+    ∙ sym (λ i. has-with_flow fs g f i || has-with_flow fs g (reverse_of f) i)
 
 -- A flow between hosts that are joined already joins nothing new.
 pub Joined-nothing_new : (e : List Flow) (g : Flow) → Joined e g.from g.to → (i j : ℕ) → Joined (with_flow e g) i j → Joined e i j
@@ -210,7 +210,7 @@ Joined-nothing_new e g there i j walk =
     let back : HasWalk one_way g.to g.from =
     HasWalk-weaker (has_either e) one_way (λ f. or_right (same_flow g f) (has_either e f)) g.to g.from (Joined-back e g.from g.to there) in
     walk_without (has_either e) g there i j
-    (walk_without one_way (back_of g) back i j
+    (walk_without one_way (reverse_of g) back i j
     (HasWalk-weaker (has_either (with_flow e g)) _ (λ f passes. has_either-with_flow e g f ∙ passes) i j walk))
 
 -- ---- hosts that are joined by one more flow
@@ -229,7 +229,7 @@ Joined-untouched e g i j apart walk =
       | inr walks ↦ apart (inr (path_of_walk (has_either e) i g.to (walk_elsewhere (has_either e) g i g.to (λ p. apart (inl p)) walks)))
     ] in
     walk_elsewhere (has_either e) g i j (λ p. apart (inl p))
-    (walk_elsewhere one_way (back_of g) i j never
+    (walk_elsewhere one_way (reverse_of g) i j never
     (HasWalk-weaker (has_either (with_flow e g)) _ (λ f passes. has_either-with_flow e g f ∙ passes) i j walk))
 
 path_turned : (e : List Flow) (i j : ℕ) → HasPath (has_either e) i j → HasPath (has_either e) j i
@@ -265,7 +265,7 @@ pub touched_of : (e : List Flow) (g : Flow) (i : ℕ) → Joined (with_flow e g)
 touched_of e g i joined =
     let one_way : Flow → Bool = λ f. same_flow g f || has_either e f in
     let path : HasPath one_way g.from i =
-    elim (walk_cut one_way (back_of g) g.from i (HasWalk-weaker (has_either (with_flow e g)) _ (λ f passes. has_either-with_flow e g f ∙ passes) g.from i joined)) [
+    elim (walk_cut one_way (reverse_of g) g.from i (HasWalk-weaker (has_either (with_flow e g)) _ (λ f passes. has_either-with_flow e g f ∙ passes) g.from i joined)) [
       | inl walk ↦ path_of_walk one_way g.from i walk
       | inr parts ↦ parts.1
     ] in

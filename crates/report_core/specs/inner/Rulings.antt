@@ -6,10 +6,10 @@ use Rattle.net_core.specs.Policies.{Policy, holds_on}
 use Rattle.flow_set.specs.FlowSet.{has, with_flow}
 use Rattle.flow_set.specs.declared.flow.Flow.{Flow}
 use Rattle.permit_core.specs.Policy.{IsFirstFailing}
-use Rattle.report_core.specs.PolicyReport.{IsRuling, Ruling, Answered, Allowed, NotAsked, Denied, policy_text}
+use Rattle.report_core.specs.PolicyReport.{IsFlowStatus, FlowStatus, Answered, Allowed, NotAsked, Denied, policy_text}
 
 -- The facts about the policy and the asked flows that determine the status.
-abbrev pub IsFound : Network → Policy → Flow → Ruling → Type 0
+abbrev pub IsFound : Network → Policy → Flow → FlowStatus → Type 0
 IsFound d policy f Answered = IsTrue (has policy.stateful.flows f)
 IsFound d policy f Allowed = IsTrue (has policy.permitted.flows f) × IsFalse (has policy.stateful.flows f)
 IsFound d policy f NotAsked = IsFalse (has d.asked.flows f)
@@ -19,7 +19,7 @@ IsFound d policy f (Denied number) =
     × IsFirstFailing holds_on d.invariants (with_flow policy.permitted.flows f) number
 
 -- The text reports the status of each of these flows.
-pub record TellsRulings (d : Network) (policy : Policy) (flows : List Flow) (text : List ℕ) : Type 0 where
-  pub rulings : List Ruling
-  pub found : AllZip (IsRuling d policy) flows rulings
+pub record ReportsStatuses (d : Network) (policy : Policy) (flows : List Flow) (text : List ℕ) : Type 0 where
+  pub rulings : List FlowStatus
+  pub found : AllZip (IsFlowStatus d policy) flows rulings
   pub written : text ≡ policy_text d flows rulings

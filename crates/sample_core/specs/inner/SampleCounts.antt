@@ -2,13 +2,13 @@
 use Rattle.std.specs.Prelude.{◌≡◌, ℕ, Bool, List, ◌++◌, length, map, filter, Option, codes}
 use Rattle.flow_set.specs.declared.flow.Flow.{Flow}
 use Rattle.ipt_rules.specs.Chain.{Chain}
-use Rattle.ipt_rules.specs.Meaning.{Passes}
+use Rattle.ipt_rules.specs.Semantics.{Passes}
 use Rattle.ipt_rules.specs.Text.{text_lines}
 use Rattle.net_core.specs.Network.{Network}
 use Rattle.pkt_core.specs.declared.event.Event.{Event}
-use Rattle.pkt_core.specs.Filter.{RunsFromNothing}
+use Rattle.pkt_core.specs.Filter.{RunsFromNoConnections}
 use Rattle.pkt_core.specs.Firewall.{Filter}
-use Rattle.report_core.specs.CheckReport.{AreOffences}
+use Rattle.report_core.specs.CheckReport.{AreViolations}
 use Rattle.sample_core.specs.Sample.{Found, chains_of, count_line, offence_size, offending_lines, sample_events, table_line, was_forwarded}
 use Rattle.sample_core.specs.declared.counts.TableLines.{TableLines}
 use Rattle.sample_core.specs.declared.printed.Counts.{Counts}
@@ -16,13 +16,13 @@ use Rattle.sample_core.specs.declared.printed.Counts.{Counts}
 -- The numbers for each invariant of a network.
 pub record AreOffending (d : Network) (counts : List ℕ) : Type 0 where
   pub offences : List (Option (List Flow))
-  pub found : AreOffences d.invariants d.asked.flows offences
+  pub found : AreViolations d.invariants d.asked.flows offences
   pub counted : counts ≡ map offence_size offences
 
 -- The number of packets that a run of the filter forwards, from an empty connection table.
 pub record AreForwarded (filter_of : Filter) (events : List Event) (count : ℕ) : Type 0 where
   pub answers : List (Option Bool)
-  pub run : RunsFromNothing filter_of events answers
+  pub run : RunsFromNoConnections filter_of events answers
   pub counted : count ≡ length (filter was_forwarded answers)
 
 -- The number of lines of the text of the chains, of events, and of packets that the chains forward.

@@ -2,14 +2,14 @@
 use Rattle.std.specs.Prelude.{◌≡◌, Bool}
 use Rattle.std.specs.Fn.{Shared}
 use denote.Ref.{Bor}
-use Rattle.text_core.specs.Firsts as meant
+use Rattle.text_core.specs.FirstMatch as meant
 use Rattle.text_core.specs.declared.firsts.Numbered.{Numbered}
-use Rattle.text_core.specs.declared.firsts.Pair.{Pair}
+use Rattle.text_core.specs.declared.firsts.Conflict.{Conflict}
 
 abbrev pub numbered_seen : {T : Type 0} → Numbered T → meant.Numbered T
 numbered_seen n = record { number = n.number; what = n.what.now }
 
-abbrev pub pair_seen : {T : Type 0} → Pair T → meant.Pair (meant.Numbered T)
+abbrev pub pair_seen : {T : Type 0} → Conflict T → meant.Conflict (meant.Numbered T)
 pair_seen p = record { later = numbered_seen p.later; earlier = numbered_seen p.earlier }
 
 -- For a later and an earlier element the function returns the result of the test.

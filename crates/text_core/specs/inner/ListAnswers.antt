@@ -1,11 +1,11 @@
 -- Requirements on a list format, by which a file has either a parse result or a first error.
 use Rattle.std.specs.Prelude.{◌≡◌, ℕ, List}
-use Rattle.text_core.specs.ListText.{ListText}
+use Rattle.text_core.specs.ListFormat.{ListFormat}
 
 -- A line encodes at most one entry.
-abbrev pub TellsOne : {E : Type 0} → ListText E → Type 0
-TellsOne {E = E} list = (n : ℕ) (line : List ℕ) (x y : E) → list.Tells n line x → list.Tells n line y → x ≡ y
+abbrev pub EncodesAtMostOne : {E : Type 0} → ListFormat E → Type 0
+EncodesAtMostOne {E = E} list = (n : ℕ) (line : List ℕ) (x y : E) → list.Tells n line x → list.Tells n line y → x ≡ y
 
 -- A line that encodes an entry has the shape of one.
-abbrev pub TellsFormed : {E : Type 0} → ListText E → Type 0
-TellsFormed {E = E} list = (n : ℕ) (line : List ℕ) (x : E) → list.Tells n line x → list.HasForm line
+abbrev pub EncodesOnlyWellFormed : {E : Type 0} → ListFormat E → Type 0
+EncodesOnlyWellFormed {E = E} list = (n : ℕ) (line : List ℕ) (x : E) → list.Tells n line x → list.HasForm line

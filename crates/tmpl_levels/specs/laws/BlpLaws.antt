@@ -2,7 +2,7 @@
 use Rattle.std.proofs.Common.{inl, inr, arith}
 use Rattle.std.proofs.lemmas.Bool.{false≢true}
 use Rattle.inv_law.specs.inner.Resets.{IsSecureDefault}
-use Rattle.inv_law.specs.Template.{Anything}
+use Rattle.inv_law.specs.Template.{AnyAttribute}
 use Rattle.inv_law.specs.inner.Template.{MayHaveDefault}
 use Rattle.inv_law.specs.laws.TemplateLaws.{IsLawfulTemplate, lawful_edge}
 use Rattle.inv_law.specs.declared.strategy.Strategy.TheVariants.{Information}
@@ -14,7 +14,7 @@ blp_secure sender receiver (inl trusted) = absurd (false≢true trusted)
 blp_secure sender receiver (inr low) = inr (omega arith)
 
 pub blp_lawful : IsLawfulTemplate blp
-blp_lawful = lawful_edge blp.name blp.strategy Anything unclassified BlpPasses blp_secure
+blp_lawful = lawful_edge blp.name blp.strategy AnyAttribute unclassified BlpPasses blp_secure
 
 pub blp_default : MayHaveDefault blp
 blp_default n host within = tt

@@ -30,5 +30,5 @@ pub record IsNextInterfering (kinds : List Interference) (hosts : HostNumbers) (
   pub none_before : NoneInterferes kinds hosts from next
 
 -- An interfering host that is not joined with this sender is joined with no other interfering host.
-abbrev pub StaysApart : List Interference → List Flow → ℕ → ℕ → Type 0
-StaysApart kinds e from host = (Joined e from host → ⊥) → IsInterfering kinds host → IsApart kinds e host
+abbrev pub StaysIsolated : List Interference → List Flow → ℕ → ℕ → Type 0
+StaysIsolated kinds e from host = (Joined e from host → ⊥) → IsInterfering kinds host → IsApart kinds e host

@@ -1,11 +1,11 @@
 -- The trial of a template that depends on paths.
 use Rattle.std.specs.Prelude.{◌≡◌, ℕ}
-use Rattle.flow_set.specs.inner.Steps.{TriedFlows}
+use Rattle.flow_set.specs.inner.Steps.{UndoableFlows}
 use Rattle.tmpl_reach.specs.declared.trial.Half.{Half}
 use Rattle.tmpl_reach.specs.declared.trial.Half.TheVariants.{Reach, Join}
 
 -- The common model of trials: the number of hosts and the flows, now and before the last step.
-abbrev pub tried_half : Half → TriedFlows
+abbrev pub tried_half : Half → UndoableFlows
 tried_half (Reach t) = t
 tried_half (Join t) = t
 

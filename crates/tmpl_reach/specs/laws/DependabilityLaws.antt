@@ -6,10 +6,10 @@ use Rattle.flow_set.specs.declared.flow.Flow.{Flow}
 use Rattle.flow_set.specs.Flow.{IsFlow}
 use Rattle.flow_set.specs.FlowSet.{has}
 use Rattle.flow_set.specs.laws.FlowLaws.{has_first}
-use Rattle.flow_set.specs.inner.Downward.{IsDownward}
-use Rattle.inv_law.specs.inner.Invariants.{ResetMendsNothing}
+use Rattle.flow_set.specs.inner.Downward.{IsDownwardClosed}
+use Rattle.inv_law.specs.inner.Invariants.{ResetPreservesViolation}
 use Rattle.inv_law.specs.laws.AttributeLaws.{get_or-set_default}
-use Rattle.inv_law.specs.Template.{Anything}
+use Rattle.inv_law.specs.Template.{AnyAttribute}
 use Rattle.inv_law.specs.inner.Template.{MayHaveDefault}
 use Rattle.inv_law.specs.laws.TemplateLaws.{IsLawfulTemplate, lawful_walk}
 use Rattle.inv_law.specs.declared.strategy.Strategy.TheVariants.{Access}
@@ -18,7 +18,7 @@ use Rattle.reach_core.specs.laws.ReachLaws.{ReachesAtMost-within, ReachesAtMost-
 use Rattle.tmpl_reach.specs.Dependability.{dependability, IsDependable}
 use Rattle.tmpl_reach.specs.inner.Resets.{IsDependableAfterReset}
 
-pub IsDependable-downward : (n : ℕ) (limits : List ℕ) → IsDownward n (IsDependable limits)
+pub IsDependable-downward : (n : ℕ) (limits : List ℕ) → IsDownwardClosed n (IsDependable limits)
 IsDependable-downward n limits e s is_set subset holds host below =
     ReachesAtMost-within s e subset.within host _ (holds host below)
 
@@ -26,7 +26,7 @@ pub IsDependable-none : (limits : List ℕ) → IsDependable limits []
 IsDependable-none limits host below = ReachesAtMost-none host _
 
 -- An offending host sends, so it reaches another host, and the limit 0 allows none.
-pub IsDependable-reset : (limits : List ℕ) → ResetMendsNothing (length limits) Access (IsDependable limits) (IsDependableAfterReset limits)
+pub IsDependable-reset : (limits : List ℕ) → ResetPreservesViolation (length limits) Access (IsDependable limits) (IsDependableAfterReset limits)
 IsDependable-reset limits e f host is_set minimal offending holds =
     let in_e : IsTrue (has e offending.flow) = minimal.within.within offending.flow offending.offends in
     let is_flow : IsFlow (length limits) offending.flow = is_set.flows offending.flow in_e in
@@ -66,7 +66,7 @@ example_beyond holds =
 pub dependability_lawful : IsLawfulTemplate dependability
 dependability_lawful =
     lawful_walk dependability.name dependability.strategy
-    (λ n host. Anything) (λ n host. 0) IsDependable IsDependable-downward IsDependable-none IsDependable-reset
+    (λ n host. AnyAttribute) (λ n host. 0) IsDependable IsDependable-downward IsDependable-none IsDependable-reset
 
 pub dependability_default : MayHaveDefault dependability
 dependability_default n host within = tt

@@ -8,8 +8,8 @@ use Rattle.flow_set.specs.declared.flow.Flow.{Flow}
 use Rattle.flow_set.specs.Flow.{IsFlow}
 use Rattle.flow_set.specs.FlowSet.{has}
 use Rattle.flow_set.specs.laws.FlowLaws.{has_first}
-use Rattle.flow_set.specs.inner.Downward.{IsDownward}
-use Rattle.inv_law.specs.inner.Invariants.{ResetMendsNothing}
+use Rattle.flow_set.specs.inner.Downward.{IsDownwardClosed}
+use Rattle.inv_law.specs.inner.Invariants.{ResetPreservesViolation}
 use Rattle.inv_law.specs.inner.Template.{MayHaveDefault}
 use Rattle.inv_law.specs.laws.TemplateLaws.{IsLawfulTemplate, lawful_walk}
 use Rattle.inv_law.specs.declared.strategy.Strategy.TheVariants.{Access}
@@ -19,7 +19,7 @@ use Rattle.reach_core.specs.laws.ReachLaws.{Reaches-within, Reaches-none, Reache
 use Rattle.tmpl_reach.specs.NoReach.{AreOthers, no_reach, others, denied_by, ReachesNoDenied}
 use Rattle.tmpl_reach.specs.inner.Resets.{ReachesNoDeniedAfterReset}
 
-pub ReachesNoDenied-downward : (n : ℕ) (denied : List HostNumbers) → IsDownward n (ReachesNoDenied denied)
+pub ReachesNoDenied-downward : (n : ℕ) (denied : List HostNumbers) → IsDownwardClosed n (ReachesNoDenied denied)
 ReachesNoDenied-downward n denied e s is_set subset holds i j apart denies reaches =
     holds i j apart denies (Reaches-within s e subset.within i j reaches)
 
@@ -56,7 +56,7 @@ no_reach_default n host within j denies = denies
 
 -- An offending host sends, so it reaches another host, and denies it after its reset.
 pub ReachesNoDenied-reset : (denied : List HostNumbers)
-    → ResetMendsNothing (length denied) Access (ReachesNoDenied denied) (ReachesNoDeniedAfterReset denied)
+    → ResetPreservesViolation (length denied) Access (ReachesNoDenied denied) (ReachesNoDeniedAfterReset denied)
 ReachesNoDenied-reset denied e f host is_set minimal offending holds =
     let g : Flow = offending.flow in
     let in_e : IsTrue (has e g) = minimal.within.within g offending.offends in

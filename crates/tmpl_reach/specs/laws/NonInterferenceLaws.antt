@@ -6,22 +6,22 @@ use Rattle.flow_set.specs.declared.flow.Flow.{Flow}
 use Rattle.flow_set.specs.Flow.{IsFlow, same_flow}
 use Rattle.flow_set.specs.FlowSet.{has, with_flow, without}
 use Rattle.flow_set.specs.laws.FlowLaws.{has_first, has-with_flow, has-without, same_flow-true}
-use Rattle.flow_set.specs.inner.Downward.{IsDownward}
-use Rattle.inv_law.specs.inner.Invariants.{ResetMendsNothing}
-use Rattle.inv_law.specs.Template.{Anything}
+use Rattle.flow_set.specs.inner.Downward.{IsDownwardClosed}
+use Rattle.inv_law.specs.inner.Invariants.{ResetPreservesViolation}
+use Rattle.inv_law.specs.Template.{AnyAttribute}
 use Rattle.inv_law.specs.inner.Template.{MayHaveDefault}
 use Rattle.inv_law.specs.laws.TemplateLaws.{IsLawfulTemplate, lawful_walk}
 use Rattle.inv_law.specs.declared.strategy.Strategy.TheVariants.{Information}
 use Rattle.reach_core.specs.Walks.{Joined, has_either}
 use Rattle.reach_core.specs.laws.WalkLaws.{cases_path}
 use Rattle.reach_core.specs.laws.ReachLaws.{Joined-nothing_new, Joined-touching, Joined-untouched, Joined-within, Joined-none, Joined-one, joined_over, joined_through}
-use Rattle.tmpl_reach.specs.inner.Interferences.{StaysApart}
+use Rattle.tmpl_reach.specs.inner.Interferences.{StaysIsolated}
 use Rattle.tmpl_reach.specs.NonInterference.{non_interference, IsInterfering, IsNonInterfering}
 use Rattle.tmpl_reach.specs.inner.Resets.{IsNonInterferingAfterReset}
 use Rattle.tmpl_reach.specs.declared.non_interference.Interference.{Interference}
 use Rattle.tmpl_reach.specs.declared.non_interference.Interference.TheVariants.{Interfering, Unrelated}
 
-pub IsNonInterfering-downward : (n : ℕ) (hosts : List Interference) → IsDownward n (IsNonInterfering hosts)
+pub IsNonInterfering-downward : (n : ℕ) (hosts : List Interference) → IsDownwardClosed n (IsNonInterfering hosts)
 IsNonInterfering-downward n hosts e s is_set subset holds i first j apart second joined =
     holds i first j apart second (Joined-within s e subset.within i j joined)
 
@@ -43,7 +43,7 @@ still_interfering hosts host i other interferes = get_or-set_other hosts host i 
 
 -- The receiver of an offending flow is on a walk between two interfering hosts, and differs from one of them.
 pub IsNonInterfering-reset : (hosts : List Interference)
-    → ResetMendsNothing (length hosts) Information (IsNonInterfering hosts) (IsNonInterferingAfterReset hosts)
+    → ResetPreservesViolation (length hosts) Information (IsNonInterfering hosts) (IsNonInterferingAfterReset hosts)
 IsNonInterfering-reset hosts e f host is_set minimal offending holds =
     let g : Flow = offending.flow in
     let in_e : IsTrue (has e g) = minimal.within.within g offending.offends in
@@ -55,7 +55,7 @@ IsNonInterfering-reset hosts e f host is_set minimal offending holds =
     let wider : (i j : ℕ) → Joined back i j → Joined e i j = Joined-within back e (put_back-within e f g in_e) in
     minimal.minimal g offending.offends (λ i first j apart second joined.
     elim (joined_through (without e f) g i j joined) [
-      | inl stays ↦ minimal.mended i first j apart second stays
+      | inl stays ↦ minimal.holds_without i first j apart second stays
       | inr parts ↦ elim (cases_eq i g.to) [
         | inl here ↦ elim (cases_path (has_either back) g.to j parts.1) [
           | inl there ↦ apart (here ∙ there)
@@ -77,9 +77,9 @@ IsNonInterfering-nothing_new hosts e f there holds i first j apart second joined
     holds i first j apart second (Joined-nothing_new e f there i j joined)
 
 -- One more flow changes nothing for the hosts that are then not joined with its sender.
-pub StaysApart-with_flow : (hosts : List Interference) (e : List Flow) (f : Flow) → IsNonInterfering hosts e → (host : ℕ)
-    → StaysApart hosts (with_flow e f) f.from host
-StaysApart-with_flow hosts e f holds host never first j apart second joined =
+pub StaysIsolated-with_flow : (hosts : List Interference) (e : List Flow) (f : Flow) → IsNonInterfering hosts e → (host : ℕ)
+    → StaysIsolated hosts (with_flow e f) f.from host
+StaysIsolated-with_flow hosts e f holds host never first j apart second joined =
     holds host first j apart second
     (Joined-untouched e f host j (λ touches. never (Joined-touching e f f.from host (inl ([], refl)) touches)) joined)
 
@@ -115,7 +115,7 @@ example_meeting holds =
 pub non_interference_lawful : IsLawfulTemplate non_interference
 non_interference_lawful =
     lawful_walk non_interference.name non_interference.strategy
-    (λ n host. Anything) (λ n host. Interfering) IsNonInterfering IsNonInterfering-downward IsNonInterfering-none IsNonInterfering-reset
+    (λ n host. AnyAttribute) (λ n host. Interfering) IsNonInterfering IsNonInterfering-downward IsNonInterfering-none IsNonInterfering-reset
 
 pub non_interference_default : MayHaveDefault non_interference
 non_interference_default n host within = tt

@@ -11,8 +11,8 @@ PairPasses denied sender receiver = IsTrue (not (lists denied (sender, receiver)
 
 -- The default is secure: for all kinds of the hosts, a flow that does not pass still does not pass after its offending host is given the
 -- default.
-abbrev pub HidesNoFault : KindTable → Type 0
-HidesNoFault table =
+abbrev pub HasSecureDefault : KindTable → Type 0
+HasSecureDefault table =
     (hosts : List ℕ) → 2 ≤ length hosts → All (λ kind. kind < table.kinds) hosts
     → ResetPassesNoMore (length hosts) table.strategy (PassesBetween table.default (PairPasses table.denied) hosts) (PassesAfterReset table.default (PairPasses table.denied) hosts)
 

@@ -14,7 +14,7 @@ use Rattle.inv_law.specs.laws.TemplateLaws.{IsLawfulTemplate, lawful_edge}
 use Rattle.inv_law.specs.declared.strategy.Strategy.{Strategy}
 use Rattle.inv_law.specs.declared.strategy.Strategy.TheVariants.{Access, Information}
 use Rattle.tmpl_table.specs.KindTable.{KindTable, TablePasses, declared, is_lawful, lists, passes_with, with_kind}
-use Rattle.tmpl_table.specs.inner.KindTable.{HidesNoFault, PairPasses, first_weaker}
+use Rattle.tmpl_table.specs.inner.KindTable.{HasSecureDefault, PairPasses, first_weaker}
 
 same_pair : (p q : ℕ × ℕ) → ((p.0 == q.0) && (p.1 == q.1)) ≡ true → p ≡ q
 same_pair p q same =
@@ -92,8 +92,8 @@ pub declared_default : (table : KindTable) → table.default < table.kinds → M
 declared_default table is_kind n host within = is_kind
 
 -- The default of a lawful table is secure.
-pub HidesNoFault-lawful : (table : KindTable) → is_lawful table ≡ true → HidesNoFault table
-HidesNoFault-lawful table lawful hosts two kinds =
+pub HasSecureDefault-lawful : (table : KindTable) → is_lawful table ≡ true → HasSecureDefault table
+HasSecureDefault-lawful table lawful hosts two kinds =
     ResetPassesNoMore-attributes table.strategy table.default (PairPasses table.denied) (secure_pairs table lawful) (length hosts) hosts
 
 -- Every denied pair consists of two kinds of the table.
@@ -116,7 +116,7 @@ all_listed test kinds (pair ∷ pairs) below each =
     (λ q left right listed. each q left right (listed_later pair q pairs listed)))
 
 -- Two hosts of a denied pair: the flow between them fails, so it fails after the reset, and the partner is denied.
-partner_by_two : (table : KindTable) → HidesNoFault table → (pair : ℕ × ℕ) → pair.0 < table.kinds → pair.1 < table.kinds
+partner_by_two : (table : KindTable) → HasSecureDefault table → (pair : ℕ × ℕ) → pair.0 < table.kinds → pair.1 < table.kinds
     → lists table.denied pair ≡ true → not (passes_with table.strategy table.denied table.default pair) ≡ true
 partner_by_two table hides pair left right listed = not_from_false _ (false_from_ne_true _ (after table.strategy refl))
   where
@@ -141,8 +141,8 @@ partner_by_two table hides pair left right listed = not_from_false _ (false_from
         (subst (λ (t : Strategy). passes_with t table.denied table.default pair ≡ true) is passes))
 
 -- A table with a secure default is lawful.
-pub lawful-HidesNoFault : (table : KindTable) → AreKinds table.kinds table.denied → HidesNoFault table → is_lawful table ≡ true
-lawful-HidesNoFault table below hides =
+pub lawful-HasSecureDefault : (table : KindTable) → AreKinds table.kinds table.denied → HasSecureDefault table → is_lawful table ≡ true
+lawful-HasSecureDefault table below hides =
     all_listed (λ pair. not (passes_with table.strategy table.denied table.default pair)) table.kinds table.denied below (partner_by_two table hides)
 
 -- A pair that passes a test exists if and only if not all pairs fail it.
@@ -168,15 +168,15 @@ default_weakens_nothing table lawful = find-none (passes_with table.strategy tab
 
 -- The result of the search for a pair without a partner determines whether the table is lawful.
 pub accepted : (table : KindTable) → position_from (passes_with table.strategy table.denied table.default) 0 table.denied ≡ None
-    → (is_lawful table ≡ true) × HidesNoFault table
+    → (is_lawful table ≡ true) × HasSecureDefault table
 accepted table none =
     let lawful : is_lawful table ≡ true =
     sym (is_none-position_from (passes_with table.strategy table.denied table.default) 0 table.denied) ∙ ap is_none none in
-    (lawful, HidesNoFault-lawful table lawful)
+    (lawful, HasSecureDefault-lawful table lawful)
 
 pub refused : (table : KindTable) (place : ℕ) → AreKinds table.kinds table.denied
-    → position_from (passes_with table.strategy table.denied table.default) 0 table.denied ≡ Some place → HidesNoFault table → ⊥
+    → position_from (passes_with table.strategy table.denied table.default) 0 table.denied ≡ Some place → HasSecureDefault table → ⊥
 refused table place below found hides =
     let unlawful : is_lawful table ≡ false =
     sym (is_none-position_from (passes_with table.strategy table.denied table.default) 0 table.denied) ∙ ap is_none found in
-    false≢true (sym unlawful ∙ lawful-HidesNoFault table below hides)
+    false≢true (sym unlawful ∙ lawful-HasSecureDefault table below hides)

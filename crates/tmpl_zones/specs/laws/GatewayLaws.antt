@@ -1,7 +1,7 @@
 -- The default of the security gateway template is secure.
 use Rattle.std.specs.Prelude.{refl}
 use Rattle.inv_law.specs.inner.Resets.{IsSecureDefault}
-use Rattle.inv_law.specs.Template.{Anything}
+use Rattle.inv_law.specs.Template.{AnyAttribute}
 use Rattle.inv_law.specs.inner.Template.{MayHaveDefault}
 use Rattle.inv_law.specs.laws.TemplateLaws.{IsLawfulTemplate, lawful_edge}
 use Rattle.inv_law.specs.declared.strategy.Strategy.TheVariants.{Access}
@@ -17,7 +17,7 @@ gateway_secure Unassigned receiver passes = passes
 gateway_secure sender receiver passes = refl
 
 pub gateways_lawful : IsLawfulTemplate gateways
-gateways_lawful = lawful_edge gateways.name gateways.strategy Anything Unassigned (TablePasses gateway_passes) gateway_secure
+gateways_lawful = lawful_edge gateways.name gateways.strategy AnyAttribute Unassigned (TablePasses gateway_passes) gateway_secure
 
 pub gateways_default : MayHaveDefault gateways
 gateways_default n host within = tt

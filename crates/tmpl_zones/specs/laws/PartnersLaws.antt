@@ -26,7 +26,7 @@ pub partners_lawful : IsLawfulTemplate partners
 partners_lawful hosts = record {
   downward = AllFlowsPass-downward (length hosts) (PartnersPass hosts);
   holds_on_none = AllFlowsPass-none (PartnersPass hosts);
-  reset_mends_nothing = AllFlowsPass-reset (length hosts) Access (PartnersPass hosts) (PartnersPassAfterReset hosts) (partners_reset (length hosts) hosts);
+  reset_preserves_violation = AllFlowsPass-reset (length hosts) Access (PartnersPass hosts) (PartnersPassAfterReset hosts) (partners_reset (length hosts) hosts);
   mark_is_right = λ marked. AllFlowsPass-edge_wise (length hosts) (PartnersPass hosts);
 }
 

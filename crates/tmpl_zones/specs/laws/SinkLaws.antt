@@ -2,7 +2,7 @@
 use Rattle.std.specs.Prelude.{refl}
 use Rattle.std.proofs.lemmas.Bool.{false≢true}
 use Rattle.inv_law.specs.inner.Resets.{IsSecureDefault}
-use Rattle.inv_law.specs.Template.{Anything}
+use Rattle.inv_law.specs.Template.{AnyAttribute}
 use Rattle.inv_law.specs.inner.Template.{MayHaveDefault}
 use Rattle.inv_law.specs.laws.TemplateLaws.{IsLawfulTemplate, lawful_edge}
 use Rattle.inv_law.specs.declared.strategy.Strategy.TheVariants.{Information}
@@ -17,7 +17,7 @@ sink_secure Pool receiver passes = absurd (false≢true passes)
 sink_secure Unassigned receiver passes = refl
 
 pub sinks_lawful : IsLawfulTemplate sinks
-sinks_lawful = lawful_edge sinks.name sinks.strategy Anything Unassigned (TablePasses sink_passes) sink_secure
+sinks_lawful = lawful_edge sinks.name sinks.strategy AnyAttribute Unassigned (TablePasses sink_passes) sink_secure
 
 pub sinks_default : MayHaveDefault sinks
 sinks_default n host within = tt

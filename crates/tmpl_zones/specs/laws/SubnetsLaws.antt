@@ -2,7 +2,7 @@
 use Rattle.std.specs.Prelude.{refl}
 use Rattle.std.proofs.lemmas.Bool.{false≢true}
 use Rattle.inv_law.specs.inner.Resets.{IsSecureDefault}
-use Rattle.inv_law.specs.Template.{Anything}
+use Rattle.inv_law.specs.Template.{AnyAttribute}
 use Rattle.inv_law.specs.inner.Template.{MayHaveDefault}
 use Rattle.inv_law.specs.laws.TemplateLaws.{IsLawfulTemplate, lawful_edge}
 use Rattle.inv_law.specs.declared.strategy.Strategy.TheVariants.{Access}
@@ -19,7 +19,7 @@ subnets_secure (Border a) Unassigned passes = refl
 subnets_secure Unassigned Unassigned passes = refl
 
 pub subnets_lawful : IsLawfulTemplate subnets
-subnets_lawful = lawful_edge subnets.name subnets.strategy Anything Unassigned (TablePasses subnets_passes) subnets_secure
+subnets_lawful = lawful_edge subnets.name subnets.strategy AnyAttribute Unassigned (TablePasses subnets_passes) subnets_secure
 
 pub subnets_default : MayHaveDefault subnets
 subnets_default n host within = tt

@@ -2,35 +2,35 @@
 use Rattle.std.specs.Prelude.{◌≡◌, ℕ, List, Result, Ok, Err, Some}
 use Rattle.audit_core.specs.Rules.{Rules as AuditedRules}
 use Rattle.topos_top.specs.Audit.{rules_in}
-use Rattle.topos_top.specs.Dialects.{language_of}
-use Rattle.topos_top.specs.Kinds.{contents_of}
-use Rattle.topos_top.specs.Replies.{StopsAt}
+use Rattle.topos_top.specs.Dialects.{rule_dialect_of}
+use Rattle.topos_top.specs.FileFormats.{format_of}
+use Rattle.topos_top.specs.Replies.{StopsRunAt}
 use Rattle.topos_top.specs.Reply.{Reply}
-use Rattle.topos_top.specs.Shelf.{ShelfChange, SawFile, TookBytes}
+use Rattle.topos_top.specs.Shelf.{ShelfChange, ObservesFile, ConsumesBytes}
 use Rattle.topos_top.specs.declared.dialect.Dialect.{Dialect}
 use Rattle.topos_top.specs.declared.kind.Kind.{Kind}
 use Rattle.topos_top.specs.declared.kind.Kind.TheVariants.{Rules}
 
 -- The bytes of a file were read.
-pub record TookFile (shelf : ShelfChange) (kind : Kind) (file bytes : List ℕ) : Type 0 where
-  pub held : SawFile shelf file (Some bytes)
-  pub took : TookBytes shelf.only_failures kind bytes shelf.before shelf.after
+pub record ConsumesFile (shelf : ShelfChange) (kind : Kind) (file bytes : List ℕ) : Type 0 where
+  pub held : ObservesFile shelf file (Some bytes)
+  pub took : ConsumesBytes shelf.only_failures kind bytes shelf.before shelf.after
 
 abbrev pub MayTake : Kind → (file : List ℕ) → ShelfChange → Result (List ℕ) Reply → Type 0
-MayTake kind file shelf (Ok bytes) = TookFile shelf kind file bytes
-MayTake kind file shelf (Err given) = StopsAt shelf kind file given
+MayTake kind file shelf (Ok bytes) = ConsumesFile shelf kind file bytes
+MayTake kind file shelf (Err given) = StopsRunAt shelf kind file given
 
 -- The possible results of reading a file.
-abbrev pub MayRead : (kind : Kind) → (file : List ℕ) → ShelfChange → Result (contents_of kind).Said Reply → Type 0
-MayRead kind file shelf (Ok said) = (bytes : List ℕ) × TookFile shelf kind file bytes × (contents_of kind).Reads bytes said
-MayRead kind file shelf (Err given) = StopsAt shelf kind file given
+abbrev pub MayRead : (kind : Kind) → (file : List ℕ) → ShelfChange → Result (format_of kind).Said Reply → Type 0
+MayRead kind file shelf (Ok said) = (bytes : List ℕ) × ConsumesFile shelf kind file bytes × (format_of kind).Reads bytes said
+MayRead kind file shelf (Err given) = StopsRunAt shelf kind file given
 
 -- Rules of a dialect were read, in the form of an audit.
 pub record ReadRules (shelf : ShelfChange) (dialect : Dialect) (file : List ℕ) (rules : AuditedRules) : Type 0 where
-  pub said : (language_of dialect).Rules
+  pub said : (rule_dialect_of dialect).Rules
   pub told : rules ≡ rules_in dialect said
   pub read : MayRead (Rules dialect) file shelf (Ok said)
 
 abbrev pub MayReadRules : Dialect → (file : List ℕ) → ShelfChange → Result AuditedRules Reply → Type 0
 MayReadRules dialect file shelf (Ok rules) = ReadRules shelf dialect file rules
-MayReadRules dialect file shelf (Err given) = StopsAt shelf (Rules dialect) file given
+MayReadRules dialect file shelf (Err given) = StopsRunAt shelf (Rules dialect) file given

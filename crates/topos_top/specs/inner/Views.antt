@@ -16,12 +16,12 @@ use Rattle.ofp_rules.specs.Text.{text as table_text}
 use Rattle.report_core.specs.RefusalLine.{refusal_text}
 use Rattle.toml.specs.Data.{Members}
 use Rattle.toml.specs.declared.value.Value.{Value}
-use Rattle.topos_top.specs.Ask.{Ask, Check, Policy, Rules, Repair, Trace, Sample, Migrate, Audit, Edit, Local, usage_text}
+use Rattle.topos_top.specs.Command.{Command, Check, Policy, Rules, Repair, Trace, Sample, Migrate, Audit, Edit, Local, usage_text}
 use Rattle.topos_top.specs.Reply.{Reply, cannot_read, error, no_memory}
 use Rattle.topos_top.specs.TextFault.{fault_line, edit_fault_line}
 use Rattle.topos_top.specs.declared.answer.Answer.{Answer}
-use Rattle.topos_top.specs.declared.ask.Ask.{Ask as CodeAsk}
-use Rattle.topos_top.specs.declared.ask.Ask.TheVariants as ask
+use Rattle.topos_top.specs.declared.command.Command.{Command as CodeCommand}
+use Rattle.topos_top.specs.declared.command.Command.TheVariants as command
 use Rattle.topos_top.specs.declared.dialect.Rules.{Rules as CodeRules}
 use Rattle.topos_top.specs.declared.dialect.Rules.TheVariants as rules
 use Rattle.topos_top.specs.declared.status.Status.{Status}
@@ -30,20 +30,20 @@ use Rattle.topos_top.specs.declared.status.Stream.{Stream}
 use Rattle.topos_top.specs.declared.text.Text.{Text}
 use Rattle.topos_top.specs.declared.text.Text.TheVariants as text
 
-abbrev pub ask_view : CodeAsk → Ask
-ask_view (ask.Check file) = Check file.now
-ask_view (ask.Policy file) = Policy file.now
-ask_view (ask.Rules dialect file) = Rules dialect file.now
-ask_view (ask.Repair dialect file) = Repair dialect file.now
-ask_view (ask.Trace dialect rules events) = Trace dialect rules.now events.now
-ask_view (ask.Sample hosts) = Sample hosts
-ask_view (ask.Migrate file) = Migrate file.now
-ask_view (ask.Audit dialect file rules) = Audit dialect file.now rules.now
-ask_view (ask.Edit file edits) = Edit file.now edits.now
-ask_view (ask.Local file host) = Local file.now host.now
+abbrev pub command_view : CodeCommand → Command
+command_view (command.Check file) = Check file.now
+command_view (command.Policy file) = Policy file.now
+command_view (command.Rules dialect file) = Rules dialect file.now
+command_view (command.Repair dialect file) = Repair dialect file.now
+command_view (command.Trace dialect rules events) = Trace dialect rules.now events.now
+command_view (command.Sample hosts) = Sample hosts
+command_view (command.Migrate file) = Migrate file.now
+command_view (command.Audit dialect file rules) = Audit dialect file.now rules.now
+command_view (command.Edit file edits) = Edit file.now edits.now
+command_view (command.Local file host) = Local file.now host.now
 
 -- The number of hosts of a sample is at most the host limit.
-abbrev pub IsWithinHosts : Ask → Type 0
+abbrev pub IsWithinHosts : Command → Type 0
 IsWithinHosts (Sample hosts) = hosts ≤ host_limit
 IsWithinHosts _ = Unit {0}
 

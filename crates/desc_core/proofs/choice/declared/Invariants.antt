@@ -1,11 +1,11 @@
 use Rattle.std.proofs.Common.{◌≡◌, map, drop}
 use Rattle.std.specs.Prelude.{find}
 use Rattle.std.specs.Str.{bytes_eq}
-use Rattle.desc_form.specs.WrittenTemplate.{WrittenTemplate}
-use Rattle.desc_form.specs.inner.WrittenView.{template_view}
+use Rattle.desc_form.specs.RawTemplate.{RawTemplate}
+use Rattle.desc_form.specs.inner.RawView.{template_view}
 use Rattle.desc_core.proofs.choice.declared.Given as goal
 
 abbrev pub invariant-loop-template : goal.invariant-loop-template
 invariant-loop-template l =
-    find (λ (t : WrittenTemplate). bytes_eq l.name t.name) (map template_view (drop l.template-index l.templates))
-    ≡ find (λ (t : WrittenTemplate). bytes_eq l.name t.name) (map template_view l.templates)
+    find (λ (t : RawTemplate). bytes_eq l.name t.name) (map template_view (drop l.template-index l.templates))
+    ≡ find (λ (t : RawTemplate). bytes_eq l.name t.name) (map template_view l.templates)

@@ -3,7 +3,7 @@ use Rattle.std.specs.Prelude.{find, IsTrue}
 use Rattle.flow_set.specs.Flow.{same_flow}
 use Rattle.flow_set.specs.FlowSet.{has}
 use Rattle.flow_set.specs.declared.flow.Flow.{Flow}
-use Rattle.text_core.specs.Firsts.{Numbered, numbered_from}
+use Rattle.text_core.specs.FirstMatch.{Numbered, numbered_from}
 use Rattle.desc_core.proofs.flows.number_of.Given as goal
 
 abbrev pub invariant-loop-index : goal.invariant-loop-index

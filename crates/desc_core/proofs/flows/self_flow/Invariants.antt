@@ -1,6 +1,6 @@
 use Rattle.std.proofs.Common.{◌≡◌, ◌+◌, ◌==◌, drop, option_map}
 use Rattle.std.specs.Prelude.{find}
-use Rattle.text_core.specs.Firsts.{Numbered, numbered_from}
+use Rattle.text_core.specs.FirstMatch.{Numbered, numbered_from}
 use Rattle.desc_form.specs.Refusals.{refused}
 use Rattle.desc_form.specs.declared.refusal.Place.TheVariants.{FlowAt}
 use Rattle.desc_form.specs.declared.refusal.Why.TheVariants.{SelfFlow}

@@ -1,8 +1,8 @@
 use Rattle.std.proofs.Common.{◌≡◌, ◌+◌, map, drop}
 use Rattle.desc_core.specs.inner.KnownView.{known_view}
 use Rattle.desc_core.specs.UseConditions.{bad_at}
-use Rattle.desc_core.specs.WrittenNetwork.{Known}
-use Rattle.text_core.specs.Firsts.{Numbered, first_found, numbered_from}
+use Rattle.desc_core.specs.RawNetwork.{Known}
+use Rattle.text_core.specs.FirstMatch.{Numbered, first_found, numbered_from}
 use Rattle.desc_core.proofs.invariants.attribute_refusal.Given as goal
 
 abbrev pub invariant-loop-index : goal.invariant-loop-index

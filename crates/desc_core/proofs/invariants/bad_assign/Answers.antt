@@ -4,7 +4,7 @@ use Rattle.attr_core.specs.Forms.{bad_assign}
 use Rattle.attr_core.specs.OwnTables.{table_form}
 use Rattle.attr_core.specs.declared.assign.Assign.{Assign}
 use Rattle.desc_core.specs.Choices.{bad_of, declared_by}
-use Rattle.desc_form.specs.inner.WrittenView.{template_view}
+use Rattle.desc_form.specs.inner.RawView.{template_view}
 use Rattle.desc_core.proofs.invariants.bad_assign.Goals as goal
 
 pub returns-in-OwnTable : goal.returns-in-OwnTable

@@ -1,8 +1,8 @@
 use Rattle.std.proofs.Common.{◌≡◌, ◌+◌, ◌++◌, None, map, drop}
 use Rattle.desc_core.specs.inner.KnownView.{known_view}
 use Rattle.desc_core.specs.UseConditions.{bad_at}
-use Rattle.desc_core.specs.WrittenNetwork.{Known, made_of}
-use Rattle.text_core.specs.Firsts.{Numbered, first_found, numbered_from}
+use Rattle.desc_core.specs.RawNetwork.{Known, made_of}
+use Rattle.text_core.specs.FirstMatch.{Numbered, first_found, numbered_from}
 use Rattle.desc_core.proofs.invariants.read_invariants.Given as goal
 
 abbrev pub invariant-loop-invariant : goal.invariant-loop-invariant

@@ -5,7 +5,7 @@ use Rattle.attr_core.specs.Forms.{invariant_by}
 use Rattle.attr_core.specs.OwnTables.{table_form}
 use Rattle.attr_core.specs.declared.assign.Assign.{Assign}
 use Rattle.desc_core.specs.Choices.{declared_by, made_by}
-use Rattle.desc_form.specs.inner.WrittenView.{template_view}
+use Rattle.desc_form.specs.inner.RawView.{template_view}
 use Rattle.desc_core.proofs.invariants.read_one.Goals as goal
 
 pub returns-in-OwnTable : goal.returns-in-OwnTable

@@ -3,8 +3,8 @@ use Rattle.std.specs.Prelude.{All}
 use Rattle.attr_core.specs.inner.AssignView.{given_of}
 use Rattle.attr_core.specs.Assigns.{Given}
 use Rattle.attr_core.specs.declared.assign.Assign.{Assign}
-use Rattle.desc_core.specs.WrittenNetwork.{given_by}
-use Rattle.desc_form.specs.inner.WrittenView.{assign_view}
+use Rattle.desc_core.specs.RawNetwork.{given_by}
+use Rattle.desc_form.specs.inner.RawView.{assign_view}
 use Rattle.table_core.specs.Listing.{each}
 use Rattle.desc_core.proofs.known.assigns_among.Given as goal
 

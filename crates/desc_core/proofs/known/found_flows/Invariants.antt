@@ -1,6 +1,6 @@
 use Rattle.std.proofs.Common.{◌≡◌, ◌++◌, List, map, drop, option_map}
 use Rattle.desc_core.specs.inner.Parts.{ends_of}
-use Rattle.desc_form.specs.inner.WrittenView.{flow_view}
+use Rattle.desc_form.specs.inner.RawView.{flow_view}
 use Rattle.flow_set.specs.declared.flow.Flow.{Flow}
 use Rattle.table_core.specs.Listing.{each}
 use Rattle.desc_core.proofs.known.found_flows.Given as goal

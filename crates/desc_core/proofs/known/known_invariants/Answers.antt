@@ -4,7 +4,7 @@ use Rattle.std.specs.Prelude.{All}
 use Rattle.attr_core.specs.declared.assign.Assign.{Assign}
 use Rattle.desc_core.proofs.KnownLemmas.{invariants_more}
 use Rattle.desc_core.specs.declared.known.KnownInvariant.{KnownInvariant}
-use Rattle.desc_form.specs.inner.WrittenView.{template_view}
+use Rattle.desc_form.specs.inner.RawView.{template_view}
 use Rattle.desc_core.proofs.known.known_invariants.Goals as goal
 
 pub loop-invariant-preserved : goal.loop-invariant-preserved

@@ -2,9 +2,9 @@ use Rattle.std.proofs.Common.{◌≡◌, ◌<◌, ◌++◌, List, map, drop, len
 use Rattle.std.specs.Prelude.{All}
 use Rattle.attr_core.specs.declared.assign.Assign.{Assign}
 use Rattle.desc_core.specs.inner.KnownView.{known_view}
-use Rattle.desc_core.specs.WrittenNetwork.{Known, known_of}
+use Rattle.desc_core.specs.RawNetwork.{Known, known_of}
 use Rattle.desc_core.specs.declared.known.KnownInvariant.{KnownInvariant}
-use Rattle.desc_form.specs.inner.WrittenView.{invariant_view, template_view}
+use Rattle.desc_form.specs.inner.RawView.{invariant_view, template_view}
 use Rattle.table_core.specs.Listing.{each}
 use Rattle.desc_core.proofs.known.known_invariants.Given as goal
 

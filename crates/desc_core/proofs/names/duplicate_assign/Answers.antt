@@ -1,10 +1,10 @@
 use Rattle.std.proofs.Common.{◌≡◌, ℕ, suc, ◌+◌, ◌<◌, true, List, ◌∷◌, length, get_or, map, drop, Option, Some, None, is_some, refl, sym, ap, ◌∙◌}
 use Rattle.std.proofs.Math.Seq.{drop-cons}
 use Rattle.std.specs.Option.{option_or}
-use Rattle.text_core.specs.Firsts.{Numbered, first_found, numbered_from}
+use Rattle.text_core.specs.FirstMatch.{Numbered, first_found, numbered_from}
 use Rattle.desc_core.specs.UseConditions.{duplicate_assign_of}
-use Rattle.desc_form.specs.inner.WrittenView.{assign_view, invariant_view}
-use Rattle.desc_form.specs.declared.written.WrittenAssign.{WrittenAssign}
+use Rattle.desc_form.specs.inner.RawView.{assign_view, invariant_view}
+use Rattle.desc_form.specs.declared.raw.RawAssign.{RawAssign}
 use Rattle.desc_core.proofs.names.duplicate_assign.Goals as goal
 
 or_found : {B : Type 0} (here later : Option B) → is_some here ≡ true → option_or here later ≡ here
@@ -28,5 +28,5 @@ returns-then-is_some c =
     let invariant = c.index-invariants-index.result in
     found_here duplicate_assign_of invariant_view c.args.invariants.now i invariant c.duplicate_in-found.result _ c.loop-index-test.true c.index-invariants-index.is
     (c.duplicate_in-found.ensures
-    ∙ ap (λ (assigns : List WrittenAssign). duplicate_assign_of (record { number = i + 1; what = record { template = (invariant_view invariant).template; assigns = map assign_view assigns } })) c.deref.ensures.value)
+    ∙ ap (λ (assigns : List RawAssign). duplicate_assign_of (record { number = i + 1; what = record { template = (invariant_view invariant).template; assigns = map assign_view assigns } })) c.deref.ensures.value)
     (sym c.is_some.ensures ∙ c.if-is_some.true) c.loop-index.invariant.same

@@ -1,7 +1,7 @@
 use Rattle.std.proofs.Common.{◌≡◌, ◌+◌, map, drop}
 use Rattle.desc_core.specs.UseConditions.{duplicate_assign_of}
-use Rattle.text_core.specs.Firsts.{first_found, numbered_from}
-use Rattle.desc_form.specs.inner.WrittenView.{invariant_view}
+use Rattle.text_core.specs.FirstMatch.{first_found, numbered_from}
+use Rattle.desc_form.specs.inner.RawView.{invariant_view}
 use Rattle.desc_core.proofs.names.duplicate_assign.Given as goal
 
 abbrev pub invariant-loop-index : goal.invariant-loop-index

@@ -1,8 +1,8 @@
 use Rattle.std.proofs.Common.{rules, option_map, ◌∙◌}
 use Rattle.std.specs.Str.{bytes_eq}
 use Rattle.desc_form.specs.Refusals.{refused_by}
-use Rattle.desc_form.specs.inner.WrittenView.{assign_view}
-use Rattle.desc_form.specs.Written.{WrittenAssign}
+use Rattle.desc_form.specs.inner.RawView.{assign_view}
+use Rattle.desc_form.specs.RawDescription.{RawAssign}
 use Rattle.desc_form.specs.declared.refusal.Place.TheVariants.{Assign}
 use Rattle.desc_form.specs.declared.refusal.Why.TheVariants.{DuplicateAssign}
 use Rattle.text_core.proofs.FirstPairLaws.{told_numbered}
@@ -11,6 +11,6 @@ use Rattle.desc_core.proofs.names.duplicate_in.Goals as goal
 
 pub returns : goal.returns
 returns c =
-    c.barred_assign.ensures
-    ∙ told_numbered (λ (a b : WrittenAssign). bytes_eq a.host b.host) assign_view (λ p. refused_by DuplicateAssign (Assign c.args.invariant p.later.number) p.earlier.number) c.args.assigns.now (option_map pair_seen c.first_pair-pair.result)
-    (c.first_pair-pair.ensures.exact (λ a b. bytes_eq a.host.now b.host.now) (λ later earlier answer post. search rules))
+    c.duplicate_assign_refusal.ensures
+    ∙ told_numbered (λ (a b : RawAssign). bytes_eq a.host b.host) assign_view (λ p. refused_by DuplicateAssign (Assign c.args.invariant p.later.number) p.earlier.number) c.args.assigns.now (option_map pair_seen c.first_conflict-pair.result)
+    (c.first_conflict-pair.ensures.exact (λ a b. bytes_eq a.host.now b.host.now) (λ later earlier answer post. search rules))

@@ -9,31 +9,31 @@ use Rattle.desc_core.proofs.ServicesWalk.{as_many_written}
 use Rattle.desc_core.specs.inner.KnownView.{known_view}
 use Rattle.desc_core.specs.inner.Parts.{bad_known, self_found}
 use Rattle.desc_core.specs.UseConditions.{duplicate_assign}
-use Rattle.desc_form.specs.inner.WrittenView.{written_view}
+use Rattle.desc_form.specs.inner.RawView.{raw_view}
 use Rattle.flow_set.specs.Flow.{IsFlow}
 use Rattle.text_core.proofs.FirstsLaws.{neither}
 use Rattle.desc_core.proofs.network.network_of_known.Goals as goal
 
 pub returns-in-Some : goal.returns-in-Some
 returns-in-Some c =
-    refused_before (written_view c.args.written.now) c.args.hosts (map known_view c.args.invariants.now) c.args.flows.now c.in-Some.refusal
+    refused_before (raw_view c.args.written.now) c.args.hosts (map known_view c.args.invariants.now) c.args.flows.now c.in-Some.refusal
     (record { same = c.requires.hosts; known = c.requires.known; found = c.requires.found }) (sym c.in_ok-refusal.ensures ∙ c.in-Some.is)
 
 pub asked_flows-requires-clause-flows : goal.asked_flows-requires-clause-flows
 asked_flows-requires-clause-flows c =
-    let w = written_view c.args.written.now in
+    let w = raw_view c.args.written.now in
     let parts = none_before (duplicate_assign w) (bad_known c.args.hosts (map known_view c.args.invariants.now)) (self_found c.args.flows.now) (sym c.in_ok-refusal.ensures ∙ c.in_default.is) in
     subst (λ (n : ℕ). All (IsFlow n) c.args.flows.now) (sym c.count.ensures.value) (are_flows c.args.hosts w.flows c.args.flows.now c.requires.found parts.1)
 
 pub returns-in_err-asked : goal.returns-in_err-asked
 returns-in_err-asked c =
     let p = err_from_is_err_and c.from_residual-in_err-asked.result c.from_residual-in_err-asked.ensures.1 in
-    rw (p.1, p.2) (asked_fails (written_view c.args.written.now) c.args.hosts (map known_view c.args.invariants.now) c.args.flows.now c.count.result c.in_err-asked.field-0.0
+    rw (p.1, p.2) (asked_fails (raw_view c.args.written.now) c.args.hosts (map known_view c.args.invariants.now) c.args.flows.now c.count.result c.in_err-asked.field-0.0
     (record { same = c.requires.hosts; known = c.requires.known; found = c.requires.found }) (sym c.in_ok-refusal.ensures ∙ c.in_default.is) c.in_err-asked.ensures)
 
 pub returns-in-Some-service_refusal : goal.returns-in-Some-service_refusal
 returns-in-Some-service_refusal c =
-    let w = written_view c.args.written.now in
+    let w = raw_view c.args.written.now in
     let ks = map known_view c.args.invariants.now in
     let before = sym c.in_ok-refusal.ensures ∙ c.in_default.is in
     let made = asked_made w c.args.hosts ks c.args.flows.now c.count.result c.in_ok-asked.asked
@@ -43,7 +43,7 @@ returns-in-Some-service_refusal c =
 
 pub returns-in-Some-template_refusal : goal.returns-in-Some-template_refusal
 returns-in-Some-template_refusal c =
-    let w = written_view c.args.written.now in
+    let w = raw_view c.args.written.now in
     let ks = map known_view c.args.invariants.now in
     let before = sym c.in_ok-refusal.ensures ∙ c.in_default.is in
     let made = asked_made w c.args.hosts ks c.args.flows.now c.count.result c.in_ok-asked.asked
@@ -54,14 +54,14 @@ returns-in-Some-template_refusal c =
 
 pub read_invariants-requires-clause-made : goal.read_invariants-requires-clause-made
 read_invariants-requires-clause-made c =
-    known_makeable (written_view c.args.written.now) c.args.hosts c.args.invariants.now (sym c.template_refusal.ensures ∙ c.in_default-template_refusal.is) c.requires.known
+    known_makeable (raw_view c.args.written.now) c.args.hosts c.args.invariants.now (sym c.template_refusal.ensures ∙ c.in_default-template_refusal.is) c.requires.known
 
 pub read_services-requires-clause-beside : goal.read_services-requires-clause-beside
 read_services-requires-clause-beside c = rw c.deref-2.ensures.value (as_many_written c.args.hosts c.args.written.now.flows.items c.args.flows.now c.requires.found)
 
 pub read_services-requires-clause-different : goal.read_services-requires-clause-different
 read_services-requires-clause-different c =
-    let w = written_view c.args.written.now in
+    let w = raw_view c.args.written.now in
     let ks = map known_view c.args.invariants.now in
     let before = sym c.in_ok-refusal.ensures ∙ c.in_default.is in
     let made = asked_made w c.args.hosts ks c.args.flows.now c.count.result c.in_ok-asked.asked
@@ -70,29 +70,29 @@ read_services-requires-clause-different c =
 
 pub read_services-requires-clause-few : goal.read_services-requires-clause-few
 read_services-requires-clause-few c =
-    let w = written_view c.args.written.now in
+    let w = raw_view c.args.written.now in
     let (_, few) = neither _ _ (sym (rw c.deref.ensures.value at c.service_refusal.ensures) ∙ c.in_default-service_refusal.is) in
     rw c.deref-2.ensures.value (all_few w.flows few)
 
 pub new-requires : goal.new-requires
 new-requires c =
-    let w = written_view c.args.written.now in
+    let w = raw_view c.args.written.now in
     let ks = map known_view c.args.invariants.now in
     let before = sym c.in_ok-refusal.ensures ∙ c.in_default.is in
     let made = asked_made w c.args.hosts ks c.args.flows.now c.count.result c.in_ok-asked.asked
     (record { same = c.requires.hosts; known = c.requires.known; found = c.requires.found }) before c.count.ensures.value c.in_ok-asked.ensures in
     (network_read w c.args.hosts ks c.args.flows.now c.in_ok-asked.asked c.in_ok-services.services c.in_ok-invariants.invariants.items
-    (record { same = c.requires.hosts; known = c.requires.known; found = c.requires.found }) c.requires.unrefused before made.0
+    (record { same = c.requires.hosts; known = c.requires.known; found = c.requires.found }) c.requires.no_refusal before made.0
     (sym (rw c.deref.ensures.value at c.service_refusal.ensures) ∙ c.in_default-service_refusal.is) (sym c.template_refusal.ensures ∙ c.in_default-template_refusal.is) made.1 (rw c.deref-2.ensures.value at c.in_ok-services.ensures) c.in_ok-invariants.ensures).0
 
 pub returns : goal.returns
 returns c =
-    let w = written_view c.args.written.now in
+    let w = raw_view c.args.written.now in
     let ks = map known_view c.args.invariants.now in
     let before = sym c.in_ok-refusal.ensures ∙ c.in_default.is in
     let made = asked_made w c.args.hosts ks c.args.flows.now c.count.result c.in_ok-asked.asked
     (record { same = c.requires.hosts; known = c.requires.known; found = c.requires.found }) before c.count.ensures.value c.in_ok-asked.ensures in
     rw c.new.ensures
     (network_read w c.args.hosts ks c.args.flows.now c.in_ok-asked.asked c.in_ok-services.services c.in_ok-invariants.invariants.items
-    (record { same = c.requires.hosts; known = c.requires.known; found = c.requires.found }) c.requires.unrefused before made.0
+    (record { same = c.requires.hosts; known = c.requires.known; found = c.requires.found }) c.requires.no_refusal before made.0
     (sym (rw c.deref.ensures.value at c.service_refusal.ensures) ∙ c.in_default-service_refusal.is) (sym c.template_refusal.ensures ∙ c.in_default-template_refusal.is) made.1 (rw c.deref-2.ensures.value at c.in_ok-services.ensures) c.in_ok-invariants.ensures).1

@@ -1,7 +1,7 @@
 use Rattle.std.proofs.Common.{◌≡◌, ◌+◌, map, drop}
 use Rattle.desc_core.specs.UseConditions.{bad_service_of}
-use Rattle.desc_form.specs.inner.WrittenView.{flow_view}
-use Rattle.text_core.specs.Firsts.{first_found, numbered_from}
+use Rattle.desc_form.specs.inner.RawView.{flow_view}
+use Rattle.text_core.specs.FirstMatch.{first_found, numbered_from}
 use Rattle.desc_core.proofs.services.bad_service.Given as goal
 
 abbrev pub invariant-loop-index : goal.invariant-loop-index

@@ -4,7 +4,7 @@ use Rattle.desc_form.specs.Refusals.{refused_item}
 use Rattle.desc_form.specs.declared.refusal.Place.TheVariants.{FlowAt}
 use Rattle.desc_form.specs.declared.refusal.Why.TheVariants.{BadService}
 use Rattle.host_net.specs.ServiceText.{service_of}
-use Rattle.text_core.specs.Firsts.{Numbered, numbered_from}
+use Rattle.text_core.specs.FirstMatch.{Numbered, numbered_from}
 use Rattle.desc_core.proofs.services.bad_service_in.Given as goal
 
 abbrev pub invariant-loop-index : goal.invariant-loop-index

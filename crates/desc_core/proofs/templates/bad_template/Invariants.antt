@@ -1,5 +1,5 @@
 use Rattle.std.proofs.Common.{◌≡◌, ◌+◌, [], map, drop, take}
-use Rattle.desc_form.specs.inner.WrittenView.{template_view}
+use Rattle.desc_form.specs.inner.RawView.{template_view}
 use Rattle.desc_core.specs.TemplateConditions.{first_bad}
 use Rattle.desc_core.proofs.templates.bad_template.Given as goal
 

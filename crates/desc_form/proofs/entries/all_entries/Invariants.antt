@@ -1,8 +1,8 @@
 use Rattle.std.proofs.Common.{◌≡◌, ◌+◌, ◌++◌, map, drop}
 use Rattle.std.specs.Prelude.{flat_map}
-use Rattle.text_core.specs.Firsts.{numbered_from}
+use Rattle.text_core.specs.FirstMatch.{numbered_from}
 use Rattle.desc_form.specs.HostConditions.{entries_of}
-use Rattle.desc_form.specs.inner.WrittenView.{host_view}
+use Rattle.desc_form.specs.inner.RawView.{host_view}
 use Rattle.desc_form.specs.inner.EntryView.{entry_view}
 use Rattle.desc_form.proofs.entries.all_entries.Given as goal
 

@@ -1,5 +1,5 @@
 use Rattle.std.proofs.Common.{◌≡◌, ◌+◌, ◌++◌, map, drop, Bor, List, ℕ}
-use Rattle.text_core.specs.Firsts.{numbered_from}
+use Rattle.text_core.specs.FirstMatch.{numbered_from}
 use Rattle.desc_form.specs.inner.EntryView.{entries_at, entry_at, entry_view}
 use Rattle.desc_form.proofs.entries.push_entries.Given as goal
 

@@ -2,7 +2,7 @@ use Rattle.std.proofs.Common.{◌≡◌, ℕ, ◌≤◌, ◌-◌, List, [], ◌�
 use Rattle.std.proofs.lemmas.List.{length-map}
 use Rattle.toml.specs.View.{view}
 use Rattle.desc_form.proofs.FlowLaws.{values_say, values_short, values_no_texts}
-use Rattle.desc_form.specs.WrittenFlow.{WrittenFlow, flow_of_values}
+use Rattle.desc_form.specs.RawFlow.{RawFlow, flow_of_values}
 use Rattle.desc_form.proofs.flows.flow_of.Goals as goal
 
 pub returns-in_default : goal.returns-in_default
@@ -32,7 +32,7 @@ returns-then-not-are_texts c =
     ∙ values_no_texts (view c.first-item.result) (view c.second-item.result) behind c.in-Some-Some.from.now c.in-Some-Some.to.now
     (sym c.in-Some-Some.ensures) (sym c.in-Some-Some.ensures') (sym c.if-not-are_texts.ensures))
 
-abbrev flow : List ℕ → List ℕ → List (List ℕ) → Option WrittenFlow
+abbrev flow : List ℕ → List ℕ → List (List ℕ) → Option RawFlow
 flow from to services = Some (record { from = from; to = to; services = services })
 
 pub returns : goal.returns

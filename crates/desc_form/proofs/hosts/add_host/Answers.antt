@@ -1,6 +1,6 @@
 use Rattle.host_net.proofs.HostsKept.{welcome}
-use Rattle.desc_form.specs.inner.WrittenView.{host_view}
-use Rattle.desc_form.specs.WrittenHosts.{network_host}
+use Rattle.desc_form.specs.inner.RawView.{host_view}
+use Rattle.desc_form.specs.RawHosts.{network_host}
 use Rattle.desc_form.proofs.hosts.add_host.Goals as goal
 
 pub of-requires : goal.of-requires

@@ -1,26 +1,26 @@
 use Rattle.std.proofs.Common.{◌≡◌, ◌<◌, ◌++◌, ◌∷◌, ℕ, suc, None, append-nil, get_or, length, List, map, drop, sym, ap, subst, ◌∙◌}
 use Rattle.std.proofs.Math.ListN.{drop_of_length-le}
-use Rattle.text_core.specs.Firsts.{first_of}
-use Rattle.desc_form.specs.inner.WrittenView.{host_view, written_view}
-use Rattle.desc_form.specs.declared.written.Written.{Written}
-use Rattle.desc_form.specs.declared.written.WrittenHost.{WrittenHost}
+use Rattle.text_core.specs.FirstMatch.{first_of}
+use Rattle.desc_form.specs.inner.RawView.{host_view, raw_view}
+use Rattle.desc_form.specs.declared.raw.RawDescription.{RawDescription}
+use Rattle.desc_form.specs.declared.raw.RawHost.{RawHost}
 use Rattle.host_net.specs.Host.{Host}
 use Rattle.host_net.specs.inner.Hosts.{IsHosts}
 use Rattle.desc_form.specs.HostConditions.{host_conditions}
 use Rattle.desc_form.proofs.HostsLaws.{IsHosts-network_hosts}
-use Rattle.desc_form.specs.WrittenHosts.{network_host, network_hosts}
+use Rattle.desc_form.specs.RawHosts.{network_host, network_hosts}
 use Rattle.desc_form.proofs.AddingLemmas.{known_here}
 use Rattle.host_net.proofs.AcceptedLaws.{accepted, networks_of}
 use Rattle.desc_form.proofs.hosts.read_hosts.Goals as goal
 
 -- The hosts added so far, the next one and the remaining ones.
-known_next : (w : Written) (hosts : List Host) (xs : List WrittenHost) (i : ℕ) (x : WrittenHost) → first_of (host_conditions (written_view w)) ≡ None → xs ≡ w.hosts.items
+known_next : (w : RawDescription) (hosts : List Host) (xs : List RawHost) (i : ℕ) (x : RawHost) → first_of (host_conditions (raw_view w)) ≡ None → xs ≡ w.hosts.items
     → i < length xs → x ≡ get_or xs i x → hosts ++ map network_host (map host_view (drop i xs)) ≡ map network_host (map host_view xs)
     → IsHosts (hosts ++ network_host (host_view x) ∷ map network_host (map host_view (drop (suc i) xs)))
 unfolding network_hosts
-known_next w hosts xs i x unrefused listed within e grown =
+known_next w hosts xs i x no_refusal listed within e grown =
     known_here network_host host_view hosts xs i x within e grown
-    (subst (λ (hs : List WrittenHost). IsHosts (map network_host (map host_view hs))) (sym listed) (IsHosts-network_hosts (written_view w) unrefused))
+    (subst (λ (hs : List RawHost). IsHosts (map network_host (map host_view hs))) (sym listed) (IsHosts-network_hosts (raw_view w) no_refusal))
 
 pub add_host-requires-clause-networks : goal.add_host-requires-clause-networks
 add_host-requires-clause-networks c =
@@ -38,6 +38,6 @@ pub returns : goal.returns
 unfolding network_hosts
 returns c =
     sym (append-nil c.loop-host.hosts)
-    ∙ ap (λ (hs : List WrittenHost). c.loop-host.hosts ++ map network_host (map host_view hs)) (sym (drop_of_length-le c.deref-host-items.result.now c.loop-host-test.false))
+    ∙ ap (λ (hs : List RawHost). c.loop-host.hosts ++ map network_host (map host_view hs)) (sym (drop_of_length-le c.deref-host-items.result.now c.loop-host-test.false))
     ∙ c.loop-host.invariant.grown
-    ∙ ap (λ (hs : List WrittenHost). map network_host (map host_view hs)) c.deref-host-items.ensures.value
+    ∙ ap (λ (hs : List RawHost). map network_host (map host_view hs)) c.deref-host-items.ensures.value

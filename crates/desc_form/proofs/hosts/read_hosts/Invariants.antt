@@ -1,6 +1,6 @@
 use Rattle.std.proofs.Common.{◌≡◌, ◌++◌, map, drop}
-use Rattle.desc_form.specs.inner.WrittenView.{host_view}
-use Rattle.desc_form.specs.WrittenHosts.{network_host}
+use Rattle.desc_form.specs.inner.RawView.{host_view}
+use Rattle.desc_form.specs.RawHosts.{network_host}
 use Rattle.desc_form.proofs.hosts.read_hosts.Given as goal
 
 abbrev pub invariant-loop-host : goal.invariant-loop-host

@@ -1,7 +1,7 @@
 use Rattle.std.proofs.Common.{◌≡◌, ◌+◌, map, drop}
 use Rattle.std.specs.List.{flat_map}
-use Rattle.text_core.specs.Firsts.{numbered_from}
-use Rattle.desc_form.specs.inner.WrittenView.{flow_view}
+use Rattle.text_core.specs.FirstMatch.{numbered_from}
+use Rattle.desc_form.specs.inner.RawView.{flow_view}
 use Rattle.desc_form.specs.HostConditions.{bad_name}
 use Rattle.desc_form.specs.Mentions.{flow_names_of}
 use Rattle.desc_form.proofs.names.bad_flow_name.Given as goal

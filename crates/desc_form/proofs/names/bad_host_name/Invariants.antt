@@ -1,8 +1,8 @@
 use Rattle.std.proofs.Common.{◌≡◌, ◌+◌, map, drop}
-use Rattle.text_core.specs.Firsts.{numbered_from}
-use Rattle.desc_form.specs.inner.WrittenView.{host_view}
+use Rattle.text_core.specs.FirstMatch.{numbered_from}
+use Rattle.desc_form.specs.inner.RawView.{host_view}
 use Rattle.desc_form.specs.HostConditions.{bad_name}
-use Rattle.desc_form.specs.inner.MentionView.{host_name}
+use Rattle.desc_form.specs.inner.NameUseView.{host_name}
 use Rattle.desc_form.proofs.names.bad_host_name.Given as goal
 
 abbrev pub invariant-loop-index : goal.invariant-loop-index

@@ -1,8 +1,8 @@
 use Rattle.std.proofs.Common.{◌≡◌, ◌+◌, map, drop}
-use Rattle.text_core.specs.Firsts.{numbered_from}
-use Rattle.desc_form.specs.inner.WrittenView.{assign_view}
+use Rattle.text_core.specs.FirstMatch.{numbered_from}
+use Rattle.desc_form.specs.inner.RawView.{assign_view}
 use Rattle.desc_form.specs.HostConditions.{bad_name}
-use Rattle.desc_form.specs.inner.MentionView.{assign_name}
+use Rattle.desc_form.specs.inner.NameUseView.{assign_name}
 use Rattle.desc_form.proofs.names.bad_name_among.Given as goal
 
 abbrev pub invariant-loop-index : goal.invariant-loop-index

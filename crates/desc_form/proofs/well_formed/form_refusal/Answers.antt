@@ -1,5 +1,5 @@
 use Rattle.toml.specs.View.{table_view}
-use Rattle.desc_form.proofs.WrittenLaws.{formed}
+use Rattle.desc_form.proofs.RawDescriptionLaws.{formed}
 use Rattle.desc_form.proofs.well_formed.form_refusal.Goals as goal
 
 pub returns-clause-formed : goal.returns-clause-formed

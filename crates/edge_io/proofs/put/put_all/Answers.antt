@@ -11,6 +11,6 @@ loop-done-preserved g c =
     record {
       within = omega (arith, c.in-Ok.ensures.within, length-drop done piece);
       taken = took_more _ _ _ done c.in-Ok.count piece _ (take_all _ _ (omega (arith, length-drop done piece))) c.loop-done.invariant.taken c.in-Ok.ensures.took;
-      faults_stay = omega (arith, c.in-Ok.ensures.faults_stay, c.loop-done.invariant.faults_stay);
+      faults_monotone = omega (arith, c.in-Ok.ensures.faults_monotone, c.loop-done.invariant.faults_monotone);
       no_fault = λ counts. counts _ _ _ _ c.in-Ok.ensures.gives ∙ c.loop-done.invariant.no_fault counts;
     }

@@ -8,7 +8,7 @@ abbrev pub invariant-loop-done : goal.invariant-loop-done
 invariant-loop-done g l = record {
   within : l.done ≤ length l.piece;
   taken : g.O.Sink.held l.sink ≡ append_known (g.O.Sink.held l.fn.sink) (take l.done l.piece);
-  faults_stay : g.O.Sink.faults l.fn.sink ≤ g.O.Sink.faults l.sink;
+  faults_monotone : g.O.Sink.faults l.fn.sink ≤ g.O.Sink.faults l.sink;
   no_fault : CountsOnlyFailures g.O.Sink.faults g.O.Sink.write_gives → g.O.Sink.faults l.sink ≡ g.O.Sink.faults l.fn.sink;
 }
 

@@ -8,6 +8,6 @@ use Rattle.edge_io.proofs.put.put_pieces.Given as goal
 abbrev pub invariant-loop-piece : goal.invariant-loop-piece
 invariant-loop-piece g l = record {
   taken : g.O.Sink.held l.sink ≡ append_known (g.O.Sink.held l.fn.sink) (joined (take l.piece-index l.pieces));
-  faults_stay : g.O.Sink.faults l.fn.sink ≤ g.O.Sink.faults l.sink;
+  faults_monotone : g.O.Sink.faults l.fn.sink ≤ g.O.Sink.faults l.sink;
   no_fault : CountsOnlyFailures g.O.Sink.faults g.O.Sink.write_gives → g.O.Sink.faults l.sink ≡ g.O.Sink.faults l.fn.sink;
 }

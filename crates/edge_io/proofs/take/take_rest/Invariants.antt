@@ -6,9 +6,9 @@ use Rattle.edge_io.proofs.take.take_rest.Given as goal
 
 abbrev pub invariant-loop-bytes : goal.invariant-loop-bytes
 invariant-loop-bytes g l = record {
-  same_files : g.H.Shelf.files l.shelf ≡ g.H.Shelf.files l.fn.shelf;
-  same_begins : g.H.Shelf.begins l.shelf ≡ g.H.Shelf.begins l.fn.shelf;
-  faults_stay : g.H.Shelf.faults l.fn.shelf ≤ g.H.Shelf.faults l.shelf;
+  files_unchanged : g.H.Shelf.files l.shelf ≡ g.H.Shelf.files l.fn.shelf;
+  opens_unchanged : g.H.Shelf.begins l.shelf ≡ g.H.Shelf.begins l.fn.shelf;
+  faults_monotone : g.H.Shelf.faults l.fn.shelf ≤ g.H.Shelf.faults l.shelf;
   no_fault : ShelfCountsOnlyFailures g.H.Shelf → g.H.Shelf.faults l.shelf ≡ g.H.Shelf.faults l.fn.shelf;
   begun : IsTrue (g.H.Shelf.begun l.shelf);
   count : vec_len l.bytes ≡ g.H.Shelf.taken l.shelf;

@@ -1,5 +1,5 @@
 use Rattle.std.proofs.Common.{Bor, List, Ok, codes, map, option_map, sym, ap, ◌∙◌}
-use Rattle.desc_form.specs.Written.{text_in}
+use Rattle.desc_form.specs.RawDescription.{text_in}
 use Rattle.toml.specs.Data.{Data}
 use Rattle.toml.specs.View.{table_view, view}
 use Rattle.toml.specs.declared.value.Value.{Value}

@@ -1,7 +1,7 @@
 use Rattle.std.proofs.Common.{◌∙◌, ap, Bool, List}
 use Rattle.host_net.specs.declared.service.Service.{Service}
 use Rattle.host_net.specs.Services.{services_of}
-use Rattle.emit_core.specs.Sides.{permits}
+use Rattle.emit_core.specs.Directions.{permits}
 use Rattle.emit_core.specs.FlowTable.{host_pair}
 use Rattle.emit_core.specs.inner.KeptEntries.{with_entries}
 use Rattle.emit_core.proofs.HostSteps.{grow_host}

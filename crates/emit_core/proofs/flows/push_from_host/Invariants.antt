@@ -1,7 +1,7 @@
 use Rattle.std.proofs.Common.{◌≡◌, ℕ, List, drop}
 use Rattle.host_net.specs.declared.prefix.Prefix.{Prefix}
 use Rattle.host_net.specs.Services.{services_of}
-use Rattle.emit_core.specs.Sides.{permits}
+use Rattle.emit_core.specs.Directions.{permits}
 use Rattle.emit_core.specs.FlowTable.{for_each_host, host_pair}
 use Rattle.emit_core.specs.inner.KeptEntries.{with_entries}
 use Rattle.emit_core.proofs.flows.push_from_host.Given as goal

@@ -1,7 +1,7 @@
 use Rattle.std.proofs.Common.{◌∙◌, ap, arith, length}
 use Rattle.std.specs.List.{list_all}
 use Rattle.ipt_rules.specs.inner.RuleParts.{is_rule}
-use Rattle.emit_core.specs.declared.side.Side.TheVariants.{Sending}
+use Rattle.emit_core.specs.declared.direction.Direction.TheVariants.{Outbound}
 use Rattle.emit_core.proofs.FewRulesLaws.{few_host_rules}
 use Rattle.emit_core.proofs.LayoutLaws.{length-chains_up_to}
 use Rattle.emit_core.proofs.LayoutRulesLaws.{host_rules_are}
@@ -12,7 +12,7 @@ use Rattle.emit_core.proofs.iptables.add_host_chain.Goals as goal
 pub overflow_cast-made : goal.overflow_cast-made
 overflow_cast-made c =
     let all = c.len.ensures ∙ c.in_ok-rules.rules.ok.0 ∙ ap length c.in_ok-rules.ensures in
-    omega (arith, all, few_host_rules Sending c.args.policy.now.site c.args.policy.now.permitted c.args.policy.now.stateful c.args.host c.requires.site)
+    omega (arith, all, few_host_rules Outbound c.args.policy.now.site c.args.policy.now.permitted c.args.policy.now.stateful c.args.host c.requires.site)
 
 pub overflow_add-made : goal.overflow_add-made
 overflow_add-made c =
@@ -45,7 +45,7 @@ add_chain-requires-clause-few_chains c =
 pub add_chain-requires-clause-parts : goal.add_chain-requires-clause-parts
 add_chain-requires-clause-parts c =
     ap (list_all is_rule) (c.deref.ensures.value ∙ c.in_ok-rules.ensures)
-    ∙ host_rules_are Sending c.args.policy.now.site c.args.policy.now.permitted c.args.policy.now.stateful c.args.host c.requires.site.services
+    ∙ host_rules_are Outbound c.args.policy.now.site c.args.policy.now.permitted c.args.policy.now.stateful c.args.host c.requires.site.services
 
 pub returns-then-made-gt-RULE_LIMIT : goal.returns-then-made-gt-RULE_LIMIT
 returns-then-made-gt-RULE_LIMIT c =

@@ -1,8 +1,8 @@
 use Rattle.std.proofs.Common.{◌∙◌, sym, ap, subst, arith}
-use Rattle.pkt_core.specs.Filter.{Enforces, ForwardsExpected}
+use Rattle.pkt_core.specs.Filter.{Enforces, ForwardsAsExpected}
 use Rattle.ipt_rules.specs.inner.Build.{refusal_of}
-use Rattle.ipt_rules.specs.Loops.{HasNoLoop}
-use Rattle.ipt_rules.specs.Meaning.{Passes}
+use Rattle.ipt_rules.specs.Loops.{IsAcyclic}
+use Rattle.ipt_rules.specs.Semantics.{Passes}
 use Rattle.emit_core.proofs.ForwardingLaws.{layout_enforces, layout_expected}
 use Rattle.emit_core.proofs.LayoutLaws.{layout_accepted, layout_no_loop}
 use Rattle.emit_core.proofs.iptables.iptables_layout.Goals as goal
@@ -14,9 +14,9 @@ build_accepted-requires-clause-accepted c =
     ap refusal_of (c.in-Ok.ensures.counted.kept few)
     ∙ layout_accepted c.args.policy.now.site c.args.policy.now.permitted c.args.policy.now.stateful c.in-Ok.ensures.policy.site.services (omega (arith, hosts.few)) (omega (arith, few, c.in-Ok.ensures.counted.counted))
 
-pub build_accepted-requires-clause-no_loop : goal.build_accepted-requires-clause-no_loop
-build_accepted-requires-clause-no_loop c =
-    subst HasNoLoop (sym (c.in-Ok.ensures.counted.kept c.if-count-gt-RULE_LIMIT.false))
+pub build_accepted-requires-clause-acyclic : goal.build_accepted-requires-clause-acyclic
+build_accepted-requires-clause-acyclic c =
+    subst IsAcyclic (sym (c.in-Ok.ensures.counted.kept c.if-count-gt-RULE_LIMIT.false))
     (layout_no_loop c.args.policy.now.site c.args.policy.now.permitted c.args.policy.now.stateful c.in-Ok.ensures.policy.site.services)
 
 pub returns-in-Ok-build_accepted-clause-enforces : goal.returns-in-Ok-build_accepted-clause-enforces
@@ -28,5 +28,5 @@ returns-in-Ok-build_accepted-clause-enforces c =
 pub returns-in-Ok-build_accepted-clause-expected : goal.returns-in-Ok-build_accepted-clause-expected
 returns-in-Ok-build_accepted-clause-expected c =
     let policy = c.args.policy.now in
-    subst (λ chains. ForwardsExpected (Passes chains) policy.site policy.permitted policy.stateful) (sym (c.in-Ok-build_accepted.ensures ∙ c.in-Ok.ensures.counted.kept c.if-count-gt-RULE_LIMIT.false))
+    subst (λ chains. ForwardsAsExpected (Passes chains) policy.site policy.permitted policy.stateful) (sym (c.in-Ok-build_accepted.ensures ∙ c.in-Ok.ensures.counted.kept c.if-count-gt-RULE_LIMIT.false))
     (layout_expected policy.site policy.permitted policy.stateful c.in-Ok.ensures.policy.site.hosts c.in-Ok.ensures.policy.within)

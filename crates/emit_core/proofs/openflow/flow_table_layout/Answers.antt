@@ -28,8 +28,8 @@ memory_alone site p entries count (Ambiguous i j) known plain is all few refused
     absurd (subst (λ (es : List Entry). IsRefused es (Ambiguous i j) → ⊥) (sym is) (λ bad. unambiguous site p known plain i j bad.1.ambiguous) refused)
 memory_alone site p entries count Memory known plain is all few refused = refl
 
-pub out_of_memory-requires : goal.out_of_memory-requires
-out_of_memory-requires c =
+pub alloc_error-requires : goal.alloc_error-requires
+alloc_error-requires c =
     memory_alone c.args.policy.now.site c.args.policy.now.permitted c.into_kept.result.items c.count-count-2.result c.in-Err.why
     c.count-count.ensures.policy.site c.in_default.ensures
     (c.into_kept.ensures ∙ c.in-Ok.ensures.kept (omega (arith, c.count-count-2.ensures, c.if-count-gt-ENTRY_LIMIT.false)))

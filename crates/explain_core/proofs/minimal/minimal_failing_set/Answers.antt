@@ -4,7 +4,7 @@ use Rattle.flow_set.specs.declared.flow.Flow.{Flow}
 use Rattle.flow_set.specs.Flow.{IsFlow}
 use Rattle.flow_set.specs.FlowSet.{SetOfFlows, has, with_flow}
 use Rattle.flow_set.specs.inner.FlowSetView.{IsFlowSet}
-use Rattle.flow_set.specs.inner.Downward.{IsDownward, IsEdgeWise}
+use Rattle.flow_set.specs.inner.Downward.{IsDownwardClosed, IsEdgeWise}
 use Rattle.flow_set.specs.laws.FlowLaws.{has_first, has-with_flow}
 use Rattle.flow_set.proofs.SubsetLaws.{IsFlowSet-subset, IsFlowSet-with_flow}
 use Rattle.std.proofs.lemmas.Bool.{or_right}
@@ -20,7 +20,7 @@ loop-rest-init g c =
     let f = c.args.f in
     let first : c.insert.new.self.flows ≡ f ∷ [] =
     ap (λ (s : SetOfFlows). s.flows) c.insert.ensures.set ∙ ap (λ (s : SetOfFlows). with_flow s.flows f) c.in_ok-needed.ensures in
-    let downward : IsDownward e.size Holds = subst (λ n. IsDownward n Holds) (sym c.requires.size) (g.met.I.Invariant.downward c.args.inv.now) in
+    let downward : IsDownwardClosed e.size Holds = subst (λ n. IsDownwardClosed n Holds) (sym c.requires.size) (g.met.I.Invariant.downward c.args.inv.now) in
     record {
       needed_size = ap (λ (s : SetOfFlows). s.size) c.insert.ensures.set ∙ ap (λ (s : SetOfFlows). s.size) c.in_ok-needed.ensures ∙ c.size.ensures.size;
       rest_size = ap (λ (s : SetOfFlows). s.size) c.in_ok-rest.ensures.same;
@@ -45,7 +45,7 @@ loop-rest-preserved g c =
     let Holds = g.I.Invariant.holds_on c.args.inv.now in
     let e : SetOfFlows = c.args.e.now in
     let next = c.in-Some.found.flow in
-    let downward : IsDownward e.size Holds = subst (λ n. IsDownward n Holds) (sym c.requires.size) (g.met.I.Invariant.downward c.args.inv.now) in
+    let downward : IsDownwardClosed e.size Holds = subst (λ n. IsDownwardClosed n Holds) (sym c.requires.size) (g.met.I.Invariant.downward c.args.inv.now) in
     let put : c.insert-in-Some.new.self.flows ≡ with_flow c.loop-rest.needed.flows next = ap (λ (s : SetOfFlows). s.flows) c.insert-in-Some.ensures.set in
     record {
       needed_size = ap (λ (s : SetOfFlows). s.size) c.insert-in-Some.ensures.set ∙ c.loop-rest.invariant.needed_size;

@@ -4,7 +4,7 @@ use Rattle.std.proofs.lemmas.List.Sums.{fold_push}
 use Rattle.flow_set.specs.declared.flow.Flow.{Flow}
 use Rattle.flow_set.specs.Flow.{IsFlow}
 use Rattle.flow_set.specs.FlowSet.{SetOfFlows, IsOrdered, with_flow}
-use Rattle.flow_set.specs.inner.Steps.{TriedFlows}
+use Rattle.flow_set.specs.inner.Steps.{UndoableFlows}
 use Rattle.flow_set.specs.laws.FlowLaws.{front_before, has_first, with_flow-last}
 use Rattle.flow_set.specs.laws.WalkLaws.{walk_next, walk_member}
 use Rattle.explain_core.proofs.transitions.next_transition.Goals as goal
@@ -41,8 +41,8 @@ loop-flow-preserved g c =
     let more : with_flow (fold with_flow needed so_far) f ≡ fold with_flow needed (so_far ++ f ∷ []) =
     sym (fold_push with_flow needed so_far f) in
     let tried : (g.I.Tried.Trial.tried c.step.new.tried).flows ≡ with_flow (fold with_flow needed so_far) f =
-    ap (λ (t : TriedFlows). t.flows) c.step.ensures.stepped
-    ∙ ap (λ (t : TriedFlows). with_flow t.flows f) c.holds_with.ensures.again
+    ap (λ (t : UndoableFlows). t.flows) c.step.ensures.stepped
+    ∙ ap (λ (t : UndoableFlows). with_flow t.flows f) c.holds_with.ensures.again
     ∙ ap (λ fs. with_flow fs f) c.loop-flow.invariant.flows in
     record {
       walk = walk_next so_far c.loop-flow.flow-iterator c.next.new.self c.args.rest.now.flows f c.loop-flow.invariant.walk c.in-Some.ensures.steps;

@@ -1,8 +1,8 @@
 use Rattle.std.proofs.Common.{◌∙◌, sym, ap, subst}
 use Rattle.std.proofs.lemmas.Result.{IfOk-weaker}
 use Rattle.ipt_rules.specs.inner.Build.{refusal_of}
-use Rattle.ipt_rules.specs.Loops.{HasNoLoop}
-use Rattle.host_emit.specs.Guarding.{Guards}
+use Rattle.ipt_rules.specs.Loops.{IsAcyclic}
+use Rattle.host_emit.specs.HostEnforcement.{EnforcesAtHost}
 use Rattle.host_emit.proofs.GuardingLaws.{layout_guards}
 use Rattle.host_emit.proofs.LocalEventsLaws.{layouts_expected}
 use Rattle.host_emit.proofs.LocalLayoutLaws.{local_accepted, local_no_loop}
@@ -13,15 +13,15 @@ build_accepted-requires-clause-accepted c =
     ap refusal_of c.in_ok-chains.ensures.layout
     ∙ local_accepted c.args.policy.now.site c.args.policy.now.permitted c.args.policy.now.stateful c.args.host c.in_ok-chains.ensures.policy.site
 
-pub build_accepted-requires-clause-no_loop : goal.build_accepted-requires-clause-no_loop
-build_accepted-requires-clause-no_loop c =
-    subst HasNoLoop (sym c.in_ok-chains.ensures.layout) (local_no_loop c.args.policy.now.site c.args.policy.now.permitted c.args.policy.now.stateful c.args.host c.in_ok-chains.ensures.policy.site)
+pub build_accepted-requires-clause-acyclic : goal.build_accepted-requires-clause-acyclic
+build_accepted-requires-clause-acyclic c =
+    subst IsAcyclic (sym c.in_ok-chains.ensures.layout) (local_no_loop c.args.policy.now.site c.args.policy.now.permitted c.args.policy.now.stateful c.args.host c.in_ok-chains.ensures.policy.site)
 
-pub returns-clause-guards : goal.returns-clause-guards
-returns-clause-guards c =
+pub returns-clause-enforces_at_host : goal.returns-clause-enforces_at_host
+returns-clause-enforces_at_host c =
     let policy = c.args.policy.now in
     IfOk-weaker c.build_accepted.result _ _
-    (λ rules is. subst (λ chains. Guards chains policy.site policy.permitted policy.stateful c.args.host) (sym (is ∙ c.in_ok-chains.ensures.layout)) (layout_guards policy.site policy.permitted policy.stateful c.args.host c.in_ok-chains.ensures.policy.site.hosts))
+    (λ rules is. subst (λ chains. EnforcesAtHost chains policy.site policy.permitted policy.stateful c.args.host) (sym (is ∙ c.in_ok-chains.ensures.layout)) (layout_guards policy.site policy.permitted policy.stateful c.args.host c.in_ok-chains.ensures.policy.site.hosts))
     c.build_accepted.ensures
 
 pub returns-clause-passes : goal.returns-clause-passes

@@ -2,7 +2,7 @@ use Rattle.std.proofs.Common.{◌≡◌, ◌⊎◌, inl, inr, ap, arith, rules, 
 use Rattle.text_core.proofs.LinesLaws.{length-lines}
 use Rattle.ipt_read.specs.declared.stage.Stage.{Stage as HeldStage}
 use Rattle.ipt_read.specs.declared.stage.Stage.TheVariants as held
-use Rattle.ipt_read.specs.Said.{After}
+use Rattle.ipt_read.specs.ParserStates.{After}
 use Rattle.ipt_read.specs.inner.ReaderView.{stage_of}
 use Rattle.ipt_read.specs.inner.State.{said_of}
 use Rattle.ipt_read.proofs.TextLaws.{ends_early}
@@ -19,5 +19,5 @@ pub returns-in-Front : goal.returns-in-Front
 returns-in-Front c = record {
   found = tt;
   refused = ends_early c.args.bytes.now (said_of c.args.reader) _ c.requires.through (is_early c.args.reader.stage c.in-Front.is) (search (rules, tests));
-  one_outcome = tt;
+  deterministic = tt;
 }

@@ -6,7 +6,7 @@ use Rattle.ipt_rules.specs.Matching.{matches}
 use Rattle.ipt_rules.proofs.MeetWalkLemmas.{all_at_end, all_past, along_behind, along_first, along_past, asks_to_mark, decides_at, gives_at_end, marks_next, only_next, returns_at_rule, stands_in}
 use Rattle.ipt_rules.proofs.NextLemmas.{chain_few}
 use Rattle.ipt_rules.proofs.meet_walk.meet_along.Goals as goal
-use Rattle.ipt_rules.proofs.meet_walk.meet_along.Goals.{in-GoesOn, in-Walks+else-not-returns_at}
+use Rattle.ipt_rules.proofs.meet_walk.meet_along.Goals.{in-Continues, in-JumpsTo+else-not-is_known_to_return}
 
 pub loop-at-init : goal.loop-at-init
 loop-at-init c = record {
@@ -87,8 +87,8 @@ returns-in-Returns-clause-stops c = λ p inside.
     let step = c.in-Returns.ensures.alike p inside in
     (returns_at_rule fits c.args.chains.now chain c.loop-at.at rule stands c.args.met.now c.loop-at.met c.meet_rule.new.met c.loop-at.invariant.marks put so_far step, all_at_end fits c.args.chains.now chain c.loop-at.at rule stands c.args.met.now c.loop-at.met c.meet_rule.new.met c.loop-at.invariant.marks put so_far None step)
 
-pub returns-then-not-returns_at-clause-marks : goal.returns-then-not-returns_at-clause-marks
-returns-then-not-returns_at-clause-marks c =
+pub returns-then-not-is_known_to_return-clause-marks : goal.returns-then-not-is_known_to_return-clause-marks
+returns-then-not-is_known_to_return-clause-marks c =
     let same = ap length c.rules_of-rules.ensures in
     let long = c.loop-at.invariant.marks c.args.walk.chain in
     let low : c.loop-at.at < length (marks_of c.loop-at.met c.args.walk.chain) = omega (arith, same, long, c.loop-at-test.true) in
@@ -96,8 +96,8 @@ returns-then-not-returns_at-clause-marks c =
     let inside = own_least c.meet_rule.new.within c.meet_rule.ensures.part.is_box in
     marks_next c.args.chains.now c.loop-at.met c.meet_rule.new.met (record { chain = c.args.walk.chain; rule = c.loop-at.at }) (matches p c.args.state c.index-rules-at.result) c.loop-at.invariant.marks low (c.meet_rule.ensures.marked p inside)
 
-pub returns-then-not-returns_at-clause-only : goal.returns-then-not-returns_at-clause-only
-returns-then-not-returns_at-clause-only c = λ p inside.
+pub returns-then-not-is_known_to_return-clause-only : goal.returns-then-not-is_known_to_return-clause-only
+returns-then-not-is_known_to_return-clause-only c = λ p inside.
     let fits = matches p c.args.state in
     let chain = c.args.walk.chain in
     let rule = c.index-rules-at.result in
@@ -106,8 +106,8 @@ returns-then-not-returns_at-clause-only c = λ p inside.
     let put = c.meet_rule.ensures.marked p inside in
     only_next fits c.args.chains.now chain c.loop-at.at rule stands c.args.met.now c.loop-at.met c.meet_rule.new.met c.loop-at.invariant.marks put so_far
 
-pub returns-then-not-returns_at-clause-stops : goal.returns-then-not-returns_at-clause-stops
-returns-then-not-returns_at-clause-stops c = λ p inside.
+pub returns-then-not-is_known_to_return-clause-stops : goal.returns-then-not-is_known_to_return-clause-stops
+returns-then-not-is_known_to_return-clause-stops c = λ p inside.
     let fits = matches p c.args.state in
     let chain = c.args.walk.chain in
     let rule = c.index-rules-at.result in
@@ -115,8 +115,8 @@ returns-then-not-returns_at-clause-stops c = λ p inside.
     let so_far = c.loop-at.invariant.along p (narrows_in c.loop-at.within c.meet_rule.new.within p c.meet_rule.ensures.part inside) in
     let put = c.meet_rule.ensures.marked p inside in
     let old = narrows_in c.args.within.now c.meet_rule.new.within p (narrows_then c.args.within.now c.loop-at.within c.meet_rule.new.within c.loop-at.invariant.narrows c.meet_rule.ensures.part) inside in
-    asks_to_mark fits c.args.chains.now chain c.loop-at.at rule stands c.args.met.now c.loop-at.met c.meet_rule.new.met c.loop-at.invariant.marks put so_far c.args.returning.now c.in-Walks.chain (c.in-Walks.ensures.alike p inside) (c.requires.walk p old).there
-    (sym c.returns_at.ensures ∙ c.if-not-returns_at.true)
+    asks_to_mark fits c.args.chains.now chain c.loop-at.at rule stands c.args.met.now c.loop-at.met c.meet_rule.new.met c.loop-at.invariant.marks put so_far c.args.known_to_return.now c.in-JumpsTo.chain (c.in-JumpsTo.ensures.alike p inside) (c.requires.walk p old).there
+    (sym c.is_known_to_return.ensures ∙ c.if-not-is_known_to_return.true)
 
 pub loop-at-preserved : goal.loop-at-preserved
 loop-at-preserved c =
@@ -138,12 +138,12 @@ loop-at-preserved c =
           let so_far = c.loop-at.invariant.along p (narrows_in c.loop-at.within c.meet_rule.new.within p c.meet_rule.ensures.part inside) in
           let put = c.meet_rule.ensures.marked p inside in
           elim c.match-meet_rule.branch [
-            | in-GoesOn w ↦ along_past fits c.args.chains.now chain c.loop-at.at rule stands c.args.met.now c.loop-at.met c.meet_rule.new.met c.loop-at.invariant.marks put so_far (w.in-GoesOn.ensures.alike p inside)
-            | in-Walks+else-not-returns_at w ↦
+            | in-Continues w ↦ along_past fits c.args.chains.now chain c.loop-at.at rule stands c.args.met.now c.loop-at.met c.meet_rule.new.met c.loop-at.invariant.marks put so_far (w.in-Continues.ensures.alike p inside)
+            | in-JumpsTo+else-not-is_known_to_return w ↦
                 let old = narrows_in c.args.within.now c.meet_rule.new.within p narrows inside in
-                let known = sym w.returns_at.ensures ∙ w.if-not-returns_at.false in
-                along_behind fits c.args.chains.now chain c.loop-at.at rule stands c.args.met.now c.loop-at.met c.meet_rule.new.met c.loop-at.invariant.marks put so_far w.in-Walks.chain (w.in-Walks.ensures.alike p inside)
-                (c.requires.returning p old w.in-Walks.chain known) (c.requires.mark_returning p old w.in-Walks.chain known)
+                let known = sym w.is_known_to_return.ensures ∙ w.if-not-is_known_to_return.false in
+                along_behind fits c.args.chains.now chain c.loop-at.at rule stands c.args.met.now c.loop-at.met c.meet_rule.new.met c.loop-at.invariant.marks put so_far w.in-JumpsTo.chain (w.in-JumpsTo.ensures.alike p inside)
+                (c.requires.known_to_return p old w.in-JumpsTo.chain known) (c.requires.mark_returning p old w.in-JumpsTo.chain known)
           ];
     }
 

@@ -10,13 +10,13 @@ use Rattle.ipt_rules.proofs.meet_walk.meet_among.Given as goal
 
 -- Each step records that one more chain returns, or starts the traversal of a chain.
 abbrev pub decreases-loop-walk : goal.decreases-loop-walk
-decreases-loop-walk g l = 2 * count_by not l.returning + (g.row.N - length l.walks.items)
+decreases-loop-walk g l = 2 * count_by not l.known_to_return + (g.row.N - length l.walks.items)
 
 abbrev pub invariant-loop-walk : goal.invariant-loop-walk
 invariant-loop-walk g l = record {
-  long : length l.returning ≡ g.row.N;
+  long : length l.known_to_return ≡ g.row.N;
   narrows : Narrows l.fn.within l.within;
   marks : AreMarksOf l.met l.chains;
-  waiting : (p : Packet) → IsIn l.within p → Waiting (matches p l.state) l.chains l.number l.returning l.walks.items;
-  marking : (p : Packet) → IsIn l.within p → Marking (matches p l.state) l.chains l.number l.fn.met l.met l.returning l.walks.items;
+  waiting : (p : Packet) → IsIn l.within p → Waiting (matches p l.state) l.chains l.number l.known_to_return l.walks.items;
+  marking : (p : Packet) → IsIn l.within p → Marking (matches p l.state) l.chains l.number l.fn.met l.met l.known_to_return l.walks.items;
 }

@@ -20,9 +20,9 @@ returns-clause-only c = λ p inside other is.
 
 pub returns-clause-verdict : goal.returns-clause-verdict
 returns-clause-verdict c = λ p inside.
-    decider_verdict c.args.chains.now p c.args.state c.meet_chain.result (each_gives_one c.args.chains.now c.requires.ranking) (c.meet_chain.ensures.all p inside).0
+    decider_verdict c.args.chains.now p c.args.state c.meet_chain.result (each_gives_one c.args.chains.now c.requires.topological_order) (c.meet_chain.ensures.all p inside).0
 
 pub returns-clause-unmarked : goal.returns-clause-unmarked
 returns-clause-unmarked c = λ p inside places unmarked.
-    same_verdicts places c.args.chains.now p c.args.state (each_gives_one c.args.chains.now c.requires.ranking)
+    same_verdicts places c.args.chains.now p c.args.state (each_gives_one c.args.chains.now c.requires.topological_order)
     (λ place at met. let on = (c.meet_chain.ensures.all p inside).1 place met in let off = unmarked place at in cc)

@@ -1,5 +1,5 @@
 use Rattle.std.proofs.Common.{List, IfOk, ◌∙◌, ap, length, subst, arith}
-use Rattle.host_net.specs.declared.cover.Ends.{Ends}
+use Rattle.host_net.specs.declared.tuple_space.Ends.{Ends}
 use Rattle.host_net.specs.inner.CoverView.{IsIndexOf}
 use Rattle.ipt_rules.proofs.NextLemmas.{length_ends}
 use Rattle.ipt_rules.proofs.next.index_of.Goals as goal

@@ -15,7 +15,7 @@ invariant_of-result c =
       few_chains = let few = c.requires.few_chains in omega (arith, long, few);
       forward = let there = c.requires.forward in omega (arith, long, there);
       few_rules = let few = c.requires.few_rules in omega (arith, fewer, few);
-      ranking = slice_ranking c.args.within.now marks c.args.chains.now c.in_ok-kept.kept.items are c.requires.ranking;
+      topological_order = slice_ranking c.args.within.now marks c.args.chains.now c.in_ok-kept.kept.items are c.requires.topological_order;
     }
 
 pub returns : goal.returns
@@ -24,5 +24,5 @@ returns c =
     let are = c.in_ok-kept.ensures in
     same_verdicts c.args.within.now marks c.args.chains.now c.in_ok-kept.kept.items are
     (ap (λ (xs : List Chain). chains_stay marks xs) (sym c.as_slice-own.ensures.value) ∙ (sym c.chains_stay.ensures ∙ c.if-not-chains_stay.false))
-    (sym c.returns_at.ensures ∙ c.if-not-returns_at.false)
-    (slice_ranking c.args.within.now marks c.args.chains.now c.in_ok-kept.kept.items are c.requires.ranking)
+    (sym c.is_known_to_return.ensures ∙ c.if-not-is_known_to_return.false)
+    (slice_ranking c.args.within.now marks c.args.chains.now c.in_ok-kept.kept.items are c.requires.topological_order)

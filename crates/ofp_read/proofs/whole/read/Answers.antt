@@ -1,7 +1,7 @@
 use Rattle.std.proofs.Common.{◌≡◌, ℕ, List, sym, subst}
 use Rattle.std.specs.Prelude.{Result, Ok, Err, IfOk, IfErr, MatchResult}
-use Rattle.text_core.specs.TextByLines.{IsReadThrough}
-use Rattle.text_core.proofs.TextByLinesLaws.{told_reading, told_fault}
+use Rattle.text_core.specs.LineFormat.{IsReadToEnd}
+use Rattle.text_core.proofs.LineFormatLaws.{told_reading, told_fault}
 use Rattle.text_core.specs.inner.TextAnswers.{HasCause, IsFault}
 use Rattle.text_core.specs.declared.faults.TextFault.{TextFault}
 use Rattle.text_core.specs.declared.faults.TextFault.TheVariants.{Memory}
@@ -17,7 +17,7 @@ use Rattle.ofp_read.proofs.whole.read.Goals as goal
 abbrev Answer : Type 0
 Answer = Result (List Entry) (TextFault OfpWhy)
 
-found : (bytes : List ℕ) (entries : List Entry) → IsReadThrough flows_text bytes entries → IsReading bytes entries
+found : (bytes : List ℕ) (entries : List Entry) → IsReadToEnd flows_text bytes entries → IsReading bytes entries
 found bytes entries through = record { short = through.short; told = through.told; ends = tt }
 
 only : (bytes : List ℕ) (r : Answer) (entries : List Entry) → IfOk r (IsReading bytes) → IfErr r (HasCause flows_text bytes)

@@ -8,4 +8,4 @@ returns-clause-dead c =
 
 pub returns-clause-removable : goal.returns-clause-removable
 returns-clause-removable c =
-    are_removable c.args.rules.now c.in_ok-places.places.items c.rules-count.ensures.one_outcome (returns-clause-dead c)
+    are_removable c.args.rules.now c.in_ok-places.places.items c.rules-count.ensures.deterministic (returns-clause-dead c)

@@ -5,7 +5,7 @@ use Rattle.std.proofs.lemmas.List.{take_all}
 use Rattle.std.proofs.lemmas.List.Elements.{All-more}
 use Rattle.flow_set.specs.FlowSet.{with_flow}
 use Rattle.permit_core.specs.inner.Tried.{CanTake}
-use Rattle.permit_core.proofs.TriedLaws.{Became-asked, CanTake-again, holds_again}
+use Rattle.permit_core.proofs.TriedLaws.{AllStep-asked, CanTake-again, holds_again}
 use Rattle.permit_core.proofs.chosen.all_hold_with.Goals as goal
 
 pub holds_with-requires : goal.holds_with-requires
@@ -32,7 +32,7 @@ pub returns-then-not-holds_with-clause-flows : goal.returns-then-not-holds_with-
 returns-then-not-holds_with-clause-flows g c =
     let now = c.loop-i.trials.items in
     let room : c.loop-i.i < length now = omega (arith, c.loop-i-test.true, c.len-i-end.ensures, c.loop-i.invariant.same.counted) in
-    Became-asked g.I.Stepwise.fits g.I.Tried.Trial.tried c.args.trials.now.items now c.loop-i.i c.index_mut.result.now c.holds_with.new.self
+    AllStep-asked g.I.Stepwise.fits g.I.Tried.Trial.tried c.args.trials.now.items now c.loop-i.i c.index_mut.result.now c.holds_with.new.self
     c.loop-i.invariant.same room c.index_mut.ensures.value c.holds_with.ensures.invariant c.holds_with.ensures.fits c.holds_with.ensures.flows
 
 pub loop-i-preserved : goal.loop-i-preserved
@@ -48,7 +48,7 @@ loop-i-preserved g c =
     let room : i < length now = omega (arith, below, same.counted) in
     record {
       same =
-          Became-asked g.I.Stepwise.fits tried old now i t c.holds_with.new.self same room c.index_mut.ensures.value
+          AllStep-asked g.I.Stepwise.fits tried old now i t c.holds_with.new.self same room c.index_mut.ensures.value
           c.holds_with.ensures.invariant c.holds_with.ensures.fits c.holds_with.ensures.flows;
       hold =
           All-more (λ u. inv.holds_on u.invariant (with_flow (tried u.trial).flows c.args.f)) old i t below c.loop-i.invariant.hold

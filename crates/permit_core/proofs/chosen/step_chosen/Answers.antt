@@ -1,7 +1,7 @@
 use Rattle.std.proofs.Common.{refl}
 use Rattle.std.proofs.lemmas.Bool.{both_ways, false≢true}
 use Rattle.flow_set.specs.FlowSet.{with_flow}
-use Rattle.permit_core.proofs.TriedLaws.{Became-then, CanTake-again}
+use Rattle.permit_core.proofs.TriedLaws.{AllStep-then, CanTake-again}
 use Rattle.permit_core.proofs.chosen.step_chosen.Goals as goal
 
 pub returns-then-not-chosen_admit-clause-answer : goal.returns-then-not-chosen_admit-clause-answer
@@ -37,6 +37,6 @@ returns-clause-answer g c = (
 
 pub returns-clause-flows : goal.returns-clause-flows
 returns-clause-flows g c =
-    Became-then g.I.Stepwise.fits g.I.Tried.Trial.tried
+    AllStep-then g.I.Stepwise.fits g.I.Tried.Trial.tried
     (λ fs. with_flow fs c.args.f) c.args.trials.now.items c.all_hold_with.new.trials.items c.step_all.new.trials.items
     c.all_hold_with.ensures.flows c.step_all.ensures

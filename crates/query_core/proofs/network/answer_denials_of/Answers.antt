@@ -2,7 +2,7 @@ use Rattle.std.proofs.Common.{List, length, subst}
 use Rattle.std.specs.Prelude.{All, IfOk}
 use Rattle.std.proofs.lemmas.Result.{IfOk-weaker}
 use Rattle.flow_set.specs.declared.flow.Flow.{Flow}
-use Rattle.flow_set.specs.Flow.{back_of}
+use Rattle.flow_set.specs.Flow.{reverse_of}
 use Rattle.flow_set.specs.FlowSet.{SetOfFlows, with_back, with_flow, without}
 use Rattle.flow_set.specs.inner.FlowSetView.{IsFlowSet}
 use Rattle.flow_set.proofs.SubsetLaws.{IsFlowSet-subset, IsFlowSet-without}
@@ -27,5 +27,5 @@ returns-clause-fit c =
     (subst (λ (x : SetOfFlows). IfOk made (λ found. AreAnswerDenials strategy_of edge_mark holds_on c.invariants-invariants.result.now x.flows s found.items)) c.permitted.ensures.value
     (subst (λ (x : SetOfFlows). IfOk made (λ found. AreAnswerDenials strategy_of edge_mark holds_on c.invariants-invariants.result.now c.permitted.result.now.flows x.flows found.items)) c.stateful.ensures.value c.answer_denials.ensures)) in
     IfOk-weaker made (λ found. AreAnswerDenials strategy_of edge_mark holds_on d.invariants p s found.items) (λ found. All (FitsFinding d) found.items)
-    (λ found are. findings_of_network d (λ inv. is_strict (strategy_of inv) (edge_mark inv)) (λ f. with_flow (with_back p s) (back_of f)) (without p s) found.items (IsFlowSet-without n p s permitted) are)
+    (λ found are. findings_of_network d (λ inv. is_strict (strategy_of inv) (edge_mark inv)) (λ f. with_flow (with_back p s) (reverse_of f)) (without p s) found.items (IsFlowSet-without n p s permitted) are)
     are

@@ -3,21 +3,21 @@ use Rattle.std.proofs.lemmas.Bool.{eqb-true}
 use Rattle.std.specs.Prelude.{if◌then◌else◌}
 use Rattle.net_core.specs.Network.{Network}
 use Rattle.query_core.specs.Json.{is_nothing}
-use Rattle.query_top.specs.Changes.{IsChangesAnswer, changes_job}
-use Rattle.topos_top.specs.Job.{Answers}
+use Rattle.query_top.specs.Changes.{IsChangesAnswer, changes_outcomes}
+use Rattle.topos_top.specs.Outcomes.{Answers}
 use Rattle.topos_top.specs.Reply.{Reply}
 use Rattle.topos_top.specs.inner.Views.{reply_on, reply_view}
 use Rattle.topos_top.specs.declared.status.Status.TheVariants.{Done, Violated}
 use Rattle.topos_top.specs.declared.status.Stream.TheVariants.{Output}
 use Rattle.query_top.proofs.changes.answer.Goals as goal
 
--- The text answers the job, as done or as a violation.
+-- The text is that of an outcome, done or violated.
 answers_changes : (old new : Network) (text : List ℕ) (kept : Bool) (given : Reply) → IsChangesAnswer old new (not kept) text
-    → given ≡ reply_on (if kept then Done else Violated) Output text → Answers true (changes_job old new) given
+    → given ≡ reply_on (if kept then Done else Violated) Output text → Answers true (changes_outcomes old new) given
 answers_changes old new text true given answer is =
-    subst (λ (r : Reply). Answers true (changes_job old new) r) (sym is) (refl, inr (inl (refl, (text, answer), answer)))
+    subst (λ (r : Reply). Answers true (changes_outcomes old new) r) (sym is) (refl, inr (inl (refl, (text, answer), answer)))
 answers_changes old new text false given answer is =
-    subst (λ (r : Reply). Answers true (changes_job old new) r) (sym is) (refl, inl (refl, (text, answer), answer))
+    subst (λ (r : Reply). Answers true (changes_outcomes old new) r) (sym is) (refl, inl (refl, (text, answer), answer))
 
 -- The list has an element if it is not empty.
 not_kept : {A : Type 0} (xs : List A) (kept : Bool) → kept ≡ (length xs == 0) → is_nothing xs ≡ not (not kept)

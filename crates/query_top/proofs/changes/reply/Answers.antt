@@ -1,10 +1,10 @@
 use Rattle.std.proofs.Common.{inl, true}
 use Rattle.std.proofs.lemmas.Result.{err_from_is_err_and}
-use Rattle.query_top.specs.Changes.{changes_job}
-use Rattle.topos_top.specs.Course.{reads, ends}
+use Rattle.query_top.specs.Changes.{changes_outcomes}
+use Rattle.topos_top.specs.CommandPlan.{reads, ends}
 use Rattle.topos_top.specs.inner.Views.{reply_in}
 use Rattle.topos_top.specs.declared.kind.Kind.TheVariants.{Description}
-use Rattle.topos_top.proofs.CourseLaws.{went_on}
+use Rattle.topos_top.proofs.CommandPlanLaws.{went_on}
 use Rattle.query_top.proofs.changes.reply.Goals as goal
 
 pub returns-in_err-description-clause-reply : goal.returns-in_err-description-clause-reply
@@ -14,5 +14,5 @@ returns-in_err-description-clause-reply g c =
 
 pub returns-clause-reply : goal.returns-clause-reply
 returns-clause-reply g c =
-    went_on true Description c.args.old.now (λ before. reads Description c.args.new.now (λ after. ends (changes_job before after))) _ _ _
+    went_on true Description c.args.old.now (λ before. reads Description c.args.new.now (λ after. ends (changes_outcomes before after))) _ _ _
     c.in_ok-description.description (reply_in c.reply_from.result) c.in_ok-description.ensures.reading c.reply_from.ensures.reply

@@ -1,9 +1,9 @@
 use Rattle.std.proofs.Common.{inl, true}
 use Rattle.std.proofs.lemmas.Result.{err_from_is_err_and}
-use Rattle.query_top.specs.Changes.{changes_job}
+use Rattle.query_top.specs.Changes.{changes_outcomes}
 use Rattle.topos_top.specs.inner.Views.{reply_in}
 use Rattle.topos_top.specs.declared.kind.Kind.TheVariants.{Description}
-use Rattle.topos_top.proofs.CourseLaws.{went_to_job}
+use Rattle.topos_top.proofs.CommandPlanLaws.{went_to_outcomes}
 use Rattle.query_top.proofs.changes.reply_from.Goals as goal
 
 pub returns-in_err-description-clause-reply : goal.returns-in_err-description-clause-reply
@@ -13,5 +13,5 @@ returns-in_err-description-clause-reply g c =
 
 pub returns-clause-reply : goal.returns-clause-reply
 returns-clause-reply g c =
-    went_to_job true Description c.args.new.now (λ after. changes_job c.args.old.now after) _ _ c.in_ok-description.description c.answer.result (reply_in c.of_job.result)
-    c.in_ok-description.ensures.reading c.answer.ensures c.of_job.ensures
+    went_to_outcomes true Description c.args.new.now (λ after. changes_outcomes c.args.old.now after) _ _ c.in_ok-description.description c.answer.result (reply_in c.of_outcomes.result)
+    c.in_ok-description.ensures.reading c.answer.ensures c.of_outcomes.ensures

@@ -1,8 +1,8 @@
 use Rattle.std.proofs.Common.{subst, true}
 use Rattle.std.specs.Prelude.{IfOk}
 use Rattle.audit_core.specs.Rules.{Rules}
-use Rattle.query_top.specs.Compare.{compare_job}
-use Rattle.topos_top.specs.Job.{Answers}
+use Rattle.query_top.specs.Compare.{compare_outcomes}
+use Rattle.topos_top.specs.Outcomes.{Answers}
 use Rattle.topos_top.specs.inner.Views.{reply_view}
 use Rattle.query_top.proofs.compare.answer.Goals as goal
 
@@ -11,4 +11,4 @@ comparison-requires c = rw c.text_of.ensures c.requires
 
 pub returns : goal.returns
 returns c =
-    subst (λ (rules : Rules). IfOk c.comparison.result (λ answer. Answers true (compare_job c.args.description.now rules) (reply_view answer))) c.text_of.ensures c.comparison.ensures
+    subst (λ (rules : Rules). IfOk c.comparison.result (λ answer. Answers true (compare_outcomes c.args.description.now rules) (reply_view answer))) c.text_of.ensures c.comparison.ensures

@@ -3,11 +3,11 @@ use Rattle.std.proofs.lemmas.Result.{err_from_is_err_and}
 use Rattle.std.specs.Prelude.{IfOk}
 use Rattle.audit_core.specs.Rules.{Rules as AuditedRules}
 use Rattle.topos_top.specs.Audit.{rules_in}
-use Rattle.query_top.specs.Compare.{compare_job}
-use Rattle.topos_top.specs.Job.{Answers}
+use Rattle.query_top.specs.Compare.{compare_outcomes}
+use Rattle.topos_top.specs.Outcomes.{Answers}
 use Rattle.topos_top.specs.inner.Views.{reply_in, reply_view}
 use Rattle.topos_top.specs.declared.kind.Kind.TheVariants.{Rules}
-use Rattle.topos_top.proofs.CourseLaws.{went_to_job}
+use Rattle.topos_top.proofs.CommandPlanLaws.{went_to_outcomes}
 use Rattle.query_top.proofs.compare.reply_for.Goals as goal
 
 pub returns-in_err-rules-clause-reply : goal.returns-in_err-rules-clause-reply
@@ -19,5 +19,5 @@ pub returns-clause-reply : goal.returns-clause-reply
 returns-clause-reply g c =
     let d = c.args.description.now in
     let rules = c.in_ok-rules.ensures.reading in
-    went_to_job true (Rules c.args.dialect) c.args.rules.now (λ said. compare_job d (rules_in c.args.dialect said)) _ _ rules.said c.answer.result (reply_in c.of_job.result) rules.read
-    (subst (λ (audited : AuditedRules). IfOk c.answer.result (λ answer. Answers true (compare_job d audited) (reply_view answer))) rules.told c.answer.ensures) c.of_job.ensures
+    went_to_outcomes true (Rules c.args.dialect) c.args.rules.now (λ said. compare_outcomes d (rules_in c.args.dialect said)) _ _ rules.said c.answer.result (reply_in c.of_outcomes.result) rules.read
+    (subst (λ (audited : AuditedRules). IfOk c.answer.result (λ answer. Answers true (compare_outcomes d audited) (reply_view answer))) rules.told c.answer.ensures) c.of_outcomes.ensures

@@ -1,7 +1,7 @@
 use Rattle.std.proofs.Common.{length}
 use Rattle.std.specs.List.{flat_map, range_with_len}
 use Rattle.flow_set.specs.EveryFlow.{flow_or_none}
-use Rattle.report_core.proofs.RulingLemmas.{grows_next}
+use Rattle.report_core.proofs.FlowStatusLemmas.{grows_next}
 use Rattle.report_core.proofs.policy.push_rulings.Goals as goal
 
 pub loop-from-preserved : goal.loop-from-preserved

@@ -1,5 +1,5 @@
 use Rattle.flow_set.specs.EveryFlow.{flow_or_none}
-use Rattle.report_core.proofs.RulingLemmas.{grows_next}
+use Rattle.report_core.proofs.FlowStatusLemmas.{grows_next}
 use Rattle.report_core.proofs.policy.push_rulings_from.Goals as goal
 
 pub loop-to-preserved : goal.loop-to-preserved

@@ -1,8 +1,8 @@
 use Rattle.std.proofs.Common.{◌+◌, arith, add-one}
 use Rattle.std.proofs.Math.Seq.{drop-cons}
 use Rattle.std.proofs.lemmas.List.{drop_all}
-use Rattle.ipt_rules.specs.Meaning.{Passes}
-use Rattle.pkt_core.specs.inner.Kept.{kept_in}
+use Rattle.ipt_rules.specs.Semantics.{Passes}
+use Rattle.pkt_core.specs.inner.ConnectionTable.{kept_in}
 use Rattle.report_core.proofs.Steps.{leaves_next, leaves_none}
 use Rattle.report_core.proofs.run.trace_filter.Goals as goal
 

@@ -1,7 +1,7 @@
 -- For every run over the events from here on, the text followed by its lines has the lines of the whole run.
 use Rattle.std.proofs.Common.{◌+◌, drop}
-use Rattle.ipt_rules.specs.Meaning.{Passes}
-use Rattle.pkt_core.specs.inner.Kept.{kept_in}
+use Rattle.ipt_rules.specs.Semantics.{Passes}
+use Rattle.pkt_core.specs.inner.ConnectionTable.{kept_in}
 use Rattle.report_core.proofs.Steps.{Leaves}
 use Rattle.report_core.proofs.run.trace_filter.Given as goal
 

@@ -1,7 +1,7 @@
 use Rattle.std.proofs.Common.{◌≡◌, ◌+◌, ◌++◌, ℕ, List, drop}
 use Rattle.std.specs.List.{flat_map}
 use Rattle.std.specs.Prelude.{codes, decimal}
-use Rattle.text_core.specs.Firsts.{Numbered, numbered_from}
+use Rattle.text_core.specs.FirstMatch.{Numbered, numbered_from}
 use Rattle.sample_core.specs.Sample.{count_line, offending_lines}
 use Rattle.sample_core.proofs.printed.push_offending.Given as goal
 

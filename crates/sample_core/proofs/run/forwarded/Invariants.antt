@@ -1,6 +1,6 @@
 use Rattle.std.proofs.Common.{◌≤◌, drop}
-use Rattle.ipt_rules.specs.Meaning.{Passes}
-use Rattle.pkt_core.specs.inner.Kept.{kept_in}
+use Rattle.ipt_rules.specs.Semantics.{Passes}
+use Rattle.pkt_core.specs.inner.ConnectionTable.{kept_in}
 use Rattle.sample_core.proofs.RunLemmas.{Leaves}
 use Rattle.sample_core.proofs.run.forwarded.Given as goal
 

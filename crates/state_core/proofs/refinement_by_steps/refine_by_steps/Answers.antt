@@ -1,5 +1,5 @@
 use Rattle.std.proofs.Common.{get_or, subst}
-use Rattle.flow_set.specs.inner.Downward.{IsDownward}
+use Rattle.flow_set.specs.inner.Downward.{IsDownwardClosed}
 use Rattle.permit_core.proofs.PolicyLaws.{marked_edge_wise}
 use Rattle.state_core.proofs.Refining.{StrictHold-downward, complies_found}
 use Rattle.state_core.proofs.refinement_by_steps.refine_by_steps.Goals as goal
@@ -10,7 +10,7 @@ first_subset_by_steps-requires-clause-downward g c =
     let inv = g.I.Invariant in
     let invs = c.args.invs.now in
     StrictHold-downward n inv.strategy_of inv.edge_mark inv.holds_on invs c.args.p.now.flows c.size.ensures.set
-    (λ k d below. subst (λ m. IsDownward m (inv.holds_on (get_or invs k d))) (c.requires.sizes k d below) (g.met.I.Invariant.downward (get_or invs k d)))
+    (λ k d below. subst (λ m. IsDownwardClosed m (inv.holds_on (get_or invs k d))) (c.requires.sizes k d below) (g.met.I.Invariant.downward (get_or invs k d)))
 
 pub returns-clause-complies : goal.returns-clause-complies
 returns-clause-complies g c =

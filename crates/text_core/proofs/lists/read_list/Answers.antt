@@ -1,7 +1,7 @@
 use Rattle.std.proofs.Common.{List, Ok, Err, map}
-use Rattle.text_core.specs.ListText.{by_lines}
-use Rattle.text_core.proofs.ListTextLaws.{list_settled}
-use Rattle.text_core.proofs.TextByLinesLaws.{told_reading, told_fault}
+use Rattle.text_core.specs.ListFormat.{by_lines}
+use Rattle.text_core.proofs.ListFormatLaws.{list_settled}
+use Rattle.text_core.proofs.LineFormatLaws.{told_reading, told_fault}
 use Rattle.text_core.proofs.lists.read_list.Goals as goal
 
 pub returns-in-Ok-clause-only : goal.returns-in-Ok-clause-only

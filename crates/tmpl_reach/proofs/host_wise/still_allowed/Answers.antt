@@ -31,18 +31,18 @@ returns-then-not-allows g c = (
 pub loop-host-preserved : goal.loop-host-preserved
 loop-host-preserved g c =
     let e = with_flow c.args.closure.now.flows c.args.f in
-    upto_next c.opened_by-hosts.result (g.R.HostWise.allows_on c.args.rule.now e) c.loop-host.from c.in-Some.host
+    upto_next c.newly_reaching-hosts.result (g.R.HostWise.allows_on c.args.rule.now e) c.loop-host.from c.in-Some.host
     c.loop-host.invariant c.in-Some.ensures ((c.allows.ensures e c.reached_with.ensures).0 c.if-not-allows.false)
 
 pub reached_with-requires-clause-host : goal.reached_with-requires-clause-host
 reached_with-requires-clause-host g c =
     let e = c.args.closure.now in
-    opened_below e.size e.flows c.args.f c.opened_by-hosts.result c.size.ensures.set c.requires.flow c.opened_by-hosts.ensures.hosts c.in-Some.host c.in-Some.ensures.passes
+    opened_below e.size e.flows c.args.f c.newly_reaching-hosts.result c.size.ensures.set c.requires.flow c.newly_reaching-hosts.ensures.hosts c.in-Some.host c.in-Some.ensures.passes
 
 pub allows-requires-clause-host : goal.allows-requires-clause-host
 allows-requires-clause-host g c =
     let e = c.args.closure.now in
-    let below = opened_below e.size e.flows c.args.f c.opened_by-hosts.result c.size.ensures.set c.requires.flow c.opened_by-hosts.ensures.hosts c.in-Some.host c.in-Some.ensures.passes in
+    let below = opened_below e.size e.flows c.args.f c.newly_reaching-hosts.result c.size.ensures.set c.requires.flow c.newly_reaching-hosts.ensures.hosts c.in-Some.host c.in-Some.ensures.passes in
     omega (arith, c.requires.size, below)
 
 pub returns : goal.returns
@@ -50,7 +50,7 @@ returns g c =
     let e = c.args.closure.now in
     let f = c.args.f in
     let P = g.R.HostWise.allows_on c.args.rule.now in
-    let hosts = c.opened_by-hosts.result in
-    let below = opened_below e.size e.flows f hosts c.size.ensures.set c.requires.flow c.opened_by-hosts.ensures.hosts in
+    let hosts = c.newly_reaching-hosts.result in
+    let below = opened_below e.size e.flows f hosts c.size.ensures.set c.requires.flow c.newly_reaching-hosts.ensures.hosts in
     let each = upto_end hosts (P (with_flow e.flows f)) c.loop-host.from e.size c.loop-host.invariant c.in_default.ensures below c.size.ensures.set.small in
-    (λ yes. everywhere P e.flows f hosts (g.met.R.HostWise.allows_fewer c.args.rule.now) c.opened_by-hosts.ensures.others c.requires.held each, λ holds. refl)
+    (λ yes. everywhere P e.flows f hosts (g.met.R.HostWise.allows_fewer c.args.rule.now) c.newly_reaching-hosts.ensures.others c.requires.held each, λ holds. refl)

@@ -1,10 +1,10 @@
 use Rattle.std.proofs.Common.{inl, true}
 use Rattle.std.proofs.lemmas.Result.{err_from_is_err_and}
-use Rattle.topos_top.specs.Audit.{audit_job, rules_in}
-use Rattle.topos_top.specs.Course.{reads, ends}
+use Rattle.topos_top.specs.Audit.{audit_outcomes, rules_in}
+use Rattle.topos_top.specs.CommandPlan.{reads, ends}
 use Rattle.topos_top.specs.inner.Views.{reply_in}
 use Rattle.topos_top.specs.declared.kind.Kind.TheVariants.{Description, Rules}
-use Rattle.topos_top.proofs.CourseLaws.{went_on}
+use Rattle.topos_top.proofs.CommandPlanLaws.{went_on}
 use Rattle.topos_top.proofs.audit.reply.Goals as goal
 
 pub returns-in_err-description-clause-reply : goal.returns-in_err-description-clause-reply
@@ -14,5 +14,5 @@ returns-in_err-description-clause-reply g c =
 
 pub returns-clause-reply : goal.returns-clause-reply
 returns-clause-reply g c =
-    went_on true Description c.args.file.now (λ x. reads (Rules c.args.dialect) c.args.rules.now (λ said. ends (audit_job x (rules_in c.args.dialect said)))) _ _ _
+    went_on true Description c.args.file.now (λ x. reads (Rules c.args.dialect) c.args.rules.now (λ said. ends (audit_outcomes x (rules_in c.args.dialect said)))) _ _ _
     c.in_ok-description.description (reply_in c.reply_for.result) c.in_ok-description.ensures.reading c.reply_for.ensures.reply

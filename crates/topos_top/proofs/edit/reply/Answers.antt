@@ -1,11 +1,11 @@
 use Rattle.std.proofs.Common.{inl, false}
 use Rattle.std.proofs.lemmas.Result.{err_from_is_err_and}
 use Rattle.edit_core.specs.inner.Kept.{table_of}
-use Rattle.topos_top.specs.Course.{reads, ends}
-use Rattle.topos_top.specs.Edit.{edit_job}
+use Rattle.topos_top.specs.CommandPlan.{reads, ends}
+use Rattle.topos_top.specs.Edit.{edit_outcomes}
 use Rattle.topos_top.specs.inner.Views.{reply_in}
 use Rattle.topos_top.specs.declared.kind.Kind.TheVariants.{Edited, Edits}
-use Rattle.topos_top.proofs.CourseLaws.{went_on}
+use Rattle.topos_top.proofs.CommandPlanLaws.{went_on}
 use Rattle.topos_top.proofs.edit.reply.Goals as goal
 
 pub returns-in_err-session-clause-reply : goal.returns-in_err-session-clause-reply
@@ -15,5 +15,5 @@ returns-in_err-session-clause-reply g c =
 
 pub returns-clause-reply : goal.returns-clause-reply
 returns-clause-reply g c =
-    went_on false Edited c.args.file.now (λ t. reads Edits c.args.edits.now (λ es. ends (edit_job t es))) _ _ _
+    went_on false Edited c.args.file.now (λ t. reads Edits c.args.edits.now (λ es. ends (edit_outcomes t es))) _ _ _
     (table_of c.in_ok-session.session) (reply_in c.reply_for.result) c.in_ok-session.ensures.reading c.reply_for.ensures.reply

@@ -2,10 +2,10 @@ use Rattle.std.proofs.Common.{inl, false, map}
 use Rattle.std.proofs.lemmas.Result.{err_from_is_err_and}
 use Rattle.edit_core.specs.inner.EditView.{edit_view}
 use Rattle.edit_core.specs.inner.Kept.{table_of}
-use Rattle.topos_top.specs.Edit.{edit_job}
+use Rattle.topos_top.specs.Edit.{edit_outcomes}
 use Rattle.topos_top.specs.inner.Views.{reply_in}
 use Rattle.topos_top.specs.declared.kind.Kind.TheVariants.{Edits}
-use Rattle.topos_top.proofs.CourseLaws.{went_to_job}
+use Rattle.topos_top.proofs.CommandPlanLaws.{went_to_outcomes}
 use Rattle.topos_top.proofs.edit.reply_for.Goals as goal
 
 pub returns-in_err-edits-clause-reply : goal.returns-in_err-edits-clause-reply
@@ -15,5 +15,5 @@ returns-in_err-edits-clause-reply g c =
 
 pub returns-clause-reply : goal.returns-clause-reply
 returns-clause-reply g c =
-    went_to_job false Edits c.args.edits.now (edit_job (table_of c.args.session.now)) _ _ (map edit_view c.in_ok-edits.edits.items) c.answer.result (reply_in c.of_job.result)
-    c.in_ok-edits.ensures.reading (rw c.deref.ensures.value at c.answer.ensures) c.of_job.ensures
+    went_to_outcomes false Edits c.args.edits.now (edit_outcomes (table_of c.args.session.now)) _ _ (map edit_view c.in_ok-edits.edits.items) c.answer.result (reply_in c.of_outcomes.result)
+    c.in_ok-edits.ensures.reading (rw c.deref.ensures.value at c.answer.ensures) c.of_outcomes.ensures

@@ -1,6 +1,6 @@
 use Rattle.std.proofs.Common.{ℕ, ◌++◌, ◌∙◌, inl, inr, refl, ap, sym, subst, false, List, codes, decimal}
-use Rattle.topos_top.specs.Job.{Answers}
-use Rattle.topos_top.specs.Repair.{repair_job}
+use Rattle.topos_top.specs.Outcomes.{Answers}
+use Rattle.topos_top.specs.Repair.{repair_outcomes}
 use Rattle.topos_top.specs.Reply.{Reply, not_emittable}
 use Rattle.topos_top.specs.declared.dialect.Dialect.TheVariants.{OpenFlow}
 use Rattle.ofp_rules.specs.Text.{text as table_text}
@@ -49,7 +49,7 @@ returns-in-Ok c =
     let ports = rw c.policy_between-asked.ensures at c.in-Ok.ensures.ports in
     let few = rw c.policy_between-asked.ensures at c.in-Ok.ensures.few in
     let layout = rw c.policy_between-asked.ensures at c.in-Ok.ensures.layout in
-    subst (λ (r : Reply). Answers false (repair_job OpenFlow c.args.description.now) r) (sym c.done.ensures) (
+    subst (λ (r : Reply). Answers false (repair_outcomes OpenFlow c.args.description.now) r) (sym c.done.ensures) (
       refl,
       inr (inl (
         refl,

@@ -18,7 +18,7 @@ loop-i-preserved g c =
     record {
       sofar = sofar_as _ _ lines (c.loop-i.i + 1) _ _ stands (sofar_line _ _ lines c.loop-i.i (take start c.loop-i.block) (take c.write_front.result new) room c.write_front.ensures.line);
       fits = omega (arith, c.in_ok-start.ensures.room, c.write_front.ensures.short);
-      faults_stay = omega (arith, c.loop-i.invariant.faults_stay, c.in_ok-start.ensures.faults_stay);
+      faults_monotone = omega (arith, c.loop-i.invariant.faults_monotone, c.in_ok-start.ensures.faults_monotone);
     }
 
 pub returns-clause-prefix : goal.returns-clause-prefix

@@ -7,5 +7,5 @@ abbrev pub invariant-loop-i : goal.invariant-loop-i
 invariant-loop-i g l = record {
   sofar : IsSofar (g.O.Sink.held l.fn.sink) (g.O.Sink.held l.sink) (g.T.Lines.lines_of l.text) l.i (take l.filled l.block);
   fits : l.filled ≤ 8512;
-  faults_stay : g.O.Sink.faults l.fn.sink ≤ g.O.Sink.faults l.sink;
+  faults_monotone : g.O.Sink.faults l.fn.sink ≤ g.O.Sink.faults l.sink;
 }

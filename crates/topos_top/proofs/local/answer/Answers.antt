@@ -1,8 +1,8 @@
 use Rattle.std.proofs.Common.{Err, Ok, Result, false}
 use Rattle.std.specs.Prelude.{IfOk}
-use Rattle.topos_top.specs.Job.{Answers}
-use Rattle.topos_top.specs.Local.{local_job}
-use Rattle.topos_top.specs.inner.Local.{machines_job}
+use Rattle.topos_top.specs.Outcomes.{Answers}
+use Rattle.topos_top.specs.Local.{local_outcomes}
+use Rattle.topos_top.specs.inner.Local.{machines_outcomes}
 use Rattle.topos_top.specs.Rules.{ListedHolds}
 use Rattle.topos_top.specs.inner.Views.{reply_view}
 use Rattle.topos_top.specs.declared.answer.Answer.{Answer}
@@ -18,6 +18,6 @@ pub returns-in-None : goal.returns-in-None
 returns-in-None c =
     let d = c.args.description.now in
     let listed : ListedHolds d = rw c.in-None.is at c.in_ok-report.ensures in
-    if_ok (λ (answer : Answer). Answers false (machines_job d c.args.host.now) (reply_view answer))
-    (λ (answer : Answer). Answers false (local_job d c.args.host.now) (reply_view answer))
+    if_ok (λ (answer : Answer). Answers false (machines_outcomes d c.args.host.now) (reply_view answer))
+    (λ (answer : Answer). Answers false (local_outcomes d c.args.host.now) (reply_view answer))
     (λ answer. answers_listed d c.args.host.now (reply_view answer) listed) c.machines.result c.machines.ensures

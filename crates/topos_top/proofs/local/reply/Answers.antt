@@ -1,9 +1,9 @@
 use Rattle.std.proofs.Common.{inl, false}
 use Rattle.std.proofs.lemmas.Result.{err_from_is_err_and}
-use Rattle.topos_top.specs.Local.{local_job}
+use Rattle.topos_top.specs.Local.{local_outcomes}
 use Rattle.topos_top.specs.inner.Views.{reply_in}
 use Rattle.topos_top.specs.declared.kind.Kind.TheVariants.{Description}
-use Rattle.topos_top.proofs.CourseLaws.{went_to_job}
+use Rattle.topos_top.proofs.CommandPlanLaws.{went_to_outcomes}
 use Rattle.topos_top.proofs.local.reply.Goals as goal
 
 pub returns-in_err-description-clause-reply : goal.returns-in_err-description-clause-reply
@@ -13,4 +13,4 @@ returns-in_err-description-clause-reply g c =
 
 pub returns-clause-reply : goal.returns-clause-reply
 returns-clause-reply g c =
-    went_to_job false Description c.args.file.now (λ x. local_job x c.args.host.now) _ _ c.in_ok-description.description c.answer.result (reply_in c.of_job.result) c.in_ok-description.ensures.reading c.answer.ensures c.of_job.ensures
+    went_to_outcomes false Description c.args.file.now (λ x. local_outcomes x c.args.host.now) _ _ c.in_ok-description.description c.answer.result (reply_in c.of_outcomes.result) c.in_ok-description.ensures.reading c.answer.ensures c.of_outcomes.ensures

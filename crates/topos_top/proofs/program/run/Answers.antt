@@ -1,10 +1,10 @@
 use Rattle.std.proofs.Common.{map, string_bytes}
-use Rattle.topos_top.specs.Promises.{GaveReply}
+use Rattle.topos_top.specs.Promises.{DeliversReply}
 use Rattle.topos_top.specs.Shelf.{shelf_change}
-use Rattle.topos_top.specs.Taken.{sink_change}
+use Rattle.topos_top.specs.SinkChanges.{sink_change}
 use Rattle.topos_top.specs.inner.Views.{reply_view}
 use Rattle.topos_top.specs.declared.status.Status.TheVariants as status
-use Rattle.topos_top.proofs.AskLaws.{is_asked, may_give}
+use Rattle.topos_top.proofs.ParseLaws.{is_asked, may_give}
 use Rattle.topos_top.proofs.HeadlineLaw.{headline_law}
 use Rattle.topos_top.proofs.RunLaws.{usage_law, caused, no_fault, nothing_to_write, something_to_write}
 use Rattle.topos_top.proofs.SampleLaw.{sample_law, sample_names_no_file}
@@ -13,13 +13,13 @@ use Rattle.topos_top.proofs.program.run.Given as given
 use Rattle.topos_top.proofs.program.run.Goals as goal
 
 -- The properties of the reply and of its delivery, as one fact from which each clause follows.
-gave : (g : given.Over) (c : goal.Joined-answer g) → GaveReply (map string_bytes c.args.words.now)
+gave : (g : given.Over) (c : goal.Joined-answer g) → DeliversReply (map string_bytes c.args.words.now)
     (shelf_change g.H.Shelf c.args.shelf.now c.answer_to-answer.new.shelf)
-    (sink_change g.O.Sink c.args.out.now c.give.new.out) (sink_change g.E.Sink c.args.err.now c.give.new.err) c.give.result
+    (sink_change g.O.Sink c.args.out.now c.deliver.new.out) (sink_change g.E.Sink c.args.err.now c.deliver.new.err) c.deliver.result
 gave g c = record {
   reply = reply_view c.answer_to-answer.result;
   allowed = may_give _ _ _ c.answer_to-answer.ensures.reply;
-  given = c.give.ensures.given;
+  given = c.deliver.ensures.given;
 }
 
 pub returns-clause-reply : goal.returns-clause-reply
@@ -28,12 +28,12 @@ returns-clause-reply g c = gave g c
 pub returns-clause-usage : goal.returns-clause-usage
 returns-clause-usage g c = usage_law _ _ _ _ _ (gave g c)
 
-pub returns-clause-usage_reads_nothing : goal.returns-clause-usage_reads_nothing
-returns-clause-usage_reads_nothing g c = λ is.
-    c.answer_to-answer.ensures.reads_nothing (λ ask read. absurd ((usage_law _ _ _ _ _ (gave g c)).0 is ask (is_asked _ ask read)))
+pub returns-clause-usage_opens_no_file : goal.returns-clause-usage_opens_no_file
+returns-clause-usage_opens_no_file g c = λ is.
+    c.answer_to-answer.ensures.opens_no_file (λ command read. absurd ((usage_law _ _ _ _ _ (gave g c)).0 is command (is_asked _ command read)))
 
-pub returns-clause-reads_nothing : goal.returns-clause-reads_nothing
-returns-clause-reads_nothing g c = λ none. c.answer_to-answer.ensures.reads_nothing (λ ask read. none ask (is_asked _ ask read))
+pub returns-clause-opens_no_file : goal.returns-clause-opens_no_file
+returns-clause-opens_no_file g c = λ none. c.answer_to-answer.ensures.opens_no_file (λ command read. none command (is_asked _ command read))
 
 pub returns-clause-read_fault : goal.returns-clause-read_fault
 returns-clause-read_fault g c = caused _ _ _ _ _ (gave g c) status.ReadFault (λ e. cc e)
@@ -61,23 +61,23 @@ returns-clause-done g c = caused _ _ _ _ _ (gave g c) status.Done (λ e. cc e)
 
 pub returns-clause-headline : goal.returns-clause-headline
 returns-clause-headline g c = λ is.
-    headline_law _ _ _ (sink_change g.E.Sink c.args.err.now c.give.new.err) (caused _ _ _ _ _ (gave g c) status.Done (λ e. cc e) is)
+    headline_law _ _ _ (sink_change g.E.Sink c.args.err.now c.deliver.new.err) (caused _ _ _ _ _ (gave g c) status.Done (λ e. cc e) is)
 
 pub returns-clause-sample : goal.returns-clause-sample
 returns-clause-sample g c = λ n asks. (
-  c.answer_to-answer.ensures.reads_nothing (λ ask read. sample_names_no_file _ n asks ask (is_asked _ ask read)),
+  c.answer_to-answer.ensures.opens_no_file (λ command read. sample_names_no_file _ n asks command (is_asked _ command read)),
   sample_law _ _ _ _ _ (gave g c) n asks,
 )
 
-pub returns-clause-untouched : goal.returns-clause-untouched
+pub returns-clause-output_unchanged : goal.returns-clause-output_unchanged
 unfolding gave
-returns-clause-untouched g c = λ not_done not_cut not_reported.
-    c.give.ensures.untouched (nothing_to_write _ _ _ _ _ (gave g c) not_done not_cut not_reported)
+returns-clause-output_unchanged g c = λ not_done not_cut not_reported.
+    c.deliver.ensures.output_unchanged (nothing_to_write _ _ _ _ _ (gave g c) not_done not_cut not_reported)
 
-pub returns-clause-silent : goal.returns-clause-silent
+pub returns-clause-stderr_unchanged : goal.returns-clause-stderr_unchanged
 unfolding gave
-returns-clause-silent g c = λ says.
-    c.give.ensures.silent (no_fault (map string_bytes c.args.words.now) c.give.result says) (something_to_write _ _ _ _ _ (gave g c) says)
+returns-clause-stderr_unchanged g c = λ says.
+    c.deliver.ensures.stderr_unchanged (no_fault (map string_bytes c.args.words.now) c.deliver.result says) (something_to_write _ _ _ _ _ (gave g c) says)
 
 pub returns-clause-complete : goal.returns-clause-complete
 returns-clause-complete g c = complete_law _ _ _ _ _ (gave g c)

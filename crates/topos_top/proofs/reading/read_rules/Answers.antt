@@ -12,7 +12,7 @@ returns-in-Ok-clause-reading g c =
     rw c.in-Iptables.is (record { said = c.in-Ok.chains; told = refl; read = (c.in_ok-bytes.bytes.items, took, found) })
 
 pub returns-in-Ok-clause-one_verdict : goal.returns-in-Ok-clause-one_verdict
-returns-in-Ok-clause-one_verdict g c = chains_give c.in-Ok.chains c.in-Ok.ensures.one_outcome
+returns-in-Ok-clause-one_verdict g c = chains_give c.in-Ok.chains c.in-Ok.ensures.deterministic
 
 pub returns-in-Err-Refused-clause-reading : goal.returns-in-Err-Refused-clause-reading
 returns-in-Err-Refused-clause-reading g c =

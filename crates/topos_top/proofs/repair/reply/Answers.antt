@@ -1,9 +1,9 @@
 use Rattle.std.proofs.Common.{inl, false}
 use Rattle.std.proofs.lemmas.Result.{err_from_is_err_and}
-use Rattle.topos_top.specs.Repair.{repair_job}
+use Rattle.topos_top.specs.Repair.{repair_outcomes}
 use Rattle.topos_top.specs.inner.Views.{reply_in}
 use Rattle.topos_top.specs.declared.kind.Kind.TheVariants.{Description}
-use Rattle.topos_top.proofs.CourseLaws.{went_to_job}
+use Rattle.topos_top.proofs.CommandPlanLaws.{went_to_outcomes}
 use Rattle.topos_top.proofs.repair.reply.Goals as goal
 
 pub returns-in_err-description-clause-reply : goal.returns-in_err-description-clause-reply
@@ -13,4 +13,4 @@ returns-in_err-description-clause-reply g c =
 
 pub returns-clause-reply : goal.returns-clause-reply
 returns-clause-reply g c =
-    went_to_job false Description c.args.file.now (repair_job c.args.dialect) _ _ c.in_ok-description.description c.policy_rules.result (reply_in c.of_job.result) c.in_ok-description.ensures.reading c.policy_rules.ensures c.of_job.ensures
+    went_to_outcomes false Description c.args.file.now (repair_outcomes c.args.dialect) _ _ c.in_ok-description.description c.policy_rules.result (reply_in c.of_outcomes.result) c.in_ok-description.ensures.reading c.policy_rules.ensures c.of_outcomes.ensures

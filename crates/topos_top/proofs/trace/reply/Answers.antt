@@ -2,21 +2,21 @@ use Rattle.std.proofs.Common.{◌≡◌, ℕ, List, ap, inl, subst, false, ◌�
 use Rattle.std.proofs.lemmas.Result.{err_from_is_err_and}
 use Rattle.audit_core.specs.Rules.{filter_of}
 use Rattle.pkt_core.specs.Firewall.{Filter}
-use Rattle.topos_top.specs.Course.{reads, ends}
-use Rattle.topos_top.specs.Dialects.{language_of}
-use Rattle.topos_top.specs.Replies.{MayReply}
+use Rattle.topos_top.specs.CommandPlan.{reads, ends}
+use Rattle.topos_top.specs.Dialects.{rule_dialect_of}
+use Rattle.topos_top.specs.Replies.{IsPossibleReply}
 use Rattle.topos_top.specs.Reply.{Reply}
 use Rattle.topos_top.specs.Shelf.{ShelfChange}
-use Rattle.topos_top.specs.Trace.{trace_job}
+use Rattle.topos_top.specs.Trace.{trace_outcomes}
 use Rattle.topos_top.specs.inner.Views.{reply_in}
 use Rattle.topos_top.specs.declared.kind.Kind.TheVariants.{Events, Rules}
 use Rattle.topos_top.proofs.AuditLaws.{filter_in}
-use Rattle.topos_top.proofs.CourseLaws.{went_on}
+use Rattle.topos_top.proofs.CommandPlanLaws.{went_on}
 use Rattle.topos_top.proofs.trace.reply.Goals as goal
 
-by_filter : (f g : Filter) (file : List ℕ) (shelf : ShelfChange) (given : Reply) → f ≡ g → MayReply false (reads Events file (λ es. ends (trace_job f es))) shelf given
-    → MayReply false (reads Events file (λ es. ends (trace_job g es))) shelf given
-by_filter f g file shelf given is = subst (λ (h : Filter). MayReply false (reads Events file (λ es. ends (trace_job h es))) shelf given) is
+by_filter : (f g : Filter) (file : List ℕ) (shelf : ShelfChange) (given : Reply) → f ≡ g → IsPossibleReply false (reads Events file (λ es. ends (trace_outcomes f es))) shelf given
+    → IsPossibleReply false (reads Events file (λ es. ends (trace_outcomes g es))) shelf given
+by_filter f g file shelf given is = subst (λ (h : Filter). IsPossibleReply false (reads Events file (λ es. ends (trace_outcomes h es))) shelf given) is
 
 pub returns-in_err-rules-clause-reply : goal.returns-in_err-rules-clause-reply
 returns-in_err-rules-clause-reply g c =
@@ -26,6 +26,6 @@ returns-in_err-rules-clause-reply g c =
 pub returns-clause-reply : goal.returns-clause-reply
 returns-clause-reply g c =
     let rules = c.in_ok-rules.ensures.reading in
-    went_on false (Rules c.args.dialect) c.args.rules.now (λ said. reads Events c.args.events.now (λ es. ends (trace_job ((language_of c.args.dialect).filter said) es))) _ _ _
+    went_on false (Rules c.args.dialect) c.args.rules.now (λ said. reads Events c.args.events.now (λ es. ends (trace_outcomes ((rule_dialect_of c.args.dialect).filter said) es))) _ _ _
     rules.said (reply_in c.reply_for.result) rules.read
     (by_filter _ _ _ _ _ (ap filter_of rules.told ∙ filter_in c.args.dialect rules.said) c.reply_for.ensures.reply)

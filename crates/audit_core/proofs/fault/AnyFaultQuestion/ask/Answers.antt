@@ -1,6 +1,6 @@
 use Rattle.std.proofs.Common.{refl}
 use Rattle.header_space.proofs.BoxLaws.{narrows_in}
-use Rattle.audit_core.specs.declared.kind.Kind.TheVariants.{Alone, BehindSwap}
+use Rattle.audit_core.specs.declared.kind.Kind.TheVariants.{Alone, AfterSwap}
 use Rattle.audit_core.proofs.FaultLaws.{any_fault_by}
 use Rattle.audit_core.proofs.fault.AnyFaultQuestion.ask.Goals as goal
 
@@ -10,7 +10,7 @@ returns-then-is_fault_alone-clause-alike c = λ p inside.
 
 pub returns-then-is_fault_behind_swap-clause-alike : goal.returns-then-is_fault_behind_swap-clause-alike
 returns-then-is_fault_behind_swap-clause-alike c = λ p inside.
-    ((λ yes'. (BehindSwap, (c.is_fault_behind_swap.ensures.alike p inside).0 c.if-is_fault_behind_swap.true)), (λ any. refl))
+    ((λ yes'. (AfterSwap, (c.is_fault_behind_swap.ensures.alike p inside).0 c.if-is_fault_behind_swap.true)), (λ any. refl))
 
 pub returns-clause-alike : goal.returns-clause-alike
 returns-clause-alike c = λ p inside.

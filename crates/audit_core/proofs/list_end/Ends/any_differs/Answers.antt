@@ -1,5 +1,5 @@
 use Rattle.header_space.proofs.BoxLaws.{narrows_in}
-use Rattle.audit_core.specs.declared.kind.Kind.TheVariants.{Alone, BehindSwap}
+use Rattle.audit_core.specs.declared.kind.Kind.TheVariants.{Alone, AfterSwap}
 use Rattle.audit_core.proofs.ListEndLaws.{any_of, any_where}
 use Rattle.audit_core.proofs.list_end.Ends.any_differs.Goals as goal
 
@@ -9,7 +9,7 @@ returns-then-kind_differs-clause-alike c = λ p inside.
 
 pub returns-then-kind_differs-2-clause-alike : goal.returns-then-kind_differs-2-clause-alike
 returns-then-kind_differs-2-clause-alike c = λ p inside.
-    any_where c.args.self.now p BehindSwap ((c.kind_differs-2.ensures.alike p inside).0 c.if-kind_differs-2.true)
+    any_where c.args.self.now p AfterSwap ((c.kind_differs-2.ensures.alike p inside).0 c.if-kind_differs-2.true)
 
 pub returns-clause-alike : goal.returns-clause-alike
 returns-clause-alike c = λ p inside.

@@ -8,12 +8,12 @@ returns-in-Alone-clause-alike c = λ p inside.
     subst (λ (kind : Kind). EndsBy c.args.self.now.part.rules c.args.self.now.swaps.rules kind p c.passes_within.result) (sym c.in-Alone.is)
     (c.passes_within.ensures.passes p inside)
 
-pub returns-in-BehindSwap-clause-alike : goal.returns-in-BehindSwap-clause-alike
-returns-in-BehindSwap-clause-alike c = λ p inside.
-    subst (λ (kind : Kind). EndsBy c.args.self.now.part.rules c.args.self.now.swaps.rules kind p c.passes_behind_swap.result) (sym c.in-BehindSwap.is)
+pub returns-in-AfterSwap-clause-alike : goal.returns-in-AfterSwap-clause-alike
+returns-in-AfterSwap-clause-alike c = λ p inside.
+    subst (λ (kind : Kind). EndsBy c.args.self.now.part.rules c.args.self.now.swaps.rules kind p c.passes_behind_swap.result) (sym c.in-AfterSwap.is)
     (c.passes_behind_swap.ensures.alike p inside)
 
-pub returns-in-BehindBoth-clause-alike : goal.returns-in-BehindBoth-clause-alike
-returns-in-BehindBoth-clause-alike c = λ p inside.
-    subst (λ (kind : Kind). EndsBy c.args.self.now.part.rules c.args.self.now.swaps.rules kind p c.passes_behind_both.result) (sym c.in-BehindBoth.is)
+pub returns-in-AfterBoth-clause-alike : goal.returns-in-AfterBoth-clause-alike
+returns-in-AfterBoth-clause-alike c = λ p inside.
+    subst (λ (kind : Kind). EndsBy c.args.self.now.part.rules c.args.self.now.swaps.rules kind p c.passes_behind_both.result) (sym c.in-AfterBoth.is)
     (c.passes_behind_both.ensures.alike p inside)

@@ -1,7 +1,7 @@
 use Rattle.std.proofs.Common.{sym, subst}
 use Rattle.host_net.specs.declared.packet.Verdict.{Verdict}
 use Rattle.ofp_rules.specs.declared.entry.Frame.TheVariants.{Ipv4}
-use Rattle.ofp_rules.specs.Meaning.{HasVerdict}
+use Rattle.ofp_rules.specs.Semantics.{HasVerdict}
 use Rattle.audit_core.specs.declared.text.Text.{Text}
 use Rattle.audit_core.specs.Rules.{filter_of}
 use Rattle.audit_core.specs.RulesView.{rules_of}

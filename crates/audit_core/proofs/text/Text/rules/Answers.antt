@@ -8,7 +8,7 @@ use Rattle.audit_core.proofs.text.Text.rules.Goals as goal
 
 pub returns-in-Ipt : goal.returns-in-Ipt
 returns-in-Ipt c =
-    record { gives = subst (λ (t : Text). GivesOne (filter_of (rules_of t))) (sym c.in-Ipt.is) (chains_give c.in-Ipt.rules.now c.rules.ensures.one_outcome) }
+    record { gives = subst (λ (t : Text). GivesOne (filter_of (rules_of t))) (sym c.in-Ipt.is) (chains_give c.in-Ipt.rules.now c.rules.ensures.deterministic) }
 
 pub returns-in-Ofp : goal.returns-in-Ofp
 returns-in-Ofp c =

@@ -5,13 +5,13 @@ use Rattle.desc_form.proofs.places.Found.of.Goals as goal
 pub returns : goal.returns
 returns c =
     rw (
-      c.go_through-3.ensures,
+      c.visit-3.ensures,
       c.listed-4.ensures,
-      c.go_through-2.ensures,
+      c.visit-2.ensures,
       c.listed-3.ensures,
       c.go_through_invariants.ensures,
       c.listed-2.ensures,
-      c.go_through.ensures,
+      c.visit.ensures,
       c.listed.ensures,
       c.at_document-found.ensures,
     ) (in_parts (table_view c.args.document.now))

@@ -9,7 +9,7 @@ use Rattle.ipt_read.specs.declared.reader.Reader.{Reader}
 use Rattle.ipt_read.proofs.LineFaultLaws.{IsBadLine, bad_line_of_step}
 use Rattle.ipt_read.proofs.LineLaws.{IsTextLine, line_of_read}
 use Rattle.ipt_read.specs.inner.LineStep.{line_step}
-use Rattle.ipt_read.specs.Said.{SaidSoFar}
+use Rattle.ipt_read.specs.ParserStates.{ParserState}
 use Rattle.ipt_read.specs.inner.State.{AnswersTo, IsFine, said_of}
 use Rattle.ipt_read.proofs.FineLaws.{fine_kept}
 use Rattle.ipt_read.proofs.reader.ReaderLineReader.read_line.Goals as goal
@@ -17,15 +17,15 @@ use Rattle.ipt_read.proofs.reader.ReaderLineReader.read_line.Goals as goal
 abbrev Answer : Type 0
 Answer = Result Reader (LineFault IptWhy)
 
-fine_behind : (n : ℕ) (s : SaidSoFar) (l : List ℕ) (r : Answer) → IsFine s → AnswersTo (line_step n s l) r → IfOk r (λ t. IsFine (said_of t))
+fine_behind : (n : ℕ) (s : ParserState) (l : List ℕ) (r : Answer) → IsFine s → AnswersTo (line_step n s l) r → IfOk r (λ t. IsFine (said_of t))
 fine_behind n s l (Ok t) fine says = fine_kept n s (said_of t) l fine says
 fine_behind n s l (Err fault) fine says = tt
 
-line_read : (n : ℕ) (s : SaidSoFar) (l : List ℕ) (r : Answer) → AnswersTo (line_step n s l) r → IfOk r (λ t. IsTextLine n s l (said_of t))
+line_read : (n : ℕ) (s : ParserState) (l : List ℕ) (r : Answer) → AnswersTo (line_step n s l) r → IfOk r (λ t. IsTextLine n s l (said_of t))
 line_read n s l (Ok t) says = line_of_read n s (said_of t) l says
 line_read n s l (Err fault) says = tt
 
-line_bad : (n : ℕ) (s : SaidSoFar) (l : List ℕ) (r : Answer) → is_comment l ≡ false → AnswersTo (line_step n s l) r
+line_bad : (n : ℕ) (s : ParserState) (l : List ℕ) (r : Answer) → is_comment l ≡ false → AnswersTo (line_step n s l) r
     → IfErr r (HasReason (λ why. IsBadLine s (words l) why))
 line_bad n s l (Ok t) word says = tt
 line_bad n s l (Err (Bad why)) word says = bad_line_of_step n s l why word says

@@ -6,4 +6,4 @@ use Rattle.ipt_rules.proofs.chains.Chains.first_loop.Goals as goal
 
 pub returns : goal.returns
 returns c =
-    subst (λ (chains : List Chain). IfOk c.loop_among.result (IsRanked chains)) (c.deref.ensures.value ∙ c.self.view_is) c.loop_among.ensures
+    subst (λ (chains : List Chain). IfOk c.find_cycle.result (IsRanked chains)) (c.deref.ensures.value ∙ c.self.view_is) c.find_cycle.ensures

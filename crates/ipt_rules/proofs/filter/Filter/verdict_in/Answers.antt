@@ -1,12 +1,12 @@
 use Rattle.std.proofs.Common.{List, length, sym, ap, subst, arith, ◌∙◌}
-use Rattle.host_net.specs.declared.cover.Covers.{Covers}
+use Rattle.host_net.specs.declared.tuple_space.TupleSpaceIndex.{TupleSpaceIndex}
 use Rattle.ipt_rules.specs.inner.Next.{AreIndexes}
 use Rattle.ipt_rules.proofs.TableLaws.{has_built_in}
 use Rattle.ipt_rules.proofs.filter.Filter.verdict_in.Goals as goal
 
 pub outcome-requires-clause-indexes : goal.outcome-requires-clause-indexes
 outcome-requires-clause-indexes c =
-    subst (λ (indexes : List Covers). AreIndexes indexes c.as_slice-chains.result.now) (sym c.deref.ensures.value)
+    subst (λ (indexes : List TupleSpaceIndex). AreIndexes indexes c.as_slice-chains.result.now) (sym c.deref.ensures.value)
     (subst (AreIndexes c.self.inside.indexes.items) (sym (c.as_slice-chains.ensures.value ∙ c.rules.view_is)) c.self.invariant)
 
 pub policy_of-requires : goal.policy_of-requires

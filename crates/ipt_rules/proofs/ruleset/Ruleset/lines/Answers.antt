@@ -1,7 +1,7 @@
 use Rattle.std.proofs.Common.{◌≡◌, arith, subst, refl, Option, Some, None}
 use Rattle.std.specs.Prelude.{IsNone}
 use Rattle.ipt_rules.specs.declared.ruleset.BuildRefusal.{BuildRefusal}
-use Rattle.ipt_rules.specs.Loops.{HasNoLoop}
+use Rattle.ipt_rules.specs.Loops.{IsAcyclic}
 use Rattle.ipt_rules.specs.inner.Writable.{IsWritable}
 use Rattle.ipt_rules.proofs.NoLoopLemmas.{no_loop_in_order}
 use Rattle.ipt_rules.proofs.WalkLemmas.{each_gives_one}
@@ -18,14 +18,14 @@ returns-clause-table c = rw (← c.self.view_is) c.self.invariant.list.table
 pub returns-clause-accepted : goal.returns-clause-accepted
 returns-clause-accepted c = rw (← c.self.view_is) c.self.invariant.accepted
 
-pub returns-clause-no_loop : goal.returns-clause-no_loop
-returns-clause-no_loop c =
-    subst HasNoLoop c.self.view_is
-    (no_loop_in_order c.self.inside.chains.items c.self.invariant.ranking.order c.self.invariant.ranking.places c.self.invariant.ranking.is)
+pub returns-clause-acyclic : goal.returns-clause-acyclic
+returns-clause-acyclic c =
+    subst IsAcyclic c.self.view_is
+    (no_loop_in_order c.self.inside.chains.items c.self.invariant.topological_order.order c.self.invariant.topological_order.places c.self.invariant.topological_order.is)
 
-pub returns-clause-one_outcome : goal.returns-clause-one_outcome
-returns-clause-one_outcome c =
-    rw (← c.self.view_is) (each_gives_one c.self.inside.chains.items c.self.invariant.ranking)
+pub returns-clause-deterministic : goal.returns-clause-deterministic
+returns-clause-deterministic c =
+    rw (← c.self.view_is) (each_gives_one c.self.inside.chains.items c.self.invariant.topological_order)
 
 none_is : (o : Option BuildRefusal) → IsNone o → o ≡ None
 none_is None h = refl
@@ -35,7 +35,7 @@ pub returns-clause-writable : goal.returns-clause-writable
 returns-clause-writable c = subst IsWritable c.self.view_is (record {
   table = c.self.invariant.list.table;
   accepted = none_is _ c.self.invariant.accepted;
-  no_loop = no_loop_in_order c.self.inside.chains.items c.self.invariant.ranking.order c.self.invariant.ranking.places c.self.invariant.ranking.is;
+  acyclic = no_loop_in_order c.self.inside.chains.items c.self.invariant.topological_order.order c.self.invariant.topological_order.places c.self.invariant.topological_order.is;
   addresses = c.self.invariant.list.addresses;
   parts = c.self.invariant.list.parts;
 })

@@ -7,6 +7,6 @@ pub returns-clause-count : goal.returns-clause-count
 returns-clause-count c =
     rw (← c.self.view_is) (omega (arith, c.self.invariant.list.counted, length-all_rules c.self.inside.chains.items))
 
-pub returns-clause-one_outcome : goal.returns-clause-one_outcome
-returns-clause-one_outcome c =
-    rw (← c.self.view_is) (each_gives_one c.self.inside.chains.items c.self.invariant.ranking)
+pub returns-clause-deterministic : goal.returns-clause-deterministic
+returns-clause-deterministic c =
+    rw (← c.self.view_is) (each_gives_one c.self.inside.chains.items c.self.invariant.topological_order)

@@ -2,7 +2,7 @@ use Rattle.std.proofs.Common.{List, subst, ◌∙◌}
 use Rattle.ofp_rules.specs.declared.entry.Entry.{Entry}
 use Rattle.ofp_rules.specs.declared.entry.Frame.TheVariants.{Ipv4}
 use Rattle.ofp_rules.specs.Deciders.{IsDecider, decided}
-use Rattle.ofp_rules.specs.Meaning.{HasVerdict}
+use Rattle.ofp_rules.specs.Semantics.{HasVerdict}
 use Rattle.ofp_rules.proofs.table.Table.decider_within.Goals as goal
 
 pub returns-clause-decider : goal.returns-clause-decider

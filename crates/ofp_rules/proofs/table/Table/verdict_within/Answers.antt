@@ -3,7 +3,7 @@ use Rattle.std.specs.Option.{option_copied}
 use Rattle.host_net.specs.declared.packet.Verdict.{Verdict}
 use Rattle.ofp_rules.specs.declared.entry.Entry.{Entry}
 use Rattle.ofp_rules.specs.declared.entry.Frame.TheVariants.{Ipv4}
-use Rattle.ofp_rules.specs.Meaning.{HasVerdict}
+use Rattle.ofp_rules.specs.Semantics.{HasVerdict}
 use Rattle.ofp_rules.proofs.HighestLaws.{verdict_found}
 use Rattle.ofp_rules.proofs.table.Table.verdict_within.Goals as goal
 

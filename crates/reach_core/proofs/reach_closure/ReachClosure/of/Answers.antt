@@ -2,7 +2,7 @@ use Rattle.std.proofs.Common.{List, [], ◌∷◌, ◌++◌, ◌∙◌, ap, sym,
 use Rattle.flow_set.specs.declared.flow.Flow.{Flow}
 use Rattle.flow_set.specs.Flow.{IsFlow}
 use Rattle.flow_set.specs.FlowSet.{IsOrdered, with_flow}
-use Rattle.flow_set.specs.inner.Steps.{TriedFlows}
+use Rattle.flow_set.specs.inner.Steps.{UndoableFlows}
 use Rattle.flow_set.specs.laws.FlowLaws.{front_before, has_first, IsOrdered-front, with_flow-last}
 use Rattle.flow_set.specs.laws.WalkLaws.{walk_next, walk_member}
 use Rattle.reach_core.proofs.reach_closure.ReachClosure.of.Goals as goal
@@ -22,9 +22,9 @@ loop-f-preserved c =
     let f : Flow = c.in-Some.f in
     let ordered = IsOrdered-front (xs ++ f ∷ []) c.next.new.self (subst IsOrdered (sym walk) c.iter-f-items.ensures.set.ordered) in
     record {
-      size = ap (λ (t : TriedFlows). t.size) c.try_add.ensures ∙ kept.size;
+      size = ap (λ (t : UndoableFlows). t.size) c.try_add.ensures ∙ kept.size;
       flows =
-          ap (λ (t : TriedFlows). t.flows) c.try_add.ensures ∙ ap (λ (fs : List Flow). with_flow fs c.in-Some.f) kept.flows
+          ap (λ (t : UndoableFlows). t.flows) c.try_add.ensures ∙ ap (λ (fs : List Flow). with_flow fs c.in-Some.f) kept.flows
           ∙ with_flow-last xs f (λ g there. front_before xs (f ∷ []) g f ordered there (has_first f []));
       walk = walk;
     }

@@ -1,12 +1,12 @@
 use Rattle.std.proofs.Common.{◌≡◌, ℕ, List, refl, sym, ◌∙◌, ap, subst}
 use Rattle.std.specs.Prelude.{IsFalse}
-use Rattle.permit_core.specs.inner.Grown.{IsGrown}
+use Rattle.permit_core.specs.inner.Grown.{IsExtended}
 use Rattle.flow_set.specs.declared.flow.Flow.{Flow}
-use Rattle.flow_set.specs.Flow.{back_of}
+use Rattle.flow_set.specs.Flow.{reverse_of}
 use Rattle.flow_set.specs.FlowSet.{has, with_back}
 use Rattle.flow_set.specs.inner.FlowSetView.{IsFlowSet}
 use Rattle.state_core.specs.Stateful.{StrictHold}
-use Rattle.state_core.proofs.Refining.{answers-IsGrown, permitted_answer}
+use Rattle.state_core.proofs.Refining.{answers-IsExtended, permitted_answer}
 use Rattle.state_core.proofs.refinement.AnsweredCondition.meets.Goals as goal
 
 -- The invariants already hold for the permitted flows with the answers so far, and a permitted answer adds nothing.
@@ -21,13 +21,13 @@ returns-then-has g c =
 
 -- The tested set is the permitted flows with the answers so far and one more.
 grown_by : (n m : ℕ) (Holds : List Flow → Type 0) (p fs all : List Flow) (f answer : Flow) → m ≡ n → all ≡ with_back p fs
-    → answer ≡ back_of f → IsFlowSet n p → IsFalse (has p answer)
-    → IsGrown n (λ s. Holds (with_back p s)) fs f → IsGrown m Holds all answer
+    → answer ≡ reverse_of f → IsFlowSet n p → IsFalse (has p answer)
+    → IsExtended n (λ s. Holds (with_back p s)) fs f → IsExtended m Holds all answer
 grown_by n m Holds p fs all f answer size flows is set absent grown =
-    subst (λ k. IsGrown k Holds all answer) (sym size)
-    (subst (λ (zs : List Flow). IsGrown n Holds zs answer) (sym flows)
-    (subst (λ (h : Flow). IsGrown n Holds (with_back p fs) h) (sym is)
-    (answers-IsGrown n Holds p fs f set (subst (λ (h : Flow). IsFalse (has p h)) is absent) grown)))
+    subst (λ k. IsExtended k Holds all answer) (sym size)
+    (subst (λ (zs : List Flow). IsExtended n Holds zs answer) (sym flows)
+    (subst (λ (h : Flow). IsExtended n Holds (with_back p fs) h) (sym is)
+    (answers-IsExtended n Holds p fs f set (subst (λ (h : Flow). IsFalse (has p h)) is absent) grown)))
 
 pub chosen_still_hold-requires-clause-grown : goal.chosen_still_hold-requires-clause-grown
 chosen_still_hold-requires-clause-grown g c =

@@ -2,7 +2,7 @@ use Rattle.std.proofs.Common.{◌≡◌, Bool, ◌&&◌, not, List, cond, ◌∙
 use Rattle.flow_set.specs.declared.flow.Flow.{Flow}
 use Rattle.flow_set.specs.Flow.{IsFlow}
 use Rattle.flow_set.specs.FlowSet.{with_flow, with_back}
-use Rattle.flow_set.proofs.SubsetLaws.{IsFlow-back_of, IsFlowSet-with_back}
+use Rattle.flow_set.proofs.SubsetLaws.{IsFlow-reverse_of, IsFlowSet-with_back}
 use Rattle.permit_core.specs.inner.Tried.{ChosenTried}
 use Rattle.permit_core.specs.inner.Trials.{ChosenHold}
 use Rattle.permit_core.proofs.PolicyLaws.{marked_edge_wise}
@@ -40,7 +40,7 @@ step_chosen-requires-clause-can g c =
     CanTake-chosen n inv.size_of inv.holds_on g.I.Stepwise.fits g.I.Tried.Trial.tried
     (λ x. is_strict (inv.strategy_of x) (inv.edge_mark x)) inv.edge_mark c.args.self.now.invs.now c.args.trials.now.items
     (with_back c.args.self.now.permitted.now.flows c.args._kept.now.flows) c.back-answer.result
-    c.requires.come.2 (subst (IsFlow n) (sym c.back-answer.ensures) (IsFlow-back_of n c.args.f c.requires.new.flow)) c.requires.held c.requires.come.3
+    c.requires.come.2 (subst (IsFlow n) (sym c.back-answer.ensures) (IsFlow-reverse_of n c.args.f c.requires.new.flow)) c.requires.held c.requires.come.3
 
 pub returns-clause-answer : goal.returns-clause-answer
 returns-clause-answer g c =
@@ -55,7 +55,7 @@ returns-clause-answer g c =
     (with_back p kept) c.back-answer.result
     (marked_edge_wise n inv.size_of inv.edge_mark inv.holds_on invs g.met.I.Invariant.mark_is_right c.requires.come.2)
     (IsFlowSet-with_back n p kept c.requires.come.1 c.requires.new.set)
-    (subst (IsFlow n) (sym c.back-answer.ensures) (IsFlow-back_of n c.args.f c.requires.new.flow)) c.requires.held c.requires.come.3 in
+    (subst (IsFlow n) (sym c.back-answer.ensures) (IsFlow-reverse_of n c.args.f c.requires.new.flow)) c.requires.held c.requires.come.3 in
     let more : with_flow (with_back p kept) c.back-answer.result ≡ with_back p (with_flow kept c.args.f) = ap (λ (h : Flow). with_flow (with_back p kept) h) c.back-answer.ensures ∙ answer_of_more p kept c.args.f c.requires.come.1.ordered in (
       λ yes. subst (ChosenHold strict inv.holds_on invs) more (law.0 (c.step_chosen.ensures.answer.0 yes)),
       λ all. c.step_chosen.ensures.answer.1 (law.1 (subst (ChosenHold strict inv.holds_on invs) (sym more) all)),

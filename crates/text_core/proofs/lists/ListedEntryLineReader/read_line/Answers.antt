@@ -1,6 +1,6 @@
 use Rattle.std.proofs.Common.{◌≡◌, ◌≤◌, length, map, Err, arith, rules, tests}
 use Rattle.std.proofs.lemmas.List.{length-map}
-use Rattle.text_core.specs.ListText.{too_many}
+use Rattle.text_core.specs.ListFormat.{too_many}
 use Rattle.text_core.proofs.lists.ListedEntryLineReader.read_line.Goals as goal
 
 pub returns-in_err-entry-clause-err : goal.returns-in_err-entry-clause-err

@@ -3,7 +3,7 @@ use Rattle.std.proofs.lemmas.List.{length-replicate}
 use Rattle.std.proofs.lemmas.List.Elements.{All-replicate}
 use Rattle.std.specs.Prelude.{IsTrue, ◌<◌}
 use Rattle.tmpl_table.specs.KindTable.{KindTable, is_lawful}
-use Rattle.tmpl_table.specs.inner.KindTable.{HidesNoFault}
+use Rattle.tmpl_table.specs.inner.KindTable.{HasSecureDefault}
 use Rattle.tmpl_table.specs.laws.KindTableLaws.{accepted, refused}
 use Rattle.tmpl_table.proofs.table_rule.TableRule.new.Goals as goal
 
@@ -26,5 +26,5 @@ invariant_of-result c =
 pub returns-clause-accepted : goal.returns-clause-accepted
 returns-clause-accepted c =
     let table_of : List (ℕ × ℕ) → KindTable = λ pairs. record { name = c.args.name; strategy = c.args.strategy; kinds = c.args.kinds; default = c.args.default; denied = pairs } in
-    subst (λ (pairs : List (ℕ × ℕ)). IsTrue (is_lawful (table_of pairs)) × HidesNoFault (table_of pairs)) (sym c.in_ok-from_slice.ensures.items)
+    subst (λ (pairs : List (ℕ × ℕ)). IsTrue (is_lawful (table_of pairs)) × HasSecureDefault (table_of pairs)) (sym c.in_ok-from_slice.ensures.items)
     (accepted (table_of c.args.denied.now) (sym c.first_place.ensures ∙ c.in_default.is))

@@ -1,0 +1,12 @@
+use Rattle.std.proofs.Common.{◌≡◌, ◌++◌, map, drop}
+use Rattle.std.specs.Prelude.{filter_map}
+use Rattle.toml.specs.Data.{as_table}
+use Rattle.toml.specs.View.{view}
+use Rattle.desc_form.specs.inner.RawView.{host_view}
+use Rattle.desc_form.specs.RawDescription.{raw_host}
+use Rattle.desc_form.proofs.raw.hosts_among.Given as goal
+
+abbrev pub invariant-loop-value : goal.invariant-loop-value
+invariant-loop-value l = record {
+  grown : map host_view l.hosts.items ++ map raw_host (filter_map as_table (map view (drop l.value-index l.values))) ≡ map raw_host (filter_map as_table (map view l.values));
+}

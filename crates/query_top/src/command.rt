@@ -1,0 +1,70 @@
+//! The question of a command line.
+
+ghost use Rattle.std.specs.Prelude.{◌≡◌, map, string_bytes, option_map};
+ghost use Rattle.topos_top.specs.inner.Command.{two_words};
+ghost use Rattle.query_top.specs.inner.Command.{among, command_of, forms};
+ghost use Rattle.query_top.specs.inner.Views.{command_view};
+
+use topos_top::{Dialect, one_word, three_words};
+
+/// A question: a variant for each form, with all its words.
+#[derive(Clone, Copy)]
+pub enum Command<'a> {
+    /// `why FILE FROM TO`: why a flow is permitted, denied or without answers.
+    Why(&'a str, &'a str, &'a str),
+    /// `network FILE`: all that the description and its policy say of hosts, invariants and flows.
+    Network(&'a str),
+    /// `flows iptables|openflow FILE RULES`: what rules let pass between the hosts.
+    Flows(Dialect, &'a str, &'a str),
+    /// `compare iptables|openflow FILE RULES`: whether rules do what the policy says, for each pair of owners.
+    Compare(Dialect, &'a str, &'a str),
+    /// `changes OLD NEW`: the packets that the policies of two descriptions treat differently.
+    Changes(&'a str, &'a str),
+}
+
+/// Returns the question of the words, or `None` if they are no form.
+#[tactic(auto, unfolding(crate::specs::inner::Command::command_of))]
+pub fn parse_command(words: &[String]) -> Option<Command<'_>>
+    ensures { option_map command_view result ≡ command_of (map string_bytes words.now) }
+{
+    match words {
+        [verb, rest @ ..] => parse_after_verb(verb.as_str(), rest),
+        [] => None,
+    }
+}
+
+// Returns the question of a verb with the words after it.
+fn parse_after_verb<'a>(verb: &str, rest: &'a [String]) -> Option<Command<'a>>
+    ensures { option_map command_view result ≡ among forms verb.now (map string_bytes rest.now) }
+{
+    match verb {
+        "why" => {
+            let (file, from, to) = three_words(rest)?;
+            Some(Command::Why(file, from, to))
+        }
+        "network" => Some(Command::Network(one_word(rest)?)),
+        "flows" => {
+            let (word, file, rules) = three_words(rest)?;
+            Some(Command::Flows(Dialect::named(word)?, file, rules))
+        }
+        "compare" => {
+            let (word, file, rules) = three_words(rest)?;
+            Some(Command::Compare(Dialect::named(word)?, file, rules))
+        }
+        "changes" => {
+            let (old, new) = two_words(rest)?;
+            Some(Command::Changes(old, new))
+        }
+        _ => None,
+    }
+}
+
+// Returns the two words, if there are exactly two.
+fn two_words(words: &[String]) -> Option<(&str, &str)>
+    ensures { option_map (λ pair. (pair.0.now, pair.1.now)) result ≡ two_words (map string_bytes words.now) }
+{
+    match words {
+        [first, second] => Some((first.as_str(), second.as_str())),
+        [] | [_] | [_, _, _, ..] => None,
+    }
+}

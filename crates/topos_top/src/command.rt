@@ -1,0 +1,125 @@
+//! Parsing the arguments of a command line.
+
+ghost use Rattle.std.specs.Prelude.{◌≡◌, ◌≤◌, map, string_bytes, option_map, IfSome};
+ghost use Rattle.host_net.specs.Limits.{host_limit};
+ghost use Rattle.topos_top.specs.inner.Command.{command_of, parse_host_count, among, forms, one_word, two_words, three_words};
+ghost use Rattle.topos_top.specs.inner.Views.{command_view, IsWithinHosts};
+
+use crate::dialect::Dialect;
+use host_net::HOST_LIMIT;
+use text_core::read_number;
+
+/// A command: one variant per command form, with all its arguments.
+#[derive(Clone, Copy)]
+pub enum Command<'a> {
+    /// `check FILE`: whether the asked flows satisfy the invariants.
+    Check(&'a str),
+    /// `policy FILE`: the status of each flow, and the reason.
+    Policy(&'a str),
+    /// `rules iptables|openflow FILE`: the rules of the permitted policy, unless the policy was
+    /// listed and violates an invariant.
+    Rules(Dialect, &'a str),
+    /// `repair iptables|openflow FILE`: the rules of the permitted policy.
+    Repair(Dialect, &'a str),
+    /// `trace iptables|openflow RULES EVENTS`: the result of each event.
+    Trace(Dialect, &'a str, &'a str),
+    /// `sample N`: the results of every command for a network of N hosts, in numbers.
+    Sample(u16),
+    /// `migrate FILE`: the description in version 2.
+    Migrate(&'a str),
+    /// `audit iptables|openflow FILE RULES`: whether rules forward what the policy expects.
+    Audit(Dialect, &'a str, &'a str),
+    /// `edit FILE EDITS`: the development of the network edit by edit, and its final policy.
+    Edit(&'a str, &'a str),
+    /// `local FILE HOST`: the rules for the machines of one host.
+    Local(&'a str, &'a str),
+}
+
+/// Parses a command, if the arguments form one.
+#[tactic(auto, unfolding(crate::specs::inner::Command::command_of))]
+pub fn parse_command(words: &[String]) -> Option<Command<'_>>
+    ensures command { option_map command_view result ≡ command_of (map string_bytes words.now) }
+    ensures few { IfSome result (λ command. IsWithinHosts (command_view command)) }
+{
+    match words {
+        [verb, rest @ ..] => parse_after_verb(verb.as_str(), rest),
+        [] => None,
+    }
+}
+
+/// Parses a command from a verb and the arguments after it.
+fn parse_after_verb<'a>(verb: &str, rest: &'a [String]) -> Option<Command<'a>>
+    ensures command { option_map command_view result ≡ among forms verb.now (map string_bytes rest.now) }
+    ensures few { IfSome result (λ command. IsWithinHosts (command_view command)) }
+{
+    match verb {
+        "check" => Some(Command::Check(one_word(rest)?)),
+        "policy" => Some(Command::Policy(one_word(rest)?)),
+        "rules" => {
+            let (word, file) = two_words(rest)?;
+            Some(Command::Rules(Dialect::named(word)?, file))
+        }
+        "repair" => {
+            let (word, file) = two_words(rest)?;
+            Some(Command::Repair(Dialect::named(word)?, file))
+        }
+        "trace" => {
+            let (word, rules, events) = three_words(rest)?;
+            Some(Command::Trace(Dialect::named(word)?, rules, events))
+        }
+        "sample" => Some(Command::Sample(parse_host_count(one_word(rest)?)?)),
+        "migrate" => Some(Command::Migrate(one_word(rest)?)),
+        "audit" => {
+            let (word, file, rules) = three_words(rest)?;
+            Some(Command::Audit(Dialect::named(word)?, file, rules))
+        }
+        "edit" => {
+            let (file, edits) = two_words(rest)?;
+            Some(Command::Edit(file, edits))
+        }
+        "local" => {
+            let (file, host) = two_words(rest)?;
+            Some(Command::Local(file, host))
+        }
+        _ => None,
+    }
+}
+
+/// Returns the single argument, if there is exactly one.
+pub fn one_word(words: &[String]) -> Option<&str>
+    ensures { option_map (λ word. word.now) result ≡ one_word (map string_bytes words.now) }
+{
+    match words {
+        [word] => Some(word.as_str()),
+        [] | [_, _, ..] => None,
+    }
+}
+
+fn two_words(words: &[String]) -> Option<(&str, &str)>
+    ensures { option_map (λ pair. (pair.0.now, pair.1.now)) result ≡ two_words (map string_bytes words.now) }
+{
+    match words {
+        [first, second] => Some((first.as_str(), second.as_str())),
+        [] | [_] | [_, _, _, ..] => None,
+    }
+}
+
+pub fn three_words(words: &[String]) -> Option<(&str, &str, &str)>
+    ensures { option_map (λ all. (all.0.now, all.1.now, all.2.now)) result ≡ three_words (map string_bytes words.now) }
+{
+    match words {
+        [first, second, third] => Some((first.as_str(), second.as_str(), third.as_str())),
+        [] | [_] | [_, _] | [_, _, _, _, ..] => None,
+    }
+}
+
+/// Parses a number of hosts, from 1 to the host limit.
+fn parse_host_count(word: &str) -> Option<u16>
+    ensures said { result ≡ parse_host_count word.now }
+    ensures few { IfSome result (λ hosts. hosts ≤ host_limit) }
+{
+    match read_number(HOST_LIMIT as u32, word.as_bytes()) {
+        Some(hosts) if hosts != 0 => Some(hosts as u16),
+        _ => None,
+    }
+}
