@@ -330,7 +330,7 @@ between_zip hosts (w ∷ ws) (e ∷ es) zipped apart =
     let (here, behind) = and_parts (not (e.from == e.to)) _ apart in
     λ j. cons_option (flow_is hosts w e zipped.0 here j) (between_zip hosts ws es zipped.1 behind j)
 
--- The asked flows.
+-- The requested flows.
 pub asked_is : (w : RawDescription) (es : List Flow) → each (ends_of (network_hosts w)) w.flows ≡ Some es → self_found es ≡ None
     → asked_of w ≡ (if w.given then set_of es else every_flow (length w.hosts))
 unfolding asked_of

@@ -115,7 +115,7 @@ none_before None None (Some r) none = cc
 none_before None (Some r) e none = cc
 none_before (Some r) d e none = cc
 
--- The asked flows, as they are built.
+-- The requested flows, as they are built.
 abbrev pub made_set : RawDescription → ℕ → List Flow → SetOfFlows
 made_set w n es = record { size = n; flows = if w.given then set_of es else every_flow n }
 

@@ -1,5 +1,5 @@
-//! The description of a network: its hosts, the asked flows between them, their services, and its
-//! invariants.
+//! The description of a network: its hosts, the requested flows between them, their services, and
+//! its invariants.
 ghost use Rattle.std.specs.Prelude.{◌≡◌, ◌≢◌, IfOk};
 ghost use Rattle.desc_core.specs.inner.AllConditions.{conditions};
 ghost use Rattle.desc_core.specs.Conditions.{table_conditions};

@@ -1,4 +1,4 @@
-//! The flows of a description with resolved hosts: their refusals, and the set of asked flows.
+//! The flows of a description with resolved hosts: their refusals, and the set of requested flows.
 ghost use Rattle.std.specs.Prelude.{◌≡◌, ◌≤◌, Some, find, All, IsTrue, if◌then◌else◌};
 ghost use Rattle.desc_core.specs.Description.{ok_unless_refused};
 ghost use Rattle.desc_core.specs.inner.Parts.{self_found, twice_found};
@@ -29,8 +29,8 @@ pub(crate) fn self_flow(flows: &[Flow]) -> Option<Refusal>
     None
 }
 
-/// Returns the asked flows between `count` hosts: the listed ones, or every flow if none are given;
-/// or the refusal of a flow that is listed twice.
+/// Returns the requested flows between `count` hosts: the listed ones, or every flow if none are
+/// given; or the refusal of a flow that is listed twice.
 pub(crate) fn asked_flows(
     alloc: Global,
     count: u16,

@@ -1,6 +1,6 @@
-//! The description of a network: a TOML document with the hosts, the asked flows and the invariants
-//! that have to hold. This crate computes the network that it specifies, or the first condition
-//! that refuses it.
+//! The description of a network: a TOML document with the hosts, the requested flows and the
+//! invariants that have to hold. This crate computes the network that it specifies, or the first
+//! condition that refuses it.
 #![tactic(auto)]
 
 mod choice;

@@ -50,7 +50,7 @@ use Rattle.text_core.specs.Name.{is_name}
 
 -- ---- the network of a table with other flows
 
--- The network with these asked flows and these restricted flows.
+-- The network with these requested flows and these restricted flows.
 abbrev asking_with : Network → List Flow → List RestrictedFlow → Network
 asking_with d flows services = record d { asked = record { size = d.asked.size; flows = flows }; services = services }
 
@@ -223,7 +223,7 @@ after_added table flows d words f ss there said right =
 
 -- ---- the flow of two names
 
--- An asked flow has two different hosts.
+-- A requested flow has two different hosts.
 asked_apart : (table : Members) (d : Network) (f : Flow) → described_by_table table ≡ Ok d → IsTrue (has d.asked.flows f) → f.from ≢ f.to
 asked_apart table d f said asked = ((IsNetwork-table table d said).asked.flows f asked).2
 
@@ -237,7 +237,7 @@ asked_ends table d from to f said asked =
       apart = asked_apart table d f said asked.asked;
     }
 
--- An asked flow is listed in the table.
+-- A requested flow is listed in the table.
 pub asked_listed : (table : Members) (flows : List Data) (d : Network) (from to : List ℕ) (f : Flow)
     → list_at (codes "flow") table ≡ Some flows → described_by_table table ≡ Ok d → IsAskedFlow d from to f → IsTrue (list_any (is_between from to) flows)
 asked_listed table flows d from to f there said asked =
@@ -291,7 +291,7 @@ few_hosts table d said =
     let hosts : network_hosts (written table) ≡ d.hosts = sym (hosts_of (written table)) ∙ ap (λ (n : Network). n.hosts) (accepted table d said).network in
     subst (λ n. n ≤ 256) (fits.sized ∙ ap (λ (hs : List Host). length hs) (sym hosts)) fits.asked.small
 
--- An asked flow, removed.
+-- A requested flow, removed.
 pub removed : (table : Members) (flows : List Data) (d : Network) (from to : List ℕ) (f : Flow)
     → list_at (codes "flow") table ≡ Some flows → described_by_table table ≡ Ok d → IsAskedFlow d from to f
     → described_by_table (with_list (codes "flow") (filter (λ x. not (is_between from to x)) flows) table) ≡ Ok (asking_less d f)

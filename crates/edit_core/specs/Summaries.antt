@@ -11,7 +11,7 @@ use Rattle.net_core.specs.FailingFlows.{AreFailing}
 use Rattle.toml.specs.Data.{Members}
 
 -- The numbers of flows that the network asks for, that its policy permits, and whose answers pass; and the number of its invariants that
--- fail on the asked flows.
+-- fail on the requested flows.
 pub record Summarizes (d : Network) (policy : Policy) (summary : Summary) : Type 0 where
   pub asked : summary.asked ≡ length d.asked.flows
   pub permitted : summary.permitted ≡ length policy.permitted.flows

@@ -73,7 +73,7 @@ fn valid_flow(description: &Description, words: &[String]) -> Option<Flow>
     Some(flow)
 }
 
-/// Returns the flow between two hosts, if it is asked for and has no services.
+/// Returns the flow between two hosts, if it is requested and has no services.
 fn asked_flow(description: &Description, from: &str, to: &str) -> Option<Flow>
     ensures asked { IfSome result (IsAskedFlow description.now from.now to.now) }
     ensures whole { IfSome result (λ flow. services_of description.now.services flow.from flow.to ≡ []) }
@@ -178,7 +178,7 @@ fn edit_elements(
     }
 }
 
-/// Appends a flow to the list, if allocation succeeds, and adds it to the asked flows.
+/// Appends a flow to the list, if allocation succeeds, and adds it to the requested flows.
 fn add(
     alloc: Global,
     elements: &mut Vec<Value>,
@@ -204,7 +204,7 @@ fn add(
     elements.push(listed).is_ok()
 }
 
-/// Removes the flow between two hosts from the list and from the asked flows.
+/// Removes the flow between two hosts from the list and from the requested flows.
 fn remove(
     alloc: Global,
     elements: &mut Vec<Value>,

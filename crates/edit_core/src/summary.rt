@@ -5,7 +5,7 @@ ghost use Rattle.net_core.specs.Policies.{IsPolicyOf};
 
 use net_core::NetworkWithPolicy;
 
-/// The numbers of asked, permitted and stateful flows, and of invariants that fail on the asked
+/// The numbers of asked, permitted and stateful flows, and of invariants that fail on the requested
 /// flows.
 #[derive(Clone, Copy, Debug, PartialEq, Eq)]
 pub struct Summary {

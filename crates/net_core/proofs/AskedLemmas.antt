@@ -1,4 +1,4 @@
--- Adding a flow that is asked for already, or removing one that is not; and a change that is undone.
+-- Adding a flow that is requested already, or removing one that is not; and a change that is undone.
 use Rattle.std.proofs.Common.{◌≡◌, Bool, true, false, not, refl, ap, sym, subst, ◌∙◌}
 use Rattle.std.specs.Bool.{beq}
 use Rattle.std.proofs.lemmas.Bool.{false≢true}

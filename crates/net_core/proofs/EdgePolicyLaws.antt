@@ -211,14 +211,14 @@ one_less d policy f is = record {
 
 -- ---- the policies themselves
 
--- A flow that is no longer asked for.
+-- A flow that is no longer requested.
 pub policy_less : (d : Network) (policy : Policy) (f : Flow) → IsNetwork d → IsEdgeWiseNetwork d → IsFlow d.asked.size f → IsPolicyOf d policy
     → IsPolicyOf (not_asking_for d f) (WithFlows (without_flow policy.permitted.flows f) (without_flow policy.stateful.flows f) policy)
 policy_less d policy f network alone flow is =
     policy-IsEdgePolicy (not_asking_for d f) (WithFlows (without_flow policy.permitted.flows f) (without_flow policy.stateful.flows f) policy)
     (network_where false d f flow network) alone (one_less d policy f (IsEdgePolicy-policy d policy network alone is))
 
--- An asked flow that is admitted, with its answers.
+-- A requested flow that is admitted, with its answers.
 pub policy_answered : (d : Network) (policy : Policy) (f : Flow) → IsNetwork d → IsEdgeWiseNetwork d → IsFlow d.asked.size f → IsFalse (has d.asked.flows f)
     → IsAdmitted d f → IsTrue d.answers → IsAnswered d f → IsPolicyOf d policy
     → IsPolicyOf (asking_for d f) (WithFlows (with_flow policy.permitted.flows f) (with_flow policy.stateful.flows f) policy)

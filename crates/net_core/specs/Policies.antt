@@ -37,7 +37,7 @@ MeetsStrict d flows = StrictHold strategy_of edge_mark holds_on d.invariants flo
 abbrev pub IsEdgeWiseNetwork : Network → Type 0
 IsEdgeWiseNetwork d = All (λ inv. IsTrue (edge_mark inv)) d.invariants
 
--- p is the set of permitted flows: the first subset of the asked flows on which every invariant holds.
+-- p is the set of permitted flows: the first subset of the requested flows on which every invariant holds.
 abbrev pub IsPermitted : Network → List Flow → Type 0
 IsPermitted d p = IsFirst (MeetsAll d) d.asked.flows p
 
@@ -66,6 +66,6 @@ pub record IsPolicyOf (d : Network) (policy : Policy) : Type 0 where
 abbrev pub CompliesWithAll : Network → Policy → Type 0
 CompliesWithAll d policy = CompliesWithEach strategy_of holds_on d.invariants policy.permitted.flows policy.stateful.flows
 
--- The permitted flows contain every other subset of the asked flows on which every invariant holds.
+-- The permitted flows contain every other subset of the requested flows on which every invariant holds.
 abbrev pub IsGreatestPolicy : Network → Policy → Type 0
 IsGreatestPolicy d policy = IsGreatest (MeetsAll d) d.asked.flows policy.permitted.flows

@@ -1,4 +1,4 @@
-//! The number of invariants that fail on the asked flows.
+//! The number of invariants that fail on the requested flows.
 
 ghost use Rattle.std.specs.Prelude.{◌↔◌, ℕ, List, IfOk, IsFalse};
 ghost use Rattle.flow_set.specs.inner.Downward.{IsEdgeWise};
@@ -15,7 +15,7 @@ use inv_any::AnyInv;
 use inv_law::Invariant;
 use std::alloc::{AllocError, Global};
 
-/// Returns the number of invariants that fail on the asked flows.
+/// Returns the number of invariants that fail on the requested flows.
 pub(crate) fn count_failed(alloc: Global, description: &Description) -> Result<u16, AllocError>
     ensures { IfOk result (AreFailing description.now.invariants description.now.asked.flows) }
 {
@@ -29,7 +29,7 @@ pub(crate) fn count_failed(alloc: Global, description: &Description) -> Result<u
     Ok(count)
 }
 
-/// Returns the number of invariants that fail on the asked flows, given the flows on which each
+/// Returns the number of invariants that fail on the requested flows, given the flows on which each
 /// fails.
 pub(crate) fn count_failing(description: &Description, failing: &[FlowSet]) -> u16
     requires network { IsNetwork description.now }

@@ -1,4 +1,4 @@
-//! A network: its hosts, the asked flows between them, their services, and its invariants.
+//! A network: its hosts, the requested flows between them, their services, and its invariants.
 
 ghost use Rattle.std.specs.Prelude.{◌≡◌, ◌≤◌, All, length};
 ghost use Rattle.flow_set.specs.Flow.{IsFlow};
@@ -87,7 +87,7 @@ impl Description {
         &self.hosts
     }
 
-    /// Returns the asked flows.
+    /// Returns the requested flows.
     pub fn asked(&self) -> &FlowSet
         ensures value { result.now ≡ self.now.asked }
         ensures size { self.now.asked.size ≡ length self.now.hosts }
@@ -96,7 +96,7 @@ impl Description {
         &self.asked
     }
 
-    /// Adds the flow to the asked flows, or removes it. Its services are unchanged.
+    /// Adds the flow to the requested flows, or removes it. Its services are unchanged.
     pub(crate) fn set_asked(&mut self, flow: Flow, asked: bool)
         requires { IsFlow self.old.asked.size flow }
         ensures { self.new ≡ asking_where asked self.old flow }
@@ -113,8 +113,8 @@ impl Description {
         &self.services
     }
 
-    /// Whether the asked flows were listed, possibly as an empty list. If they were not, every flow
-    /// is asked for.
+    /// Whether the requested flows were listed, possibly as an empty list. If they were not, every
+    /// flow is requested.
     pub fn given(&self) -> bool
         ensures { result ≡ self.now.given }
     {

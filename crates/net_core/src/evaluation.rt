@@ -19,10 +19,10 @@ use std::alloc::{AllocError, Global};
 pub(crate) struct Evaluation {
     pub(crate) permitted: FlowSet,
     pub(crate) stateful: FlowSet,
-    /// For each invariant, the asked flows on which it fails. Maintained only if every invariant is
-    /// edge-wise.
+    /// For each invariant, the requested flows on which it fails. Maintained only if every
+    /// invariant is edge-wise.
     pub(crate) failing: Vec<FlowSet>,
-    /// The number of invariants that fail on the set of asked flows.
+    /// The number of invariants that fail on the set of requested flows.
     pub(crate) failed: u16,
 }
 
@@ -42,8 +42,9 @@ pub(crate) fn evaluate(alloc: Global, description: &Description) -> Result<Evalu
     })
 }
 
-/// Reevaluates a network with an invariant that is not edge-wise, after its asked flows changed. If
-/// `stays` is true, the policy is unchanged, and only the failing invariants are counted again.
+/// Reevaluates a network with an invariant that is not edge-wise, after its requested flows
+/// changed. If `stays` is true, the policy is unchanged, and only the failing invariants are
+/// counted again.
 pub(crate) fn reevaluate(
     alloc: Global,
     description: &Description,
@@ -64,7 +65,8 @@ pub(crate) fn reevaluate(
     Ok(())
 }
 
-/// If every invariant is edge-wise, the asked flows on which each of them fails; else an empty list.
+/// If every invariant is edge-wise, the requested flows on which each of them fails; else an empty
+/// list.
 fn failing_edge_wise(alloc: Global, description: &Description) -> Result<Vec<FlowSet>, AllocError>
     ensures { IsEdgeWiseNetwork description.now → IfOk result (λ failing. AreFailingFlows description.now failing.items) }
 {

@@ -16,7 +16,7 @@ use inv_law::Invariant;
 use permit_core::offending_by_steps;
 use std::alloc::{AllocError, Global};
 
-/// Returns, for each invariant, the asked flows on which it fails.
+/// Returns, for each invariant, the requested flows on which it fails.
 pub(crate) fn failing_flows(
     alloc: Global,
     description: &Description,
@@ -45,7 +45,7 @@ fn failing_on(alloc: Global, invariant: &AnyInv, asked: &FlowSet) -> Result<Flow
     }
 }
 
-/// Updates the flows on which invariants fail by a flow that is added to the asked flows, or
+/// Updates the flows on which invariants fail by a flow that is added to the requested flows, or
 /// removed.
 pub(crate) fn change_failing(
     description: &Description,

@@ -74,15 +74,15 @@ impl NetworkWithPolicy {
         &self.evaluation.stateful
     }
 
-    /// Returns the number of invariants that fail on the asked flows.
+    /// Returns the number of invariants that fail on the requested flows.
     pub fn failed(&self) -> u16
         ensures { AreFailing self.now.network.invariants self.now.network.asked.flows result }
     {
         self.evaluation.failed
     }
 
-    /// Adds a flow to the asked flows. If an invariant is not edge-wise, the policy may have to be
-    /// recomputed, which may fail with an allocation error.
+    /// Adds a flow to the requested flows. If an invariant is not edge-wise, the policy may have to
+    /// be recomputed, which may fail with an allocation error.
     pub fn request(&mut self, alloc: Global, flow: Flow) -> Result<(), AllocError>
         requires { IsFlow self.old.network.asked.size flow }
         ensures asked { OnOk result (self.new.network ≡ asking_for self.old.network flow) }
@@ -91,7 +91,7 @@ impl NetworkWithPolicy {
         self.set_asked(alloc, flow, true)
     }
 
-    /// Removes a flow from the asked flows, likewise.
+    /// Removes a flow from the requested flows, likewise.
     pub fn withdraw(&mut self, alloc: Global, flow: Flow) -> Result<(), AllocError>
         requires { IsFlow self.old.network.asked.size flow }
         ensures asked { OnOk result (self.new.network ≡ not_asking_for self.old.network flow) }
@@ -100,7 +100,7 @@ impl NetworkWithPolicy {
         self.set_asked(alloc, flow, false)
     }
 
-    /// Adds the flow to the asked flows, or removes it.
+    /// Adds the flow to the requested flows, or removes it.
     fn set_asked(&mut self, alloc: Global, flow: Flow, asked: bool) -> Result<(), AllocError>
         requires { IsFlow self.old.network.asked.size flow }
         ensures asked { OnOk result (self.new.network ≡ asking_where asked self.old.network flow) }

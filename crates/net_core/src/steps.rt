@@ -16,7 +16,7 @@ use inv_any::AnyInv;
 use inv_law::Invariant;
 use state_core::is_strict;
 
-/// Updates the policy by a flow that is added to the asked flows, or removed.
+/// Updates the policy by a flow that is added to the requested flows, or removed.
 pub(crate) fn change_flow(
     description: &Description,
     permitted: &mut FlowSet,
@@ -38,7 +38,7 @@ pub(crate) fn change_flow(
     }
 }
 
-/// Adds an asked flow: it is permitted if every invariant admits it, and its answers may pass if
+/// Adds a requested flow: it is permitted if every invariant admits it, and its answers may pass if
 /// they are admitted as well.
 fn add_flow(description: &Description, permitted: &mut FlowSet, stateful: &mut FlowSet, flow: Flow)
     requires network { IsNetwork description.now }
@@ -58,7 +58,7 @@ fn add_flow(description: &Description, permitted: &mut FlowSet, stateful: &mut F
     stateful.insert(flow);
 }
 
-/// Removes a flow that is no longer asked for.
+/// Removes a flow that is no longer requested.
 fn remove_flow(
     description: &Description,
     permitted: &mut FlowSet,

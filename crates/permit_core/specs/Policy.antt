@@ -1,5 +1,5 @@
 -- Lists of invariants on one set of flows, and the invariant that denies a flow. An invariant is used only as a
--- predicate, of any type. The permitted policy itself is the first subset of the asked flows on which AllHold
+-- predicate, of any type. The permitted policy itself is the first subset of the requested flows on which AllHold
 -- (flow_set: Conditions). The idea that invariants determine a policy is after C. Diekmann, Provably Secure Networks:
 -- Methodology and Toolset for Configuration Management; that the first of several takes precedence is topoS's own
 -- choice.

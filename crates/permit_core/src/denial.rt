@@ -25,7 +25,7 @@ pub fn blame<I: Invariant>(
         IfOk result (λ blamed. MatchOption blamed
         (AllHold I.holds_on invs.now with)
         (λ number. IsFirstFailing I.holds_on invs.now with number)) }
-    // A flow that was asked for and not permitted is attributed to an invariant.
+    // A flow that was requested and not permitted is attributed to an invariant.
     ensures denied { IsDenied (AllHold I.holds_on invs.now) p.now.flows f → IfOk result IsSome }
 {
     let mut with = p.copy(alloc)?;

@@ -1,4 +1,4 @@
-//! The permitted policy and its explanation: the first subset of the asked flows on which every
+//! The permitted policy and its explanation: the first subset of the requested flows on which every
 //! invariant holds, the flows that violate one invariant, and the invariant that denies a flow. The
 //! crate is generic over lawful invariants and knows no template.
 #![tactic(auto)]

@@ -13,8 +13,8 @@ use flow_set::{Flow, FlowSet};
 use inv_law::Invariant;
 use std::alloc::{AllocError, Global};
 
-/// Returns the first subset of the asked flows on which every invariant holds. If each invariant is
-/// edge-wise, it contains every other such subset.
+/// Returns the first subset of the requested flows on which every invariant holds. If each
+/// invariant is edge-wise, it contains every other such subset.
 pub fn permit<I: Invariant>(
     alloc: Global,
     invs: &[I],

@@ -51,7 +51,7 @@ with_back-with_flow p s f o =
     ∙ ap (λ b. same_flow (reverse_of f) g || b) (sym (has-with_back p s g))
     ∙ sym (has-with_flow (with_back p s) (reverse_of f) g))
 
--- A flow that is asked for and not permitted has a reason.
+-- A flow that is requested and not permitted has a reason.
 pub denied_explained : (d : Network) (p : List Flow) (f : Flow) (reasons : List Reason) → IsPermitted d p → DenyFlow holds_on d.invariants p f reasons
     → IsTrue (has d.asked.flows f) → IsFalse (has p f) → reasons ≡ [] → ⊥
 denied_explained d p f reasons permitted deny asked left none =

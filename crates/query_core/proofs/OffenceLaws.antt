@@ -37,7 +37,7 @@ found_next d count offences x found number is fits = record {
   fit = All-push (FitsOffence d) offences x found.fit fits;
 }
 
--- A minimal offending set of the asked flows is a set of flows between the hosts.
+-- A minimal offending set of the requested flows is a set of flows between the hosts.
 pub offending_fit : (n : ℕ) (Holds : List Flow → Type 0) (asked : List Flow) (o : Option SetOfFlows) → IsFlowSet n asked
     → IfSome o (λ f. IsMinimalOffending Holds asked f.flows) → ForSome o (λ f. IsFlowSet n f.flows)
 offending_fit n Holds asked None set minimal = λ x is. cc is

@@ -16,7 +16,7 @@ pub record IsExplanation (d : Network) (policy : Policy) (f : Flow) (x : Explana
   pub denied : DenyFlow holds_on d.invariants policy.permitted.flows f x.denied_by.items
   pub answers_denied : DenyAnswers strategy_of edge_mark holds_on d.invariants policy.permitted.flows policy.stateful.flows f x.answers_denied_by.items
 
--- A flow that is asked for and not permitted has a reason. Where flows may have answers, a permitted flow whose answers may not
+-- A flow that is requested and not permitted has a reason. Where flows may have answers, a permitted flow whose answers may not
 -- pass has a reason.
 pub record HasReasons (d : Network) (x : Explanation) : Type 0 where
   pub denied : IsTrue x.standing.asked → IsFalse x.standing.permitted → x.denied_by.items ≡ [] → ⊥

@@ -12,7 +12,7 @@ use Rattle.query_core.specs.Standings.{standing_of}
 abbrev pub asking_too : Network → Flow → Network
 asking_too d f = record d { asked = record { size = d.asked.size; flows = with_flow d.asked.flows f } }
 
--- If the network asked for a gap too, it would permit the gap and all flows that it permits now, and no others.
+-- If the network requested a gap too, it would permit the gap and all flows that it permits now, and no others.
 abbrev pub GapsArePermitted : Network → Policy → List Finding → Type 0
 GapsArePermitted d policy found =
     All (λ x. IsTrue (is_gap (standing_of d policy x.flow) x.by.items) → IsPermitted (asking_too d x.flow) (with_flow policy.permitted.flows x.flow)) found

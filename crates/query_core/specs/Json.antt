@@ -139,7 +139,7 @@ why_json d x =
     codes "{\"version\":1," ++ (standing_json d x.standing ++ (codes ",\"denied_by\":" ++ (array_json (reason_json d) x.denied_by.items
     ++ (codes ",\"answers_denied_by\":" ++ (array_json (reason_json d) x.answers_denied_by.items ++ codes "}\n")))))
 
--- A flow is a gap: it is not asked for, and no invariant denies it beside the permitted flows.
+-- A flow is a gap: it is not requested, and no invariant denies it beside the permitted flows.
 abbrev pub is_gap : Standing → List ℕ → Bool
 is_gap x denied_by = not x.asked && (length denied_by == 0)
 

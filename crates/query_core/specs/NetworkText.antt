@@ -9,7 +9,7 @@ use Rattle.query_core.specs.Json.{network_json}
 use Rattle.query_core.specs.Offences.{AreOffencesOf}
 use Rattle.query_core.specs.declared.offence.Offence.{Offence}
 
--- The text has all hosts; all invariants, each with its offence on the asked flows; every flow between two hosts, with its standing
+-- The text has all hosts; all invariants, each with its offence on the requested flows; every flow between two hosts, with its standing
 -- and all invariants that deny it beside the permitted flows; and every permitted flow whose answers may not pass, with all strict
 -- invariants that deny them.
 pub record IsNetworkText (d : Network) (policy : Policy) (text : List ℕ) : Type 0 where

@@ -1,4 +1,4 @@
--- The invariants of a network, each with the asked flows that offend it.
+-- The invariants of a network, each with the requested flows that offend it.
 use Rattle.std.specs.Prelude.{◌≡◌, List, All, length, map, slice_get, Some}
 use Rattle.std.specs.List.{range_with_len}
 use Rattle.std.specs.Option.{option_map}
@@ -8,8 +8,8 @@ use Rattle.net_core.specs.Policies.{holds_on}
 use Rattle.report_core.specs.CheckReport.{IsViolation}
 use Rattle.query_core.specs.declared.offence.Offence.{Offence}
 
--- The offence is of the invariant with its number: no flows if the invariant holds on the asked flows, and otherwise the asked flows
--- outside the first subset of them on which it holds, which are a minimal offending set.
+-- The offence is of the invariant with its number: no flows if the invariant holds on the requested flows, and otherwise the requested
+-- flows outside the first subset of them on which it holds, which are a minimal offending set.
 pub record IsViolationOf (d : Network) (x : Offence) : Type 0 where
   pub inv : AnyInv
   pub place : slice_get d.invariants x.number ≡ Some inv

@@ -152,7 +152,7 @@ fn push_pair(
     push(text, b"}")
 }
 
-/// Whether the flow is not asked for, and no invariant denies it.
+/// Whether the flow is not requested, and no invariant denies it.
 pub(crate) fn is_gap(standing: Standing, denied_by: &[u16]) -> bool
     ensures { result ≡ is_gap standing denied_by.now }
 {

@@ -1,4 +1,4 @@
-//! The invariants of a network on the asked flows.
+//! The invariants of a network on the requested flows.
 
 ghost use Rattle.std.specs.Prelude.{◌≡◌, ◌++◌, [], All, IfOk, OnOk, length};
 ghost use Rattle.std.specs.Option.{ForSome};
@@ -16,7 +16,8 @@ use net_core::Description;
 use permit_core::offending_by_steps;
 use std::alloc::{AllocError, Global};
 
-/// An invariant, by its number from 0, and a minimal offending set of the asked flows, or `None` if it holds on them.
+/// An invariant, by its number from 0, and a minimal offending set of the requested flows, or
+/// `None` if it holds on them.
 #[derive(Drop)]
 pub struct Offence {
     pub number: u16,

@@ -13,7 +13,7 @@ use flow_set::Flow;
 use net_core::{Description, Policy};
 use std::alloc::AllocError;
 
-/// A flow, and whether it is asked for, whether it is permitted, and whether its answers may pass.
+/// A flow, and whether it is requested, whether it is permitted, and whether its answers may pass.
 #[derive(Clone, Copy)]
 pub struct Standing {
     pub flow: Flow,

@@ -1,4 +1,4 @@
--- Flows that are asked for and not permitted, and the preconditions of their blame.
+-- Flows that are requested and not permitted, and the preconditions of their blame.
 use Rattle.std.proofs.Common.{◌≡◌, ℕ, List, sym, subst}
 use Rattle.std.specs.Prelude.{IsTrue, IsFalse}
 use Rattle.net_core.specs.Network.{Network}

@@ -24,7 +24,7 @@ is_within d policy f Allowed is = tt
 is_within d policy f NotAsked is = tt
 is_within d policy f (Denied k) is = slice_get_within d.invariants k is.2.inv is.2.place
 
--- A flow whose answers may pass is permitted, and a permitted flow is asked for.
+-- A flow whose answers may pass is permitted, and a permitted flow is requested.
 record Nests (d : Network) (policy : Policy) : Type 0 where
   permitted : (f : Flow) → IsTrue (has policy.stateful.flows f) → IsTrue (has policy.permitted.flows f)
   asked : (f : Flow) → IsTrue (has policy.permitted.flows f) → IsTrue (has d.asked.flows f)

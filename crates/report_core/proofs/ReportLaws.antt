@@ -40,7 +40,7 @@ found_by_cases : (Holds : List Flow → Type 0) (asked : List Flow) (found : Opt
 found_by_cases Holds asked None holds rest = holds.0 refl
 found_by_cases Holds asked (Some f) holds rest = (λ met. absurd (false≢true (sym (holds.1 met))), rest)
 
--- The finding for an invariant on the flows that were read is the finding on the asked flows.
+-- The finding for an invariant on the flows that were read is the finding on the requested flows.
 pub offence_found : (Holds : List Flow → Type 0) (asked read : SetOfFlows) (found : Option SetOfFlows) → read ≡ asked → (IsNone found ↔ Holds read.flows) → IfSome found (λ f. (first : List Flow) × IsFirst Holds read.flows first × (f.flows ≡ without read.flows first)) → IsViolation Holds asked.flows (option_map (λ set. set.flows) found)
 offence_found Holds asked read found same holds rest =
     subst (λ (s : SetOfFlows). IsViolation Holds s.flows (option_map (λ set. set.flows) found)) same (found_by_cases Holds read.flows found holds rest)

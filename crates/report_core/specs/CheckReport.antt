@@ -1,4 +1,4 @@
--- The report of `check` (docs/TEXTS.md): for each invariant whether it holds on the asked flows, and if not, its offending flows.
+-- The report of `check` (docs/TEXTS.md): for each invariant whether it holds on the requested flows, and if not, its offending flows.
 use Rattle.std.specs.Prelude.{◌≡◌, ℕ, List, ◌++◌, flat_map, Option, None, Some, codes}
 use Rattle.std.specs.List.{AllZip, zip}
 use Rattle.text_core.specs.FirstMatch.{Numbered, numbered}

@@ -11,7 +11,7 @@ use Rattle.permit_core.specs.Policy.{IsFirstFailing}
 use Rattle.net_core.specs.Policies.{Policy, IsPolicyOf, holds_on}
 use Rattle.report_core.specs.Names.{flow_text, invariant_text}
 
--- The status of a flow: it is permitted and so are its answers; it is permitted but its answers are not; it is not asked for; or the
+-- The status of a flow: it is permitted and so are its answers; it is permitted but its answers are not; it is not requested; or the
 -- invariant with this number, from 0, denies it.
 pub data FlowStatus : Type 0 where
   Answered : FlowStatus
@@ -19,8 +19,8 @@ pub data FlowStatus : Type 0 where
   NotAsked : FlowStatus
   Denied : (number : ℕ) → FlowStatus
 
--- A flow is reported as allowed if and only if the policy permits it, with answers if and only if they may pass, and as not asked for if
--- and only if it is not an asked flow. The invariant that denies a flow is the first that fails on the permitted flows with this one.
+-- A flow is reported as allowed if and only if the policy permits it, with answers if and only if they may pass, and as not requested if
+-- and only if it is not a requested flow. The invariant that denies a flow is the first that fails on the permitted flows with this one.
 pub record IsFlowStatus (d : Network) (policy : Policy) (f : Flow) (flow_status : FlowStatus) : Type 0 where
   pub allowed : ((flow_status ≡ Answered) ⊎ (flow_status ≡ Allowed)) ↔ IsTrue (has policy.permitted.flows f)
   pub answered : (flow_status ≡ Answered) ↔ IsTrue (has policy.stateful.flows f)

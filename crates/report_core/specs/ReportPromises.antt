@@ -13,8 +13,8 @@ use Rattle.report_core.specs.PolicyReport.{IsPolicyReport}
 
 -- ---- the report of `check`
 
--- An invariant is reported to fail if and only if the asked flows violate it, and the flows that are listed for it are a minimal offending
--- set: without them it holds, and with any one of them it does not.
+-- An invariant is reported to fail if and only if the requested flows violate it, and the flows that are listed for it are a minimal
+-- offending set: without them it holds, and with any one of them it does not.
 pub record ReportsViolation (d : Network) (inv : AnyInv) (offence : Option (List Flow)) : Type 0 where
   pub broken : IsSome offence ↔ (holds_on inv d.asked.flows → ⊥)
   pub minimal : IfSome offence (IsMinimalOffending (holds_on inv) d.asked.flows)

@@ -1,4 +1,4 @@
-//! The report of the invariants on the asked flows.
+//! The report of the invariants on the requested flows.
 ghost use Rattle.std.specs.Prelude.{◌≡◌, ◌<◌, ◌↔◌, ◌++◌, [], length, IfOk, IsTrue, OnOk};
 ghost use Rattle.std.specs.List.{flat_map};
 ghost use Rattle.std.specs.Option.{option_map, ForSome};

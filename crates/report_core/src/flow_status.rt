@@ -7,8 +7,8 @@ pub(crate) enum FlowStatus {
     Answered,
     /// The flow is permitted, but its answers are not.
     Allowed,
-    /// The flow is not asked for.
+    /// The flow is not requested.
     NotAsked,
-    /// The flow is asked for, but violates the invariant with this number, from 0.
+    /// The flow is requested, but violates the invariant with this number, from 0.
     Denied(u16),
 }

@@ -120,7 +120,7 @@ fn ruling_of(
     let invariants = description.invariants();
     match blame_by_steps(invariants, trials, policy.permitted(), flow) {
         Some(number) => FlowStatus::Denied(number),
-        // Some invariant denies a flow that is asked for and not permitted.
+        // Some invariant denies a flow that is requested and not permitted.
         None => unreachable!(),
     }
 }

@@ -56,7 +56,7 @@ fn a_limit_denies_a_flow(rt: HostRuntime) -> Result<(), Fail> {
     Ok(())
 }
 
-// Each of the two asked flows violates one of the invariants together with the other flow.
+// Each of the two requested flows violates one of the invariants together with the other flow.
 #[test]
 fn two_invariants_deny_one_flow(rt: HostRuntime) -> Result<(), Fail> {
     let mut denials = NoReach::new(rt.alloc(), 3)?;

@@ -1,4 +1,4 @@
--- `check FILE`: whether the asked flows satisfy the invariants.
+-- `check FILE`: whether the requested flows satisfy the invariants.
 use Rattle.std.specs.Prelude.{[], ◌∷◌}
 use Rattle.net_core.specs.Network.{Network}
 use Rattle.net_core.specs.Policies.{MeetsAll}
@@ -8,14 +8,14 @@ use Rattle.topos_top.specs.Outcomes.{Outcome, Outcomes}
 use Rattle.topos_top.specs.declared.status.Status.{Status}
 use Rattle.topos_top.specs.declared.status.Status.TheVariants.{Violated, Done}
 
--- Every invariant holds on the asked flows.
+-- Every invariant holds on the requested flows.
 abbrev pub AskedHolds : Network → Type 0
 AskedHolds d = MeetsAll d d.asked.flows
 
--- The report names exactly the violated invariants, each with a minimal offending set of the asked flows.
+-- The report names exactly the violated invariants, each with a minimal offending set of the requested flows.
 abbrev pub offences_when : Status → Type 0 → Network → Outcome
 offences_when ended when d = record { status = ended; when = when; is = IsCheckReport d; guarantees = ReportsViolations d }
 
--- The report, with status violated if an invariant fails on the asked flows.
+-- The report, with status violated if an invariant fails on the requested flows.
 abbrev pub check_outcomes : Network → Outcomes
 check_outcomes d = offences_when Violated (AskedHolds d → ⊥) d ∷ (offences_when Done (AskedHolds d) d ∷ [])

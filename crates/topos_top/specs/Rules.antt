@@ -27,8 +27,8 @@ pub record OfPolicy (d : Network) (Holds : Site → (p s : List Flow) → Type 0
 abbrev pub IsRules : RuleDialect → Network → (rules : List ℕ) → Type 0
 IsRules language d rules = OfPolicy d (λ site p s. rules ≡ language.text (language.layout site p s))
 
--- The properties of a policy of a network, regardless of what is emitted for it. The permitted flows are the first subset of the asked
--- flows that satisfies every invariant, and the greatest if all of them are edge-wise. Each asked flow that is omitted violates an
+-- The properties of a policy of a network, regardless of what is emitted for it. The permitted flows are the first subset of the requested
+-- flows that satisfies every invariant, and the greatest if all of them are edge-wise. Each requested flow that is omitted violates an
 -- invariant together with the permitted flows. A listed policy that satisfies every invariant is permitted unchanged. The stateful flows
 -- are the first whose answers violate no strict invariant, and with these answers the policy complies with every invariant.
 pub record PolicyMeetsInvariants (d : Network) (policy : Policy) : Type 0 where

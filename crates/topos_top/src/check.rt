@@ -1,4 +1,4 @@
-//! `check FILE`: whether the asked flows satisfy the invariants.
+//! `check FILE`: whether the requested flows satisfy the invariants.
 
 ghost use Rattle.std.specs.Prelude.{◌≡◌, ◌≤◌, IfOk, true};
 ghost use Rattle.topos_top.specs.Command.{Check};
@@ -32,7 +32,7 @@ pub fn reply<'a, H: Shelf>(
     Answer::of_outcomes(answer(alloc, &description))
 }
 
-/// Returns the report, with status violated if an invariant fails on the asked flows.
+/// Returns the report, with status violated if an invariant fails on the requested flows.
 fn answer<'a>(alloc: Global, description: &Description) -> Result<Answer<'a>, AllocError>
     ensures { IfOk result (λ answer. Answers true (check_outcomes description.now) (reply_view answer)) }
 {

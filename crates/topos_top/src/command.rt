@@ -12,7 +12,7 @@ use text_core::read_number;
 /// A command: one variant per command form, with all its arguments.
 #[derive(Clone, Copy)]
 pub enum Command<'a> {
-    /// `check FILE`: whether the asked flows satisfy the invariants.
+    /// `check FILE`: whether the requested flows satisfy the invariants.
     Check(&'a str),
     /// `policy FILE`: the status of each flow, and the reason.
     Policy(&'a str),

@@ -56,7 +56,7 @@ pub record IsInvariantOf (templates : List RawTemplate) (hosts : List Host) (i :
   pub good : bad_assign (choice_form template) hosts assigns ≡ None
   pub made : invariant ≡ (choice_form template).make (attributes_in (choice_form template) hosts assigns)
 
--- The network contains everything of the raw description, in the same order. If the key `flow` is absent, every flow is asked for. Exactly
+-- The network contains everything of the raw description, in the same order. If the key `flow` is absent, every flow is requested. Exactly
 -- the flows with services are restricted. The declared templates are lawful, so each denies the pairs that it lists.
 pub record IsWhole (w : RawDescription) (d : Network) : Type 0 where
   pub hosts : AllZip IsHostOf w.hosts d.hosts

@@ -18,7 +18,7 @@ IsAdmitted d f = MeetsAll d (f ∷ [])
 abbrev pub IsAnswered : Network → Flow → Type 0
 IsAnswered d f = MeetsStrict d (reverse_of f ∷ [])
 
--- The permitted flows are the asked flows that are admitted, and the stateful flows are those of them whose answers are
+-- The permitted flows are the requested flows that are admitted, and the stateful flows are those of them whose answers are
 -- admitted.
 pub record IsEdgePolicy (d : Network) (policy : Policy) : Type 0 where
   pub permitted_size : policy.permitted.size ≡ d.asked.size

@@ -16,7 +16,7 @@ pub record FailsIn (n : ℕ) (all : List Flow) (inv : AnyInv) (failing : SetOfFl
   pub size : failing.size ≡ n
   pub flows : FailsOn inv all failing.flows
 
--- A set for each invariant: the asked flows on which it fails.
+-- A set for each invariant: the requested flows on which it fails.
 pub record AreFailingFlows (d : Network) (failing : List SetOfFlows) : Type 0 where
   pub counted : length failing ≡ length d.invariants
   pub each : (k : ℕ) (inv : AnyInv) (set : SetOfFlows) → k < length d.invariants

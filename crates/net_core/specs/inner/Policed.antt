@@ -13,8 +13,8 @@ pub record Policed : Type 0 where
 abbrev pub policy_in : Evaluation → Policy
 policy_in j = record { permitted = j.permitted; stateful = j.stateful }
 
--- The policy is that of the network; `failed` is the number of its invariants that fail on the asked flows; and `failing` lists the flows
--- on which each fails, if all are edge-wise.
+-- The policy is that of the network; `failed` is the number of its invariants that fail on the requested flows; and `failing` lists the
+-- flows on which each fails, if all are edge-wise.
 pub record IsEvaluation (d : Network) (j : Evaluation) : Type 0 where
   pub network : IsNetwork d
   pub is_policy : IsPolicyOf d (policy_in j)

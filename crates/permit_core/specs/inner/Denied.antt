@@ -4,7 +4,7 @@ use Rattle.flow_set.specs.declared.flow.Flow.{Flow}
 use Rattle.flow_set.specs.Conditions.{IsFirst}
 use Rattle.flow_set.specs.FlowSet.{has}
 
--- Flow f is denied: it is one of the asked flows from which p was permitted, and p does not contain it.
+-- Flow f is denied: it is one of the requested flows from which p was permitted, and p does not contain it.
 pub record IsDenied (Holds : List Flow → Type 0) (p : List Flow) (f : Flow) : Type 0 where
   pub asked : List Flow
   pub permitted : IsFirst Holds asked p

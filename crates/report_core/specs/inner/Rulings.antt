@@ -8,7 +8,7 @@ use Rattle.flow_set.specs.declared.flow.Flow.{Flow}
 use Rattle.permit_core.specs.Policy.{IsFirstFailing}
 use Rattle.report_core.specs.PolicyReport.{IsFlowStatus, FlowStatus, Answered, Allowed, NotAsked, Denied, policy_text}
 
--- The facts about the policy and the asked flows that determine the status.
+-- The facts about the policy and the requested flows that determine the status.
 abbrev pub IsFound : Network → Policy → Flow → FlowStatus → Type 0
 IsFound d policy f Answered = IsTrue (has policy.stateful.flows f)
 IsFound d policy f Allowed = IsTrue (has policy.permitted.flows f) × IsFalse (has policy.stateful.flows f)

@@ -15,7 +15,7 @@ has-requires-2 c =
     IsFlow-in (length c.args.description.now.hosts) c.args.flow c.permitted.result.now c.args.policy.now.permitted c.permitted.ensures.value
     (c.requires.policy.permitted_size ∙ c.asked-asked.ensures.size) c.requires.flow
 
--- Some invariant denies a flow that is asked for and not permitted.
+-- Some invariant denies a flow that is requested and not permitted.
 pub unreachable-requires : goal.unreachable-requires
 unreachable-requires c =
     let f = c.args.flow in
