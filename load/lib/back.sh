@@ -98,7 +98,10 @@ go_back() {
     if [ "$tries" -ge 6 ] && cannot_go_back "$tries"; then return; fi
     if [ -n "$changed_back" ]; then sleep 0.1; else sleep 1; fi
   done
-  if [ -n "$changed_back" ]; then drop_begun; told+="; $reason"; fi
+  if [ -n "$changed_back" ]; then
+    drop_begun "$was" "$(older_of "$state/before")" 'the new rules'
+    told+="; $reason"
+  fi
   if [ "${#refused[@]}" -gt 0 ]; then
     printf '%s\n' "${refused[@]}" >&2
     finish 71 "$changed: ${#refused[@]} rules are missing, which the kernel rejects (${refused[0]})"

@@ -94,7 +94,7 @@ make_change() {
   open_changing
   if put_in_place; then
     record loaded
-    drop_connections "$loaded"
+    if [ "$action" = remove ]; then drop_after_removal; else drop_connections "$loaded"; fi
   fi
   ln -sfn yes "$state/made"
 }

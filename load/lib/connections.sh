@@ -55,6 +55,7 @@ as_forward() {
 # known, without those in `older`, a file of numbers.
 revoked() {
   local chain status
+  rm -f "$judging/asked"
   tracked >"$judging/all" || return 1
   awk 'FILENAME == ARGV[1] { older[$1]; next } !($7 in older)' "$older" "$judging/all" >"$judging/asked" || return 1
   if [ "$2" = unknown ]; then sed -n '/^unknown /p' "$judging/asked" || return 1; fi
@@ -184,27 +185,52 @@ tell_dropped() {
 # Whether all connections began under the rules that are loaded again. This counts only if they cannot be judged.
 is_nothing_old() { is_alike "$state/before" "$state/rules" && is_known "$state/before" && [ ! -e "$stayed" ]; }
 
-# Saves the numbers of the connections before the change: a rollback deletes none of them.
+# Saves the numbers of the connections before the change: a rollback deletes none of them, and neither does a removal.
 remember_connections() {
-  rm -f "$state/older"
+  local older
+  older=$(older_of "$state/before")
+  rm -f "$older"
   if command -v conntrack >/dev/null; then
-    conntrack -L -f ipv4 -o id 2>/dev/null | sed -n 's/.* id=\([0-9]*\)$/\1/p' >"$state/older" || rm -f "$state/older"
+    conntrack -L -f ipv4 -o id 2>/dev/null | sed -n 's/.* id=\([0-9]*\)$/\1/p' >"$older" || rm -f "$older"
   fi
 }
 
-# Deletes, after a rollback, the connections that began since the load and that the old rules do not let begin, if both are
-# known. `reason` becomes a sentence with numbers.
+# Deletes, after a rollback or a removal, the connections that began since the load and that the restored rules, the first
+# argument, do not let begin, if both are known. Those in the second argument, a file of numbers, are older than the load.
+# `reason` becomes a sentence with numbers, in which the third argument names the rules of the load.
 drop_begun() {
-  local judging='' count=0 older=$state/older stay='all connections remain'
+  local judging='' count=0 older=$2 under=$3 stay='all connections remain'
   if [ -n "$keep" ] || ! command -v conntrack >/dev/null; then reason=$stay
   elif ! [ -e "$older" ]; then reason="$stay, since those from before the load are unknown"
   elif ! is_program_there; then reason="$stay: $reason"
-  elif begin_judging && drop_revoked "$was" ''; then
-    reason="$(awk 'FILENAME == ARGV[1] { older[$1]; next } $7 in older { count++ } END { print count + 0 }' \
-      "$older" "$judging/all") connections from before the load remain, $count that began under the new rules are deleted"
-  else reason="$stay: cannot determine which of them the old rules accept"
+  elif ! begin_judging; then reason="$stay: cannot create a directory"
+  elif drop_revoked "$1" ''; then
+    reason="$(number_of_older) connections from before the load remain, $count that began under $under are deleted"
+  elif [ -e "$judging/asked" ]; then
+    reason="that began under $under: $(why_unjudged)"
+    reason="$(number_of_older) connections from before the load remain, and so do $(wc -l <"$judging/asked") $reason"
+  else reason="$stay: conntrack cannot list them"
   fi
   if [ -n "$judging" ]; then rm -rf "$judging"; fi
+}
+
+# Prints how many of the tracked connections are in `older`.
+number_of_older() {
+  awk 'FILENAME == ARGV[1] { older[$1]; next } $7 in older { count++ } END { print count + 0 }' "$older" "$judging/all"
+}
+
+# Prints why connections are not judged: `reason`, or the first of the rules that topos trace cannot read.
+why_unjudged() {
+  if "$program" trace iptables "$judging/rules" /dev/null >/dev/null 2>"$judging/refused"; then echo "$reason"
+  else echo "topos trace cannot read the restored rules, such as $(refused_line "$judging/refused" "$judging/rules")"
+  fi
+}
+
+# Deletes, after a removal, the connections that began under the rules of topos and that the restored rules do not let begin.
+drop_after_removal() {
+  local reason
+  drop_begun "$loaded" "$older_saved" 'the rules of topos'
+  say "$reason"
 }
 
 # Prints the connections that a load would delete.

@@ -29,7 +29,7 @@ take_lock() {
 clear_state() {
   rm -rf "$state"/judging.*
   rm -f "$state"/{decision,armed,asked,made,connections,result,before,rules,rules.others,rules.policy,rules.description}
-  rm -f "$state"/{log,settle,staying,older,logging,loaded,local}
+  rm -f "$state"/{log,settle,staying,older.before,logging,loaded,local}
 }
 
 # Whether a load was interrupted with its way back, so nobody decides about it any more.
@@ -64,12 +64,22 @@ is_known() { [ -e "$first" ] && is_last "$1"; }
 # Whether the rules in a file are those of the last load.
 is_last() { [ -e "$last" ] && [ "$(written "$1")" = "$(written "$last")" ]; }
 
+# Prints the name of the file with the numbers of the connections that are older than the load over a saved state.
+older_of() { echo "$state/older.${1##*/}"; }
+
+# Renames a saved state, and the file with the numbers of its connections.
+rename_state() {
+  rm -f "$(older_of "$2")"
+  mv -n "$1" "$2" || return 1
+  if [ -e "$(older_of "$1")" ]; then mv "$(older_of "$1")" "$(older_of "$2")"; fi
+}
+
 # Saves a file under the next free name: no load overwrites what was before an earlier one.
 keep_old() {
   local number=1
   if [ ! -s "$1" ]; then return; fi
   while [ -e "$first.old.$number" ]; do number=$((number + 1)); done
-  mv -n "$1" "$first.old.$number" && kept_as=$first.old.$number
+  rename_state "$1" "$first.old.$number" && kept_as=$first.old.$number
 }
 
 # Saves what a change leaves, once it is kept.
@@ -78,10 +88,10 @@ settle() {
   digests=$(digests_now)
   if [ -e "$state/staying" ]; then mv "$state/staying" "$stayed"; else rm -f "$stayed"; fi
   case $(cat "$state/settle") in
-    first) keep_old "$first"; mv "$state/before" "$first" && mv "$state/rules" "$last" ;;
+    first) keep_old "$first"; rename_state "$state/before" "$first" && mv "$state/rules" "$last" ;;
     again) mv "$state/rules" "$last" ;;
     unknown) keep_old "$first"; mv "$state/rules" "$last" ;;
-    nothing) rm -f "$first" "$last" "$stayed" ;;
+    nothing) rm -f "$first" "$(older_of "$first")" "$last" "$stayed" ;;
   esac
   finish 0 kept
 }
@@ -102,9 +112,11 @@ says_old() {
   done
 }
 
-# Writes the text to go back to: the saved state that is named, or that before the first load, or no rules.
+# Writes the text to go back to: the saved state that is named, or that before the first load, or no rules. `older_saved`
+# is the file with the numbers of its connections.
 write_remembered() {
   local source=$state/$file
+  older_saved=''
   if [ -z "$file" ]; then source=$first; fi
   if [ -n "$file" ] && { [[ $file != "${remembered}"first* || $file == */* ]] || ! [ -e "$source" ]; }; then
     refuse "$file: no saved state has this name (--remove --list)"
@@ -112,6 +124,7 @@ write_remembered() {
   if [ -n "$file" ] || is_known "$state/before"; then
     note "$changed will be restored from $source"
     cat "$source" >"$state/rules" || refuse "cannot copy $source: nothing is changed"
+    older_saved=$(older_of "$source")
   else
     write_empty >"$state/rules" || refuse "cannot write $state: nothing is changed"
   fi
@@ -132,9 +145,9 @@ write_empty() {
 # Writes the status and the words with which a load ends, also into the journal.
 finish() {
   record "$2"
-  rm -f "$state"/{rules.others,rules.policy,rules.description,loaded,settle,asked,made,connections,log,older,staying}
+  rm -f "$state"/{rules.others,rules.policy,rules.description,loaded,settle,asked,made,connections,log,staying}
   ln -sfn "$1 $2" "$state/result" 2>/dev/null || ln -sfn "$1 -" "$state/result"
-  if [ "$1" != 71 ]; then rm -f "$state"/{armed,before,rules}; fi
+  if [ "$1" != 71 ]; then rm -f "$state"/{armed,before,older.before,rules}; fi
 }
 
 # Prints the words with which the load ended.
