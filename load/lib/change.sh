@@ -91,6 +91,7 @@ takes_change() { change "$was" "$loaded" | "$restore" --noflush --test; }
 # Makes the change, and deletes old connections. `made` says that it came to its end.
 make_change() {
   trap '' HUP INT TERM
+  changing=yes
   open_changing
   if put_in_place; then
     record loaded

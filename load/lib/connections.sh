@@ -119,11 +119,18 @@ drop_revoked() {
     deletions "$judging/all" "$judging/revoked" >"$judging/words" || return 1
     reason='too many deletions are needed'
     if [ "$(wc -l <"$judging/words")" -gt 2000 ]; then return 1; fi
-    while read -ra words; do conntrack -D -f ipv4 "${words[@]}" >/dev/null 2>&1; done <"$judging/words"
+    reason='the rules are rolled back'
+    while read -ra words; do
+      if is_undone; then return 1; fi
+      conntrack -D -f ipv4 "${words[@]}" >/dev/null 2>&1
+    done <"$judging/words"
   done
   reason='some deleted connections reappear'
   return 1
 }
+
+# Whether this process makes a change that is rolled back meanwhile: then it deletes no more connections.
+is_undone() { [ -n "$changing" ] && is_decided; }
 
 # Creates a folder for judging, for this process alone. It is not in /run, where other daemons need the space.
 begin_judging() {
@@ -161,6 +168,7 @@ drop_connections() {
   elif is_program_there && reason='cannot create a directory' && begin_judging && drop_revoked "$1" unknown; then
     tell_dropped
     rm -f "$state/staying"
+  elif is_undone; then :
   elif is_nothing_old; then
     say "these rules were loaded before: no connection is deleted ($reason)"
     rm -f "$state/staying"
@@ -230,7 +238,7 @@ why_unjudged() {
 drop_after_removal() {
   local reason
   drop_begun "$loaded" "$older_saved" 'the rules of topos'
-  say "$reason"
+  if ! is_undone; then say "$reason"; fi
 }
 
 # Prints the connections that a load would delete.
