@@ -23,6 +23,12 @@ package() {
 # Refuses for other users than root.
 need_root() { if [ "$(id -u)" != 0 ]; then refuse 'must be run as root'; fi; }
 
+# Refuses if a process may open too few files.
+need_descriptors() {
+  if [ "$(ulimit -n)" = unlimited ] || [ "$(ulimit -n)" -ge 32 ]; then return; fi
+  refuse "at least 32 open files are needed, and the limit is $(ulimit -n) (ulimit -n): nothing is changed"
+}
+
 # Finds the network namespace, by its inode.
 find_namespace() {
   namespace=$(stat -Lc %i /proc/self/ns/net) || refuse 'cannot determine the network namespace: is /proc mounted?'

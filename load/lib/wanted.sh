@@ -49,8 +49,9 @@ copy_description() {
 
 # Names a file or its folder if a user other than root may change it.
 note_writers() {
-  local each mode owner
-  for each in "$(readlink -f "$1")" "$(dirname "$(readlink -f "$1")")"; do
+  local path each mode owner
+  path=$(readlink -f -- "$1")
+  for each in "$path" "$(dirname -- "$path")"; do
     read -r mode owner < <(stat -c '%A %u' "$each")
     if [ "$owner" != 0 ]; then note "$each is owned by a user other than root, who can change the loaded rules"
     elif [[ $mode == ?????w???? || $mode == ????????w[^tT] ]]; then
