@@ -1,5 +1,6 @@
 """A TOML text with the places of its keys and values: TOML 1.1, the language that `topos` reads."""
 import re
+import tomllib
 from typing import Any
 
 DEEPEST = 80  # nested brackets
@@ -20,7 +21,7 @@ class Fault(Exception):
 
 
 class Node:
-    """A value, and where it stands. What is made for a copy stands where it is put."""
+    """A value and its place. What is made for a copy has the place of what it replaces."""
 
     def __init__(self, kind: str, value: Any, raw: str, start: int, end: int) -> None:
         self.kind, self.value, self.raw, self.start, self.end = kind, value, raw, start, end
@@ -53,16 +54,24 @@ class Member:
 
 BLANK = re.compile(r'(?:[ \t]|\r?\n|#[^\x00-\x08\x0a-\x1f\x7f]*)*')
 SPACE = re.compile(r'[ \t]*')
-LINES = re.compile(r'(?:[ \t]|\r?\n)*')
 BARE = re.compile(r'[A-Za-z0-9_-]+')
 WORD = re.compile(r'[A-Za-z0-9_+.:-]*(?: [0-9][A-Za-z0-9_+.:-]*)?')
-DATE = r'(\d{4})-(\d\d)-(\d\d)'
-TIME = r'(\d\d):(\d\d)(?::(\d\d)(?:\.\d+)?)?'
-STAMP = re.compile(rf'(?:{DATE}(?:[Tt ]{TIME}([Zz]|[+-]\d\d:\d\d)?)?|{TIME})$')
-INTEGER = re.compile(r'[+-]?(?:0|[1-9](?:_?\d)*)$')
-FLOAT = re.compile(r'[+-]?(?:0|[1-9](?:_?\d)*)(?:\.\d(?:_?\d)*)?(?:[eE][+-]?\d(?:_?\d)*)?$')
-PREFIXED = re.compile(r'0(?:x[0-9A-Fa-f](?:_?[0-9A-Fa-f])*|o[0-7](?:_?[0-7])*|b[01](?:_?[01])*)$')
+HEX = '[0-9A-Fa-f]'
+UNIT = f'(?![Dd][89A-Fa-f]){HEX}{{4}}'
 ESCAPES = dict(zip('befnrt"\\', '\b\x1b\f\n\r\t"\\'))
+ESCAPE = re.compile(rf'\\(?:[befnrt"\\]|x{HEX}{{2}}|u{UNIT}|U(?:0000{UNIT}|000[1-9A-Fa-f]{HEX}{{4}}|0010{HEX}{{4}})|'
+                    r'[ \t]*\r?\n(?:[ \t]|\r?\n)*)')
+PLAIN = r'[^\x00-\x08\x0a-\x1f\x7f'
+STRINGS = {('"', False): re.compile(rf'(?:{PLAIN}"\\]|(?!\\[ \t]*\r?\n){ESCAPE.pattern})*'),
+           ("'", False): re.compile(rf"{PLAIN}']*"),
+           ('"', True): re.compile(rf'(?:{PLAIN}"\\]|\r?\n|"{{1,2}}(?!")|{ESCAPE.pattern})*'),
+           ("'", True): re.compile(rf"(?:{PLAIN}']|\r?\n|'{{1,2}}(?!'))*")}
+
+
+def unescaped(found: re.Match[str]) -> str:
+    """The character of an escape, or nothing for the end of a line."""
+    sign = found[0][1]
+    return chr(int(found[0][2:], 16)) if sign in 'xuU' else ESCAPES.get(sign, '')
 
 
 class Scanner:
@@ -71,6 +80,7 @@ class Scanner:
     def __init__(self, text: str) -> None:
         self.text, self.at = text, 0
         self.brackets: list[int] = []
+        self.statements: list[int] = []  # where they begin
 
     def peek(self, ahead: int = 0) -> str:
         return self.text[self.at + ahead:self.at + ahead + 1]
@@ -92,6 +102,7 @@ class Scanner:
             if self.at == len(self.text):
                 return root
             start, self.brackets = self.at, []
+            self.statements.append(start)
             try:
                 section = self.statement(root, section)
             except Fault as fault:
@@ -112,8 +123,8 @@ class Scanner:
             define(root, section, key[:-1], key, node, 'value')
         self.take(SPACE)
         if self.peek() not in ('', '#', '\n', '\r'):
-            raise Fault(self.at, 'What stands behind the end of this line does not belong to it: a line break, a '
-                                 'comma, a bracket or a quote is missing before it, or it is too much.')
+            raise Fault(self.at, 'The line ends before this text: a line break, a comma, a bracket or a quote is '
+                                 'missing here, or the text is too much.')
         return section
 
     def header(self, brackets: int) -> list[Part]:
@@ -132,7 +143,7 @@ class Scanner:
         while len(parts) < DEEPEST:
             start = self.at
             if self.peek() in ('"', "'"):
-                part = self.one_line()
+                part = self.quoted(False)
             else:
                 found = BARE.match(self.text, self.at)
                 if not found:
@@ -149,9 +160,9 @@ class Scanner:
     def pair(self) -> tuple[list[Part], Node]:
         key = self.key()
         if self.peek() not in ('', '=', '\r', '\n') and self.at == key[-1][2]:
-            raise Fault(self.at, 'A key has letters A to Z, a to z, digits, - and _ alone; any other stands in quotes.')
+            raise Fault(self.at, 'A key has letters A to Z, a to z, digits, - and _ only: write any other in quotes.')
         if self.peek() != '=':
-            raise Fault(self.at, f'Behind the key {key[-1][0]} comes =.', first=(key[-1][1], key[-1][2]))
+            raise Fault(self.at, f'After the key {key[-1][0]} comes =.', first=(key[-1][1], key[-1][2]))
         self.at += 1
         self.take(SPACE)
         return key, self.value()
@@ -166,7 +177,7 @@ class Scanner:
         elif char == '{':
             kind, value = 'table', self.inline_table()
         elif char and char in '"\'':
-            kind, value = 'text', self.quoted()
+            kind, value = 'text', self.quoted(True)
         else:
             kind, value = self.unquoted()
         node = Node(kind, value, self.text[start:self.at], start, self.at)
@@ -210,81 +221,32 @@ class Scanner:
         if self.peek() == ',':
             self.at += 1
         elif self.peek() != closing:
-            raise Fault(self.at if self.peek() else end, f'Here , or {closing} is missing: the {kind} that begins '
-                        'in line {} is not closed, or what stands in it is not parted by commas.',
+            raise Fault(self.at if self.peek() else end, f'The {kind} that begins in line {{}} is not closed, or a '
+                        'comma is missing here.',
                         first=(self.brackets[-1], self.brackets[-1] + 1))
 
-    def one_line(self) -> str:
+    def quoted(self, may_be_long: bool) -> str:
+        """Takes a text between quotes, or three of them."""
         quote = self.peek()
-        self.at += 1
-        return self.body(quote, False)
-
-    def quoted(self) -> str:
-        quote = self.peek()
-        if self.text[self.at:self.at + 3] != quote * 3:
-            return self.one_line()
-        self.at += 3
-        if self.peek() == '\n':
-            self.at += 1
-        elif self.text.startswith('\r\n', self.at):
-            self.at += 2
-        return self.body(quote, True)
-
-    def body(self, quote: str, multi: bool) -> str:
-        opened, parts = self.at - (3 if multi else 1), []
-        plain = re.compile('[^\x00-\x08\x0a-\x1f\x7f' + quote + ('\\\\' if quote == '"' else '') + ']+')
-        while True:
-            found = plain.match(self.text, self.at)
-            if found:
-                parts.append(found[0])
-                self.at = found.end()
-            char = self.peek()
-            if char == quote and not multi:
-                self.at += 1
-                return ''.join(parts)
-            if char == quote and char:
-                count = next((count for count in range(6) if self.peek(count) != quote), 6)
-                if count == 3:
-                    self.at += 3
-                    return ''.join(parts)
-                if count >= 6:
-                    raise Fault(self.at, 'There are too many quotes here.')
-                parts.append(quote)
-                self.at += 1
-            elif char == '\\' and quote == '"':
-                parts.append(self.escape(multi))
-            elif multi and (char == '\n' or self.text.startswith('\r\n', self.at)):
-                parts.append(char)
-                self.at += 1
-            elif char and char not in '\r\n':
-                raise Fault(self.at, f'A text may not have the character U+{ord(char):04X}.')
-            else:
-                raise Fault(opened, f'The text that begins here is not closed with {quote * (3 if multi else 1)}.',
-                            end=self.at)
-
-    def escape(self, multi: bool) -> str:
-        start = self.at
-        self.at += 1
-        if multi:
-            space = self.take(SPACE)
-            if self.text.startswith(('\n', '\r\n'), self.at):
-                self.take(LINES)
-                return ''
-            self.at -= len(space)
-        char = self.peek()
-        length = {'x': 2, 'u': 4, 'U': 8}.get(char)
-        if length:
-            digits = self.text[self.at + 1:self.at + 1 + length]
-            if re.fullmatch(r'[0-9A-Fa-f]{%d}' % length, digits):
-                code = int(digits, 16)
-                if code <= 0x10FFFF and not 0xD800 <= code <= 0xDFFF:
-                    self.at += 1 + length
-                    return chr(code)
-        elif char and char in ESCAPES:
-            self.at += 1
-            return ESCAPES[char]
-        raise Fault(start, 'Behind a \\ this is no character: write \\\\ for a \\, or the text between \' and \'.',
-                    end=start + 2)
+        multi = may_be_long and self.text[self.at:self.at + 3] == quote * 3
+        opened, ending = self.at, quote * (3 if multi else 1)
+        start = re.compile(f'{ending}(?:\r?\n)?' if multi else quote).match(self.text, opened)
+        inner = STRINGS[quote, multi].match(self.text, start.end() if start else opened)
+        assert inner
+        self.at, char = inner.end(), self.text[inner.end():inner.end() + 1]
+        count = next((count for count in range(7) if self.peek(count) != quote), 7)
+        if count > 5 and multi:
+            raise Fault(self.at, 'There are too many quotes here.')
+        if count >= len(ending):
+            self.at += count if multi else 1
+            value = inner[0] + quote * (count - 3 if multi else 0)
+            return ESCAPE.sub(unescaped, value) if quote == '"' else value
+        if char == '\\':
+            raise Fault(self.at, 'After a \\ this is no character: write \\\\ for a \\, or the text between \' and '
+                        '\'.', end=self.at + 2)
+        if char and char not in '\r\n':
+            raise Fault(self.at, f'A text may not have the character U+{ord(char):04X}.')
+        raise Fault(opened, f'The text that begins here is not closed with {ending}.', end=self.at)
 
     def unquoted(self) -> tuple[str, Any]:
         start = self.at
@@ -300,42 +262,24 @@ class Scanner:
 
 def scalar(word: str) -> tuple[str, Any]:
     """The kind and the value of a word, or no kind and what is wrong with it."""
-    if word in ('true', 'false'):
-        return 'boolean', word == 'true'
-    if re.match(r'\d+[-:]', word):
-        return ('datetime', word) if is_stamp(word) else ('', f'{word} is no date, and texts stand in quotes.')
-    if re.fullmatch(r'[+-]?(inf|nan)', word):
-        return 'float', word
-    if PREFIXED.match(word):
-        number = int(word.replace('_', ''), 0)
-        return ('integer', number) if number < 2 ** 63 else ('', f'{word} needs more than 64 bits.')
-    plain = word.replace('_', '')
-    if INTEGER.match(word):
-        number = int(plain)
-        return ('integer', number) if -2 ** 63 <= number < 2 ** 63 else ('', f'{word} needs more than 64 bits.')
-    if FLOAT.match(word):
-        return ('float', word) if abs(float(plain)) != float('inf') else ('', f'{word} is too great.')
+    full = re.sub(r'(?<![:\d+-])(\d\d:\d\d)(?![:\d])', r'\1:00', word.replace(':60', ':59'))  # of TOML 1.0
+    try:
+        value = tomllib.loads(f'value = {full}')['value']
+    except ValueError:
+        value = None
+    if isinstance(value, bool):
+        return 'boolean', value
+    if isinstance(value, int):
+        return ('integer', value) if -2 ** 63 <= value < 2 ** 63 else ('', f'{word} needs more than 64 bits.')
+    if isinstance(value, float) and abs(value) == float('inf') and 'inf' not in word:
+        return '', f'{word} is too great.'
+    if value is not None:
+        return 'float' if isinstance(value, float) else 'datetime', word
     if word.lower() in ('true', 'false'):
-        return '', f'It is {word.lower()}, in small letters.'
+        return '', f'Write {word.lower()} in small letters.'
     if re.fullmatch(r'[+-]?0[0-9_]+', word):
         return '', f'{word}: a number has no leading zeros.'
-    return '', f'{word} is no value: a text stands in quotes.'
-
-
-def is_stamp(word: str) -> bool:
-    found = STAMP.match(word)
-    if not found:
-        return False
-    year, month, day, hour, minute, second, offset, hour_alone, minute_alone, second_alone = found.groups()
-    if year:
-        leap = int(year) % 4 == 0 and (int(year) % 100 != 0 or int(year) % 400 == 0)
-        days = [31, 29 if leap else 28, 31, 30, 31, 30, 31, 31, 30, 31, 30, 31]
-        if not 1 <= int(month) <= 12 or not 1 <= int(day) <= days[int(month) - 1]:
-            return False
-    hour, minute, second = hour or hour_alone, minute or minute_alone, second or second_alone
-    if hour and (int(hour) > 23 or int(minute) > 59 or int(second or 0) > 60):
-        return False
-    return not offset or len(offset) == 1 or (int(offset[1:3]) <= 23 and int(offset[4:6]) <= 59)
+    return '', f'{word} is no value: write a text in quotes.'
 
 
 def define(table: Node, path: list[str], dots: list[Part], key: list[Part], node: Node, what: str) -> None:
@@ -360,7 +304,7 @@ def define(table: Node, path: list[str], dots: list[Part], key: list[Part], node
             member = table.value[part] = Member(part, part_start, part_end, inner)
         table = member.node
         if table.kind != 'table' or table.origin in ('inline', 'header'):
-            raise Fault(part_start, f'`{part}` stands already, in line {{}}.', part_end, (member.start, member.end),
+            raise Fault(part_start, f'`{part}` is defined already, in line {{}}.', part_end, (member.start, member.end),
                         twice=part)
         table.origin = 'dotted'
     at_key(table, last, start, end, node, what)
@@ -381,11 +325,11 @@ def at_key(table: Node, key: str, start: int, end: int, node: Node, what: str) -
         node.number = len(member.node.value) + 1
         member.node.value.append(node)
     else:
-        said = f'The key `{key}` stands twice, first in line {{}}.'
+        said = f'The key `{key}` is defined twice, first in line {{}}.'
         if key in LISTS and what != 'value':
-            said = f'`{key}` stands in line {{}} already: each begins with [[{key}]].'
+            said = f'`{key}` is in line {{}} already: each one begins with [[{key}]].'
         if key in LISTS and what == 'tables' and member.node.kind == 'array':
-            said = f'`{key} = [..]` stands in line {{}} already, and [[{key}]] here: use one of the two.'
+            said = f'`{key} = [..]` is in line {{}}, and [[{key}]] is here: use one of the two.'
         raise Fault(start, said, end, (member.start, member.end), twice=key)
 
 
@@ -396,7 +340,7 @@ BLANKS = '\u00a0\u2007\u202f\u2009\u3000'
 def alien(char: str) -> str:
     """What is said of a quote or a space of a word processor."""
     if char and char in CURLED:
-        return f'This {char} (U+{ord(char):04X}) is no quote of TOML: texts stand between " and ".'
+        return f'This {char} (U+{ord(char):04X}) is no quote of TOML: write texts between " and ".'
     return f'This is no space of TOML (U+{ord(char):04X}): write a plain one.' if char and char in BLANKS else ''
 
 

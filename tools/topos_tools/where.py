@@ -1,36 +1,26 @@
-"""Shows the lines of a file that a refusal of topos is about, the wrong words, and the remedy.
-
-The wrong words of a line are found in two steps: by the forms that docs/FORMATS.md gives, and then by asking the
-program about copies in which exactly these words are mended, removed, or the last of the line. A reason that the
-answers do not confirm is not shown. The file itself is never changed.
-"""
+"""Shows the lines of a file that a refusal of topos is about, the wrong words, and the remedy."""
 import io
 import json
 import re
 import sys
-import tempfile
 
+from .query import LONGEST as MOST
 from .query import NO_REFUSAL, UNAVAILABLE, USAGE, Stopped, find_program, read_bytes, read_words, write_text
 from .toml_places import Fault
-from .where_copy import plural
-from .where_description import Description, Finder
-from .where_edits import EditsText, EventsText
-from .where_entries import bad_attribute
-from .where_flows import FlowsText
-from .where_forms import GENERAL
-from .where_hosts import bad_name, bad_prefix, duplicate_host, host_bits, no_address, overlap, two_rests
-from .where_lines import LineText, words_of
+from .where_advice import WORDS
+from .where_description import Description
+from .where_edits import EditsText
+from .where_flows import EventsText, FlowsText
+from .where_lines import LineText, spans, words_of
+from .where_mends import Mends
 from .where_page import Finding, Mark, Page
 from .where_refusals import Program, Refusal, refusals_in
 from .where_rules import RulesText
-from .where_tables import bad_version, missing_keys, too_many, unknown_keys, wrong_types
-from .where_templates import bad_template, not_lawful
+from .where_samples import GENERAL
 from .where_toml import Edited, NoToml
-from .where_uses import (
-    bad_service, duplicate_assign, duplicate_flow, many_services, self_flow, undeclared_host, unknown_template)
 
 USAGE_TEXT = '''usage: topos-where [--all] [--json] [--program TOPOS] FILE [DESCRIPTION]
-  FILE            the description, rules, flows, events or edits that topos refused; the refusal stands on the
+  FILE            the description, rules, flows, events or edits that topos refused; the refusal is on the
                   standard input
   DESCRIPTION     what the edits in FILE are for
 options
@@ -47,15 +37,6 @@ exit status
 SCHEMA = 'topos-where 1'
 ROUNDS, LINE_ROUNDS = 50, 1000  # faults that are looked for, in a description and in another text
 LONGEST = 67_108_864  # bytes of the longest text that topos reads
-MORE = ', and there may be more: topos has not read the rest'
-
-
-FINDERS: dict[int, Finder] = {
-    1: lambda description, refusal: [], 2: lambda description, refusal: [],
-    3: unknown_keys, 4: missing_keys, 5: wrong_types, 6: bad_version, 7: too_many, 8: bad_name, 9: duplicate_host,
-    10: bad_prefix, 11: host_bits, 12: no_address, 13: two_rests, 14: overlap, 15: unknown_template,
-    16: undeclared_host, 17: duplicate_assign, 18: bad_attribute, 19: self_flow, 20: duplicate_flow, 21: bad_service,
-    22: many_services, 23: bad_template, 24: not_lawful}
 
 
 def kind_of(text: str) -> str:
@@ -67,7 +48,7 @@ def kind_of(text: str) -> str:
                 return 'rules'
             if words[0] in ('packet', 'forget'):
                 return 'events'
-            if words[0] in EditsText.VERBS and not re.match(r'\s*=', line.split(words[0], 1)[1]):
+            if words[0] in WORDS['edits']['vocabulary'] and not re.match(r'\s*=', line.split(words[0], 1)[1]):
                 return 'edits'
             return 'flows' if 'actions=' in line else 'description'
     return 'description'
@@ -91,53 +72,57 @@ class Search:
         if not self.is_whole:
             return 0
         count = len(self.page.findings)
-        self.page.end(plural(count, 'place') + ('' if accepted else MORE))
+        more = '' if accepted else ', and there may be more once these are mended'
+        self.page.say(f'{count:,} place{"s" * (count != 1)}{more}')
         return 2 if not accepted else 1 if count else 0
 
     # Texts that are read line by line.
 
     def line_text(self, what: str, refusal: Refusal | None, description: bytes | None) -> LineText:
         """Returns the text of the kind that the refusal is of."""
-        if what == 'events':
-            return EventsText(self.program, self.page)
         if what == 'edits':
             return EditsText(self.program, self.page, description)
         rules, flows = RulesText(self.program, self.page), FlowsText(self.program, self.page)
-        if what == 'flows':
-            return flows
         # of two that are refused alike it is a flow text: a rules text has no line of fields
-        texts = [text for text in (flows, rules) if refusal is not None and refusal.is_like(text.ask())]
-        return texts[0] if texts else rules
+        is_flows = what == 'flows' or what == 'rules' and refusal is not None and refusal == flows.ask()
+        return EventsText(self.program, self.page) if what == 'events' else flows if is_flows else rules
 
     def lines(self, text: LineText, refusal: Refusal | None) -> int:
         now = text.ask()
-        if refusal is not None and not refusal.is_like(now):
+        if refusal is not None and refusal != now:
             if text.what == 'edits' and text.description is None:
-                raise Stopped(f'line {refusal.line}: {refusal.name}: name the description behind the edits, '
+                raise Stopped(f'line {refusal.line}: {refusal.name}: name the description of the edits, '
                               f'topos-where {self.page.name} DESCRIPTION', NO_REFUSAL)
             raise self.other_answer(now)
         if refusal is not None and not self.is_whole:
             self.page.show(text.shown(refusal)[0])
             return 0
-        while now is not None and len(self.page.findings) < LINE_ROUNDS:
-            finding, drop = text.shown(now)
-            self.page.show(finding, again=False)
+        hidden, is_hidden = list[int](), False
+        while now is not None and len(self.page.findings) + len(hidden) < LINE_ROUNDS:
+            line = text.lines[now.line - 1][1] if 0 < now.line <= len(text.lines) else ''
+            hides, (finding, drop) = text.depends(now, line), text.shown(now)
+            hidden, is_hidden = hidden + sorted(drop or []) * hides, is_hidden or hides
+            if not hides:
+                self.page.show(finding, again=False)
             if not text.go_on(now, drop):
                 break
             now = text.ask()
+        if hidden:
+            self.page.say(f'These lines depend on lines above that are refused, and are left out too: {spans(hidden)}.')
         for sentence in text.summary(now is None):
             self.page.say(sentence)
-        return self.status(now is None)
+        return self.status(now is None and not is_hidden)
 
     # Descriptions.
 
     def description(self, data: bytes, refusal: Refusal | None) -> int:
         now, edited = self.program.description(data), Edited(self.page.text)
-        if refusal is not None and not refusal.is_like(now):
+        if refusal is not None and refusal != now:
             raise self.other_answer(now)
         if now is not None and now.number == 1:
             self.page.show(Finding('1 TooLong at document', [],
-                                   [f'{self.page.name} has {len(data):,} bytes. ' + GENERAL[1]]))
+                                   [f'{self.page.name} has {len(data):,} bytes, and a description {MOST:,} at most. '
+                                    f'{GENERAL[1]}']))
         while now is not None and now.number == 2:
             finding, edited_on = self.no_toml(edited)
             finding.title = '2 NotToml at document'
@@ -158,15 +143,16 @@ class Search:
         byte, at = ord(found[0]) - 0xdc00, edited.original(found.start())
         on = Edited(re.sub('[\udc80-\udcff]', '?', edited.text))
         on.changes = edited.changes
+        on.touched = edited.touched + [each.start() for each in re.finditer('[\udc80-\udcff]', edited.text)]
         return Finding('', [Mark(at, at + 1)], [f'The byte 0x{byte:02X} here is no UTF-8: save the file as UTF-8.']), on
 
     def go_through(self, edited: Edited, now: Refusal) -> int:
         """Shows the refusals of a text that is TOML."""
         try:
-            text = Description(self.program, edited, self.page, FINDERS)
+            text = Description(self.program, edited, self.page)
         except Fault:
             text = None
-        if text is None or now.number != 1 and not now.is_like(text.ask()):
+        if text is None or now.number != 1 and now != text.ask():
             self.page.show(Finding(f'{now.number} {now.name} at {now.place}', [], [GENERAL[now.number]]))
             return self.status(False)
         findings, accepted = self.findings(text, edited)
@@ -177,26 +163,18 @@ class Search:
     def findings(self, text: Description, edited: Edited) -> tuple[list[Finding], bool]:
         """Returns the findings of a description, and whether the copy without the faults is accepted."""
         findings: list[Finding] = []
-        seen: set[tuple[int, int | None, str]] = set()
-        now, earlier = text.ask(), len(self.page.findings)
-        while now is not None:
-            finding, changes = text.find(now)
-            where = (now.number, finding.marks[0].start if finding.marks else None, finding.title)
-            if where in seen:
+        mends, is_hidden = Mends(text, bool(edited.touched)), False
+        now, most = text.ask(), ROUNDS - len(self.page.findings)
+        while now is not None and len(findings) < most:
+            finding, nodes = text.find(now)
+            is_lost = bool(edited.touched) and (now.place == 'document' or not finding.marks)
+            hides = is_lost or any(map(edited.is_touched, finding.marks)) or mends.hides(now, nodes)
+            finding.marks = list(map(edited.mark, finding.marks))
+            findings, is_hidden = findings + [finding] * (not hides), is_hidden or hides
+            if not self.is_whole or not mends.mend(now):
                 break
-            seen.add(where)
-            finding.marks = [Mark(edited.original(one.start), edited.original(one.end), one.note)
-                             for one in finding.marks]
-            findings.append(finding)
-            if not self.is_whole or changes is None or earlier + len(findings) >= ROUNDS:
-                break
-            number = now.number
-            for change in changes:
-                change()
             now = text.ask()
-            if now is not None and now.number < number:
-                break
-        return findings, now is None
+        return findings, now is None and not is_hidden
 
 
 def search(words: list[str], program: Program, page: Page, data: bytes, is_whole: bool) -> int:
@@ -228,8 +206,7 @@ def main(given: list[str]) -> int:
     path, data = find_program(values.get('--program')), read_bytes(words[0], LONGEST)
     page = Page(words[0], data.decode(errors='surrogateescape'), '--json' not in options)
     try:
-        with tempfile.TemporaryDirectory(prefix='topos-where-') as folder:
-            status = search(words, Program(path, folder), page, data, '--all' in options)
+        status = search(words, Program(path), page, data, '--all' in options)
     except ValueError as error:
         raise Stopped(f'the file cannot be read here ({type(error).__name__})', UNAVAILABLE) from None
     if '--json' in options:

@@ -1,4 +1,5 @@
 """A text by its lines, on which parts are marked."""
+import bisect
 import re
 import textwrap
 import unicodedata
@@ -40,11 +41,7 @@ class Page:
         self.said: set[str] = set()
 
     def line_of(self, at: int) -> int:
-        low, high = 0, len(self.starts)
-        while high - low > 1:
-            middle = (low + high) // 2
-            low, high = (middle, high) if self.starts[middle] <= at else (low, middle)
-        return low + 1
+        return bisect.bisect_right(self.starts, at)
 
     def line(self, number: int) -> str:
         if number > len(self.starts):
@@ -57,12 +54,6 @@ class Page:
         self.sentences.append(sentence)
         if self.is_shown:
             say(sentence)
-
-    def end(self, line: str) -> None:
-        """Adds the last line, which is printed as it is."""
-        self.sentences.append(line)
-        if self.is_shown:
-            print(line)
 
     def show(self, finding: Finding, again: bool = True) -> None:
         """Adds a finding, and prints it; unless `again`, without the sentences that were printed before."""
@@ -90,9 +81,9 @@ class Page:
         if len(text) > WIDTH:
             low = min(max(0, marks[0].start - begin - WIDTH // 3), len(text) - WIDTH)
             high = low + WIDTH
-        before, behind = '.. ' if low else '', ' ..' if high < len(text) else ''
+        before, after = '.. ' if low else '', ' ..' if high < len(text) else ''
         shown = ''.join(char if char.isprintable() or char == '\t' else '?' for char in text[low:high])
-        print(f'{number:>{wide}} | {before}{shown}{behind}'.rstrip())
+        print(f'{number:>{wide}} | {before}{shown}{after}'.rstrip())
         plain = [mark for mark in marks if not mark.note]
         rows = [plain] if plain else []
         for row in rows + [[mark] for mark in marks if mark.note]:

@@ -1,10 +1,10 @@
 """Refusals by their parts, and the program that prints them."""
-import os
+import json
 import re
-import subprocess
-from dataclasses import dataclass
+from dataclasses import dataclass, field
+from typing import Any
 
-from .query import SECONDS, UNAVAILABLE, Stopped, unlimited
+from .query import Question, Stopped, find_query
 
 PLACE = r'document|host \d+|invariant \d+(?: assign \d+)?|flow \d+|template \d+'
 DESCRIPTION = re.compile(rf'topos: description: (\d+) (\w+) at ({PLACE})(?: item (\d+))?(?:, other (\d+))?(?:: .*)?$')
@@ -22,77 +22,49 @@ class Refusal:
     place: str = 'document'
     at: tuple[int, ...] = ()
     item: int = 0
-    other: int = 0
     line: int = 0
-
-    def order(self) -> Order:
-        """Refusals of a description in the order in which topos looks for them."""
-        return self.number, PLACES.index(self.place), self.at, self.item
-
-    def is_like(self, other: 'Refusal | None') -> bool:
-        if other is None or self.what != other.what:
-            return False
-        if self.what == 'description':
-            return self.order() == other.order()
-        return (self.line, self.name) == (other.line, other.name)
+    other: int = field(default=0, compare=False)
 
 
 def refusals_in(text: str) -> list[Refusal]:
     """Returns the refusals among the lines of a text."""
-    return [each for each in map(refusal_of, text.splitlines()) if each]
-
-
-def refusal_of(line: str) -> Refusal | None:
-    """Returns the refusal that a line states, if it states one."""
-    told = DESCRIPTION.match(line.strip())
-    if told:
-        place, *at = told[3].split()
-        return Refusal('description', told[2], int(told[1]), place, tuple(map(int, at[::2])), int(told[4] or 0),
-                       int(told[5] or 0))
-    told = LINE.match(line.strip())
-    return Refusal(told[1], told[3], line=int(told[2])) if told else None
+    found: list[Refusal] = []
+    for line in map(str.strip, text.splitlines()):
+        told, of_line = DESCRIPTION.match(line), LINE.match(line)
+        if told:
+            place, *at = told[3].split()
+            found.append(Refusal('description', told[2], int(told[1]), place, tuple(map(int, at[::2])),
+                                 int(told[4] or 0), other=int(told[5] or 0)))
+        elif of_line:
+            found.append(Refusal(of_line[1], of_line[3], line=int(of_line[2])))
+    return found
 
 
 class Program:
-    """The program, with a folder for the copies that it reads."""
+    """The program, asked why it refuses a text."""
 
-    def __init__(self, path: str, folder: str) -> None:
-        self.path, self.folder = path, folder
+    def __init__(self, path: str) -> None:
+        self.path = path
 
-    def ask(self, words: list[str | None], *texts: bytes) -> Refusal | None:
-        """Returns the refusal of these texts, which replace the words None, or None if they are accepted."""
-        given = iter(enumerate(texts))
-        told = [word if word is not None else self.save(*next(given)) for word in words]
+    def ask(self, words: list[str], *texts: bytes) -> Refusal | None:
+        """Returns the refusal of these texts, whose paths follow the words, or None if they are accepted."""
         try:
-            ended = subprocess.run([self.path, *told], stdin=subprocess.DEVNULL, stdout=subprocess.DEVNULL,
-                                   stderr=subprocess.PIPE, timeout=SECONDS, check=False, preexec_fn=unlimited)
-        except (OSError, subprocess.TimeoutExpired) as error:
-            raise Stopped(f'{self.path} does not run: {error}', UNAVAILABLE) from None
-        said = ended.stderr.decode(errors='replace')
-        found = refusals_in(said)
-        if found:
-            return found[0]
-        if ended.returncode not in (0, 2, 5):
-            raise Stopped(f'{self.path} ended with status {ended.returncode}: {said.strip()}', UNAVAILABLE)
+            Question([self.path, *words], *texts).answer((0, 2, 5))
+        except Stopped as stopped:
+            found = refusals_in(str(stopped))
+            if found:
+                return found[0]
+            raise
         return None
 
-    def save(self, number: int, text: bytes) -> str:
-        path = os.path.join(self.folder, f'text-{number}')
-        with open(path, 'wb') as file:
-            file.write(text)
-        return path
-
     def description(self, text: bytes) -> Refusal | None:
-        return self.ask(['migrate', None], text)
+        return self.ask(['migrate', '/dev/stdin'], text)
 
-    def rules(self, text: bytes) -> Refusal | None:
-        return self.ask(['trace', 'iptables', None, '/dev/null'], text)
-
-    def flows(self, text: bytes) -> Refusal | None:
-        return self.ask(['trace', 'openflow', None, '/dev/null'], text)
-
-    def events(self, text: bytes) -> Refusal | None:
-        return self.ask(['trace', 'iptables', None, None], b'*filter\nCOMMIT\n', text)
-
-    def edits(self, text: bytes, description: bytes = b'topos = 2\nhost = []\nflow = []\n') -> Refusal | None:
-        return self.ask(['edit', None, None], description, text)
+    def passing(self, rules: bytes) -> dict[str, Any] | None:
+        """Returns what rules let pass, and which are dead, or None if topos-query is missing or refuses them."""
+        try:
+            words = [find_query(self.path), 'flows', 'iptables', '/dev/stdin']
+            answer: dict[str, Any] = json.loads(Question(words, b'topos = 2\nhost = []\n', rules).answer())
+        except Stopped:
+            return None
+        return answer

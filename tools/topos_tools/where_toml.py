@@ -1,13 +1,13 @@
 """Where a text that is no TOML stops, and the small change after which the program reads on."""
-import contextlib
+import bisect
 import re
 from collections.abc import Iterator
 
-from .toml_places import BLANKS, CURLED, Fault, Node, Scanner, alien, quoted
+from .toml_places import BLANKS, CURLED, Fault, Scanner, alien, quoted
 from .where_page import Finding, Mark, Page
 from .where_refusals import Program
 
-Repair = tuple[int, int, str, str]  # the place, how much is taken out, what is put in, and a sentence
+Repair = tuple[int, int, str]  # the place, how much is taken out, and what is put in
 
 
 class Edited:
@@ -16,10 +16,13 @@ class Edited:
     def __init__(self, text: str) -> None:
         self.text = text
         self.changes: list[tuple[int, int, int]] = []
+        self.touched: list[int] = []  # where the changes are in the text now
+        self.statements: list[int] = []  # where they begin, if it is TOML
 
     def replaced(self, at: int, gone: int, put: str) -> 'Edited':
         other = Edited(self.text[:at] + put + self.text[at + gone:])
         other.changes = self.changes + [(at, gone, len(put))]
+        other.touched = [place if place < at else place - gone + len(put) for place in self.touched] + [at]
         return other
 
     def original(self, place: int) -> int:
@@ -27,10 +30,17 @@ class Edited:
             place = place - put + gone if place >= at + put else min(place, at)
         return place
 
+    def mark(self, mark: Mark) -> Mark:
+        return Mark(self.original(mark.start), self.original(mark.end), mark.note)
+
+    def is_touched(self, mark: Mark) -> bool:
+        """Whether the statement of a mark was changed."""
+        changed = [bisect.bisect(self.statements, place) for place in self.touched]
+        return bisect.bisect(self.statements, mark.start) in changed
+
 
 CLOSING = {'[': ']', '{': '}'}
-HEADER = re.compile(r'[ \t]*\[\[?[ \t]*[A-Za-z0-9_."\'-]+[ \t]*\]\]?[ \t]*(#.*)?\r?$|'
-                    r'(topos|answers|host|flow|invariant|template)[ \t]*=', re.MULTILINE)
+SIGNS = {',': 'comma', '"': 'quote', '= ': 'sign ='}
 
 
 def fault_in(text: str) -> Fault | None:
@@ -39,8 +49,6 @@ def fault_in(text: str) -> Fault | None:
         Scanner(text).document()
     except Fault as fault:
         return fault
-    except RecursionError:
-        return Fault(0, 'Brackets are nested too deep.')
     return None
 
 
@@ -59,29 +67,44 @@ class NoToml:
         """A finding without its title, and the text with which one can go on, if one can."""
         fault = fault_in(self.text)
         if fault is None or not self.is_borne_out(fault):
-            return self.read_so_far(fault), None
+            return self.read_so_far(), None
         line = Page('', self.text).line_of(fault.first[0]) if fault.first else 0
         sentence = fault.sentence.replace('{}', str(line))
         marks = [Mark(fault.at, fault.end)] + ([Mark(*fault.first)] if fault.first else [])
         if fault.twice:
             doubled = self.doubled(fault.twice)
-            if doubled and self.reads_on(doubled.text, fault):
-                return Finding('', self.placed(marks), [sentence]), doubled
-            return Finding('', self.placed(marks), [sentence]), self.without(fault)
-        for at, gone, put, told in self.repairs(fault):
+            is_read = doubled is not None and self.reads_on(doubled.text, fault)
+            return Finding('', self.placed(marks), [sentence]), doubled if is_read else self.without(fault)
+        for at, gone, put in self.repairs(fault):
             mended = self.edited.replaced(at, gone, put)
             if self.reads_on(mended.text, fault, len(put) - gone):
                 if at != fault.at:
                     marks.insert(0, Mark(at, at + gone, 'here'))
-                if put == '"' and at != fault.at and sentence.startswith('Here '):
-                    told, sentence = f'{told[:-1]}: a quote is missing.', f'As it stands: {sentence}'
-                    return Finding('', self.placed(marks), [f'{told} {sentence}']), mended
-                return Finding('', self.placed(marks), [sentence + ' ' + told]), mended
+                old = self.text[at:at + gone]
+                told = f'With `{put}`' + (f' in place of `{old}`' if gone else '') if put else f'Without `{old}`'
+                said = self.missing(fault, at, put, marks) if put and (not gone or put == ',') else sentence
+                return Finding('', self.placed(marks), [f'{said} {told} topos reads on.']), mended
         return Finding('', self.placed(marks), [sentence]), self.without(fault)
+
+    def without(self, fault: Fault) -> Edited | None:
+        """The text without the statement that has the fault, if the program reads the rest."""
+        end = self.text.find('\n', fault.at)
+        mended = self.edited.replaced(fault.statement, max(end, fault.at) - fault.statement, '')
+        return mended if is_toml(self.program, mended.text) and fault_in(mended.text) is None else None
+
+    def missing(self, fault: Fault, at: int, put: str, marks: list[Mark]) -> str:
+        """What is told of a text that is missing; marks the bracket that is not closed."""
+        if put in SIGNS:
+            return f'A {SIGNS[put]} is missing here.'
+        bracket = next(one for one in reversed(fault.open) if one < at)
+        if not fault.first:
+            marks.append(Mark(bracket, bracket + 1))
+        line = Page('', self.text).line_of(bracket)
+        return f'The {"array" if put[0] == "]" else "table"} that begins in line {line} is not closed.'
 
     def placed(self, marks: list[Mark]) -> list[Mark]:
         """The marks by their places in FILE."""
-        return [Mark(self.edited.original(one.start), self.edited.original(one.end), one.note) for one in marks]
+        return list(map(self.edited.mark, marks))
 
     def is_borne_out(self, fault: Fault) -> bool:
         """Whether topos reads all before the statement with the fault, and no more of the text to the end of any of the
@@ -91,19 +114,10 @@ class NoToml:
         ends = [found.end() for found in re.finditer(r'\n', self.text[fault.at:fault.at + 4000])][:20]
         return not any(is_toml(self.program, self.text[:fault.at + end]) for end in ends)
 
-    def read_so_far(self, fault: Fault | None) -> Finding:
-        """Where topos stops, by its answers alone: it reads the statements before, and not that one."""
-        if fault is None:
-            scanner = Statements(self.text)
-            low, high = 0, len(scanner.starts)
-            while high - low > 1:
-                middle = (low + high) // 2
-                is_read = is_toml(self.program, self.text[:scanner.starts[middle]])
-                low, high = (middle, high) if is_read else (low, middle)
-            at = scanner.starts[low] if scanner.starts else 0
-        else:
-            ends = [found.end() for found in re.finditer(r'\n', self.text)]
-            at = next((end for end in reversed(ends[-400:]) if is_toml(self.program, self.text[:end])), 0)
+    def read_so_far(self) -> Finding:
+        """Where topos stops, by its answers alone: after the longest beginning by lines that it reads."""
+        ends = [found.end() for found in re.finditer(r'\n', self.text)]
+        at = next((end for end in reversed(ends[-400:]) if is_toml(self.program, self.text[:end])), 0)
         return Finding('', self.placed([Mark(at, at + 1)]), ['topos reads all above this line, and no more.'])
 
     def reads_on(self, text: str, fault: Fault, more: int = 0) -> bool:
@@ -123,44 +137,37 @@ class NoToml:
         return edited if edited is not self.edited else None
 
     def repairs(self, fault: Fault) -> Iterator[Repair]:
-        """Small changes to try: place, how much is taken out, what is put in, and how that is told."""
+        """Small changes to try: the place, how much is taken out, and what is put in."""
         text, at = self.text, fault.at
         begin = text.rfind('\n', 0, at) + 1
         end = text.find('\n', at)
         end = len(text) if end < 0 else end - (text[end - 1:end] == '\r')
-        closing = [CLOSING[text[one]] for one in reversed(fault.open)]
-        behind = self.behind(at)
         if fault.open:
-            yield behind, 0, ',', 'With a comma topos reads on.'
-        for count in range(1, len(closing) + 1):
-            put = ''.join(closing[:count])
-            yield behind, 0, put, f'With {put} topos reads on.'
-        outer = [CLOSING[text[one]] for one in reversed(fault.open) if one < begin]
-        behind = self.behind(begin)
-        for count in range(1, len(outer) + 1):
-            put = ''.join(outer[:count])
-            yield behind, 0, put, f'With {put} topos reads on.'
+            yield self.end_before(at), 0, ','
+        if fault.first and not fault.open:
+            yield at, 0, '= '
+        for place, before in ((at, at), (begin, begin)):
+            closing = ''.join(CLOSING[text[one]] for one in reversed(fault.open) if one < before)
+            for count in range(1, len(closing) + 1):
+                yield self.end_before(place), 0, closing[:count]
         if alien(text[at:at + 1]):
             plain = re.sub(f'[{CURLED}]', '"', text[at:end]).translate(dict.fromkeys(map(ord, BLANKS), ' '))
-            yield at, end - at, plain, 'With plain ones up to the end of the line topos reads on.'
+            yield at, end - at, plain
         word = re.compile(r'[^\s,\[\]{}#"\'=]+').match(text, at)
-        if word and word[0].lower() in ('true', 'false'):
-            yield at, len(word[0]), word[0].lower(), 'With small letters topos reads on.'
-        elif word and re.fullmatch('0[0-9]+', word[0]):
-            yield at, len(word[0]), str(int(word[0])), f'With {int(word[0])} topos reads on.'
-        elif word and re.search('[A-Za-z./:]', word[0]):
-            yield at, len(word[0]), quoted(word[0]), f'With quotes, {quoted(word[0])}, topos reads on.'
+        if word:
+            for put in (word[0].lower(), word[0].lstrip('0'), quoted(word[0])):
+                if not word[0].isdigit() or put.isdigit():
+                    yield at, len(word[0]), put
             if text[word.end():word.end() + 1] == '"':
-                yield at, 0, '"', 'With a " here topos reads on.'
+                yield at, 0, '"'
         for found in re.finditer(r'(?<=[^\s,\[\]{}"])(?=[ \t]*[,\]}])|$', text[begin:end]):
-            yield begin + found.start(), 0, '"', 'With a " here topos reads on.'
-        if text[at:at + 1] and text[at:at + 1] in '-;:.|/':
-            yield at, 1, ',', f'With a comma in place of {text[at]} topos reads on.'
-        if text[at:at + 1] and text[at:at + 1] in '[]{},"\'=.;':
-            yield at, 1, '', f'Without this {text[at]} topos reads on.'
+            yield begin + found.start(), 0, '"'
+        for put, signs in ((',', '-;:.|/'), ('', '[]{},"\'=.;')):
+            if text[at:at + 1] and text[at] in signs:
+                yield at, 1, put
 
-    def behind(self, at: int) -> int:
-        """The end of what stands before a place, comments left out."""
+    def end_before(self, at: int) -> int:
+        """The end of the text before a place, without comments."""
         code = re.compile(r'(?:"(?:\\.|[^"\\\n])*"|\'[^\'\n]*\'|[^#"\'\n])*')
         while at > 0:
             begin = self.text.rfind('\n', 0, at) + 1
@@ -170,26 +177,3 @@ class NoToml:
                 return begin + len(line)
             at = begin - 1
         return 0
-
-    def without(self, fault: Fault) -> Edited | None:
-        """The text without the statement, up to the next line that begins one."""
-        start = self.text.rfind('\n', 0, fault.statement) + 1
-        line = self.text.find('\n', fault.statement) + 1
-        found = HEADER.search(self.text, line) if line else None
-        end = found.start() if found else len(self.text)
-        blank = re.sub(r'[^\n]', ' ', self.text[start:end])
-        return self.edited.replaced(start, end - start, blank) if blank != self.text[start:end] else None
-
-
-class Statements(Scanner):
-    """A scanner that notes where statements begin."""
-
-    def __init__(self, text: str) -> None:
-        super().__init__(text)
-        self.starts: list[int] = []
-        with contextlib.suppress(Fault):
-            self.document()
-
-    def statement(self, root: Node, section: list[str]) -> list[str]:
-        self.starts.append(self.at)
-        return super().statement(root, section)
