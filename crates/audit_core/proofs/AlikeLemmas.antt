@@ -109,7 +109,7 @@ class_of_packet sides p known =
         src = cut_there (0 ∷ addresses) (2 ^ 32) src.0 p.src src.1 known.0 src.2;
         dst = cut_there (0 ∷ addresses) (2 ^ 32) dst.0 p.dst dst.1 known.1 dst.2;
         proto = where_has (represents_protocol named) (2 ^ 8) proto.0 (at_most proto.0 p.proto (2 ^ 8) proto.1 known.2)
-            (represents named proto.0 (elim (is_in named proto.0) [ inl there ↦ inl there | inr none ↦ inr (below named proto.0 (proto.3.least none)) ]));
+            (represents named proto.0 (elim (is_in named proto.0) [ inl there ↦ inl there | inr none ↦ inr (below named proto.0 (proto.3 none)) ]));
         sport = cut_there (0 ∷ ports) (2 ^ 16) sport.0 p.sport sport.1 known.3 sport.2;
         dport = cut_there (0 ∷ ports) (2 ^ 16) dport.0 p.dport dport.1 known.4 dport.2;
       },

@@ -19,7 +19,7 @@ use Rattle.pkt_core.specs.Firewall.{may_pass}
 use Rattle.audit_core.specs.Rules.{Chains, filter_of}
 use Rattle.audit_core.specs.Sides.{Sides, permits}
 use Rattle.audit_core.specs.Verdicts.{GivesOne, HaveSameVerdicts}
-use Rattle.audit_core.specs.inner.Faults.{AreRight, IsAnyFault, IsExpected, IsFault, Right, SaysOther, Wrong, expected_at, is_asked, state_in}
+use Rattle.audit_core.specs.inner.Faults.{AreRight, HasFault, IsFault, Right, Wrong, expected_at, is_asked, state_in}
 use Rattle.audit_core.proofs.RulesLaws.{one_verdict}
 
 -- ---- Packets are the packets of the box of all packets
@@ -73,12 +73,10 @@ right_where sides kind p none asked passes said =
     same_where_not passes (expected_at sides kind p)
     (λ wrong. none (passes, record { asked = asked; said = said; wrong = wrong }))
 
-pub right_where_none : (sides built : Sides) (b : PacketBox) (found : Option Packet) → built ≡ sides → b ≡ every_packet
-    → IsLeastWhere (IsAnyFault built) b found → is_some found ≡ false → (kind : Kind) → AreRight sides kind
-right_where_none sides built b None same whole none is = λ kind p packet.
-    right_where sides kind p (λ fault.
-    none p (subst (λ (x : PacketBox). IsIn x p) (sym whole) (in_every p packet)) (kind, subst (λ (s : Sides). IsFault s kind p) (sym same) fault))
-right_where_none sides built b (Some q) same whole found is = absurd (true≢false is)
+pub right_where_none : (sides : Sides) (found : Option Packet) → IsLeastWhere (HasFault sides None) every_packet found → is_some found ≡ false
+    → (kind : Kind) → AreRight sides kind
+right_where_none sides None none is = λ kind p packet. right_where sides kind p (λ fault. none p (in_every p packet) (kind, fault))
+right_where_none sides (Some q) found is = absurd (true≢false is)
 
 pub fault_said : (sides : Sides) (kind : Kind) (p : Packet) (f : Bool) → GivesOne (filter_of sides.rules) → IsPacket p
     → filter_of sides.rules (state_in kind) p f → IsFault sides kind p → Wrong sides kind p f
@@ -87,45 +85,35 @@ fault_said sides kind p f gives is said fault =
 
 -- ---- The result for a box
 
-pub fault_by : (sides : Sides) (kind : Kind) (p : Packet) (expected answer : Bool) → IsTrue (is_asked (permits sides) kind p)
-    → IsExpected sides (state_in kind) p expected → IsTrue answer ↔ SaysOther sides (state_in kind) expected p → IsTrue answer ↔ IsFault sides kind p
-fault_by sides kind p expected answer asked is tells = (
-  (λ yes'. let other = tells.0 yes' in (other.0, record { asked = asked; said = other.1; wrong = λ e. other.2 (e ∙ is) })),
-  (λ fault. tells.1 (fault.0, fault.1.said, (λ e. fault.1.wrong (e ∙ sym is)))),
+pub fault_by : (sides : Sides) (kind : Kind) (p : Packet) (passes expected answer : Bool) → GivesOne (filter_of sides.rules) → IsPacket p
+    → IsTrue (is_asked (permits sides) kind p) → filter_of sides.rules (state_in kind) p passes → expected_at sides kind p ≡ expected
+    → (IsTrue answer → passes ≢ expected) × (passes ≢ expected → IsTrue answer) → IsTrue answer ↔ IsFault sides kind p
+fault_by sides kind p passes expected answer gives packet asked said is by = (
+  (λ yes'. (passes, record { asked = asked; said = said; wrong = λ e. by.0 yes' (e ∙ is) })),
+  (λ fault. by.1 (λ e. fault.1.wrong (one_verdict sides.rules gives (state_in kind) p packet fault.0 passes fault.1.said said ∙ e ∙ sym is))),
 )
 
--- If a packet is not a fault for the first two kinds, it is a fault for some kind iff it is a fault for the third.
-pub any_fault_by : (sides : Sides) (p : Packet) (alone swapped both : Bool)
-    → alone ≡ false → IsTrue alone ↔ IsFault sides Alone p → swapped ≡ false → IsTrue swapped ↔ IsFault sides AfterSwap p
-    → IsTrue both ↔ IsFault sides AfterBoth p → IsTrue both ↔ IsAnyFault sides p
-any_fault_by sides p alone swapped both not_alone first not_swapped second third = (
-  (λ yes'. (AfterBoth, third.0 yes')),
-  (λ any. by_kind any.0 any.1),
-)
+-- If a property does not hold for the first two kinds, it holds for some kind iff it holds for the third.
+pub any_kind : (P : Kind → Type 0) (alone swapped both : Bool) → IsTrue alone ↔ P Alone → alone ≡ false → IsTrue swapped ↔ P AfterSwap
+    → swapped ≡ false → IsTrue both ↔ P AfterBoth → IsTrue both ↔ ((kind : Kind) × P kind)
+any_kind P alone swapped both first not_alone second not_swapped third = ((λ yes'. (AfterBoth, third.0 yes')), (λ any. by_kind any.0 any.1))
   where
-    by_kind : (kind : Kind) → IsFault sides kind p → IsTrue both
-    by_kind Alone fault = absurd (true≢false (sym (first.1 fault) ∙ not_alone))
-    by_kind AfterSwap fault = absurd (true≢false (sym (second.1 fault) ∙ not_swapped))
-    by_kind AfterBoth fault = third.1 fault
+    by_kind : (kind : Kind) → P kind → IsTrue both
+    by_kind Alone holds = absurd (true≢false (sym (first.1 holds) ∙ not_alone))
+    by_kind AfterSwap holds = absurd (true≢false (sym (second.1 holds) ∙ not_swapped))
+    by_kind AfterBoth holds = third.1 holds
 
-pub says_by : (sides : Sides) (state : CtState) (p : Packet) (said expected answer : Bool) → GivesOne (filter_of sides.rules) → IsPacket p
-    → filter_of sides.rules state p said → (IsTrue answer → said ≢ expected) → (said ≢ expected → IsTrue answer)
-    → IsTrue answer ↔ SaysOther sides state expected p
-says_by sides state p said expected answer gives is is_said to from = (
-  (λ yes'. (said, is_said, to yes')),
-  (λ other. from (λ e. other.2 (one_verdict sides.rules gives state p is other.0 said other.1 is_said ∙ e))),
-)
+-- The same faults of each kind.
+pub same_faults : (sides part : Sides) (p : Packet) → ((kind : Kind) → IsFault part kind p ↔ IsFault sides kind p)
+    → (kind : Option Kind) → HasFault part kind p ↔ HasFault sides kind p
+same_faults sides part p same None = ((λ any. (any.0, (same any.0).0 any.1)), (λ any. (any.0, (same any.0).1 any.1)))
+same_faults sides part p same (Some kind) = same kind
 
 pub differs : (a b : Bool) → (IsTrue (not (beq a b)) → a ≢ b) × (a ≢ b → IsTrue (not (beq a b)))
 differs true true = ((λ h. absurd (true≢false (sym h))), (λ h. absurd (h refl)))
 differs false false = ((λ h. absurd (true≢false (sym h))), (λ h. absurd (h refl)))
 differs true false = ((λ h e. true≢false e), (λ h. refl))
 differs false true = ((λ h e. true≢false (sym e)), (λ h. refl))
-
-pub trace_forwards : (kind : Kind) (p : Packet) (f : Bool) → (trace_of kind p f).forwards ≡ f
-trace_forwards Alone p f = refl
-trace_forwards AfterSwap p f = refl
-trace_forwards AfterBoth p f = refl
 
 -- ---- Rules with the same verdicts on the packets of a box
 

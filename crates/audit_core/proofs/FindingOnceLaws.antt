@@ -58,14 +58,12 @@ ordered p q =
 one_wrong : (b c : Bool) (E : Type 0) → IsWrong b E → IsWrong c E → b ≡ c
 one_wrong true true E first second = refl
 one_wrong false false E first second = refl
-one_wrong true false E first second = elim first [
-  | inl f ↦ elim second [ inl s ↦ absurd (true≢false (sym s.0)) | inr s ↦ absurd (f.1 s.1) ]
-  | inr f ↦ absurd (true≢false f.0)
-]
-one_wrong false true E first second = elim first [
-  | inl f ↦ absurd (true≢false (sym f.0))
-  | inr f ↦ elim second [ inl s ↦ absurd (s.1 f.1) | inr s ↦ absurd (true≢false s.0) ]
-]
+one_wrong true false E (inl first) (inl second) = absurd (true≢false (sym second.0))
+one_wrong true false E (inl first) (inr second) = absurd (first.1 second.1)
+one_wrong true false E (inr first) second = absurd (true≢false first.0)
+one_wrong false true E (inl first) second = absurd (true≢false (sym first.0))
+one_wrong false true E (inr first) (inl second) = absurd (second.1 first.1)
+one_wrong false true E (inr first) (inr second) = absurd (true≢false second.0)
 
 module _ (sides : Sides) (representatives : Representatives) where
   -- If the two sides differ on a list, they do not agree on it.

@@ -1,4 +1,4 @@
--- The flow of the packets of a box, and of the answers to them.
+-- The flow of the answers to the packets of a box.
 use Rattle.std.proofs.Common.{◌≡◌, ℕ, Bool, true, false, ◌==◌, List, Option, Some, None, refl, sym, ap, ◌∙◌, arith, true≢false}
 use Rattle.std.specs.Prelude.{if◌then◌else◌}
 use Rattle.std.specs.Option.{option_map}
@@ -8,14 +8,10 @@ use Rattle.host_net.specs.Packet.{swap_of}
 use Rattle.flow_set.specs.declared.flow.Flow.{Flow}
 use Rattle.flow_set.specs.Flow.{reverse_of}
 use Rattle.header_space.specs.declared.packet_box.PacketBox.{PacketBox}
-use Rattle.header_space.specs.Boxes.{Narrows, swapped}
-use Rattle.header_space.proofs.BoxLaws.{in_swapped, narrows_in}
+use Rattle.header_space.specs.Boxes.{swapped}
+use Rattle.header_space.proofs.BoxLaws.{in_swapped}
 use Rattle.pkt_core.specs.FlowPolicy.{flow_of_owners}
 use Rattle.audit_core.specs.inner.Parts.{HaveFlow}
-
--- A narrowed box has the flow of the box.
-pub have_flow_in : (hosts : List Host) (old new : PacketBox) (flow : Option Flow) → HaveFlow hosts old flow → Narrows old new → HaveFlow hosts new flow
-have_flow_in hosts old new flow have part = λ p inside. have p (narrows_in old new p part inside)
 
 back_between : (a b : Option ℕ) → flow_of_owners b a ≡ option_map reverse_of (flow_of_owners a b)
 back_between None None = refl

@@ -7,7 +7,6 @@ use Rattle.host_net.specs.Packet.{IsPacket, swap_of}
 use Rattle.flow_set.specs.FlowSet.{IsSubset}
 use Rattle.pkt_core.specs.declared.event.Event.{Event}
 use Rattle.pkt_core.specs.declared.event.Event.TheVariants.{Seen, Forget}
-use Rattle.pkt_core.specs.Events.{ForgottenAt, SeenAt}
 use Rattle.pkt_core.specs.Expected.{AreExpected, Expected}
 use Rattle.pkt_core.specs.Firewall.{Filter}
 use Rattle.pkt_core.proofs.FilterLaws.{is_of-within}
@@ -53,14 +52,7 @@ module _ (filter : Filter) where
 
   module _ (permitted stateful : Packet → Bool) where
     agree_none : AgreeOn filter permitted stateful []
-    agree_none [] run =
-        record { as_many = refl; seen = λ k q there. absurd (none_seen k q there); forgotten = λ k q there. absurd (none_forgotten k q there) }
-      where
-        none_seen : (k : ℕ) (q : Packet) → SeenAt [] k q → ⊥
-        none_seen k q h = cc
-
-        none_forgotten : (k : ℕ) (q : Packet) → ForgottenAt [] k q → ⊥
-        none_forgotten k q h = cc
+    agree_none [] run = record { as_many = refl; seen = λ k q there. let no : ⊥ = cc in absurd no; forgotten = λ k q there. cc }
     agree_none (x ∷ xs) run = absurd run
 
     -- The two sides agree on a list if they agree on it without its last packet, and do not differ at this packet.

@@ -17,7 +17,6 @@ pub mod RulesLaws
 pub mod RulesLemmas
 pub mod SameLaws
 pub mod ShortLaws
-pub mod SideLemmas
 pub mod SiteLemmas
 pub mod SoughtLaws
 pub mod SourceLaws

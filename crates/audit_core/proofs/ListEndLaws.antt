@@ -103,22 +103,6 @@ differs_where e gives others kind p is passes expected forwards answer ends expe
   (λ differs. by.1 (one_end e.part.rules e.swaps.rules gives others kind p is passes forwards ends differs.ends)),
 )
 
--- The rules differ from the policy for one kind of list.
-pub any_where : (e : Ends) (p : Packet) (kind : Kind) → (forwards : Bool) × DiffersBy e kind p forwards → IsTrue true ↔ HoldsOf e None p
-any_where e p kind differs = ((λ h. (kind, differs.0, differs.1)), (λ h. refl))
-
--- The rules do not differ from the policy for the first two kinds of list.
-pub any_of : (e : Ends) (p : Packet) (alone after_swap after_both : Bool) → (IsTrue alone ↔ ((forwards : Bool) × DiffersBy e Alone p forwards))
-    → alone ≡ false → (IsTrue after_swap ↔ ((forwards : Bool) × DiffersBy e AfterSwap p forwards)) → after_swap ≡ false
-    → (IsTrue after_both ↔ ((forwards : Bool) × DiffersBy e AfterBoth p forwards)) → IsTrue after_both ↔ HoldsOf e None p
-any_of e p alone after_swap after_both first no_first second no_second third =
-    ((λ h. let d = third.0 h in (AfterBoth, d.0, d.1)), (λ h. by_kind h.0 h.1 h.2))
-  where
-    by_kind : (kind : Kind) (forwards : Bool) → DiffersBy e kind p forwards → IsTrue after_both
-    by_kind Alone f d = absurd (true≢false (sym (first.1 (f, d)) ∙ no_first))
-    by_kind AfterSwap f d = absurd (true≢false (sym (second.1 (f, d)) ∙ no_second))
-    by_kind AfterBoth f d = third.1 (f, d)
-
 -- 4. With the same rules for packets and for their swaps, a difference at the end of a list is a difference on the list.
 
 module _ (sides : Sides) (gives : GivesOne (filter_of sides.rules)) where

@@ -61,10 +61,6 @@ is_in (x ∷ xs) d = elim (cases_Bool (x == d)) [
   ]
 ]
 
--- The least number of a class of protocols: a named number, or the least number that is not named.
-pub record IsLeastProtocol (named : List ℕ) (c : ℕ) : Type 0 where
-  pub least : (Contains named c → ⊥) → (d : ℕ) → (Contains named d → ⊥) → c ≤ d
-
 -- The least number from c on that is not named, if n is not named and all numbers below c are named.
 least_from : (named : List ℕ) (k c n : ℕ) → c + k ≡ n → (Contains named n → ⊥) → ((d : ℕ) → d < c → Contains named d) → (e : ℕ) × (e ≤ n) × (Contains named e → ⊥) × ((d : ℕ) → d < e → Contains named d)
 least_from named zero c n is none below = (n, omega arith, none, λ d h. below d (omega arith))
@@ -75,15 +71,16 @@ least_from named (suc k) c n is none below =
       | inr free ↦ (c, omega arith, free, below)
     ]
 
--- Each protocol is in one class with the least protocol of the class, which is no greater.
-pub protocol_of : (named : List ℕ) (n : ℕ) → (c : ℕ) × (c ≤ n) × AreOneProtocol named c n × IsLeastProtocol named c
+-- Each protocol is in one class with the least protocol of the class, which is no greater: a named number, or the least that is not named.
+pub protocol_of : (named : List ℕ) (n : ℕ)
+    → (c : ℕ) × (c ≤ n) × AreOneProtocol named c n × ((Contains named c → ⊥) → (d : ℕ) → (Contains named d → ⊥) → c ≤ d)
 protocol_of named n = elim (is_in named n) [
-  | inl there ↦ (n, omega arith, (λ m h. ((λ is. is), (λ is. is))), record { least = λ none. absurd (none there) })
+  | inl there ↦ (n, omega arith, (λ m h. ((λ is. is), (λ is. is))), (λ none. absurd (none there)))
   | inr free ↦
       let found = least_from named n 0 n (omega arith) free (λ d h. absurd (omega arith)) in (
         found.0,
         found.1,
         (λ m h. ((λ is. absurd (found.2 (subst (λ (x : ℕ). Contains named x) is h))), (λ is. absurd (free (subst (λ (x : ℕ). Contains named x) is h))))),
-        record { least = λ none d apart. elim (cases_lt d found.0) [ inl less ↦ absurd (apart (found.3 d less)) | inr more ↦ more ] },
+        (λ none d apart. elim (cases_lt d found.0) [ inl less ↦ absurd (apart (found.3 d less)) | inr more ↦ more ]),
       )
 ]

@@ -4,19 +4,19 @@ use Rattle.std.specs.List.{All, AllPass, Contains, dedup, filter, list_all, rang
 use Rattle.std.specs.List.Retain.{DiffersFromLast, IsFiltered}
 use Rattle.std.specs.List.Sorted.{IsPermutation, IsSorted, IsStrictlyIncreasing}
 use Rattle.std.specs.Ordering.{nat_cmp}
-use Rattle.std.proofs.lemmas.Bool.{or_cases, or_left, or_right}
+use Rattle.std.proofs.lemmas.Bool.{or_left, or_right}
 use Rattle.std.proofs.lemmas.Bool.Decides.{Decides-eqb, nat_tests}
 use Rattle.std.specs.Prelude.{nat_lt}
 use Rattle.std.proofs.lemmas.List.Elements.{All-contains, All-filter, filter-append, filter_passes}
 use Rattle.std.proofs.lemmas.List.Filters.{dedup_is}
-use Rattle.std.proofs.lemmas.List.Folds.{list_all-append}
+use Rattle.std.proofs.lemmas.List.Folds.{Any-from_list_any, list_all-append, list_any-from_Any}
 use Rattle.std.proofs.lemmas.List.FromFn.{get_or-range_with_len, length-range_with_len}
 use Rattle.std.proofs.lemmas.List.Kept.{Contains-dedup_nat, Contains-from_dedup, IsStrictlyIncreasing-filter}
 use Rattle.std.proofs.lemmas.List.Sorted.{Contains-permutation, IsPermutation-sym}
 use Rattle.std.proofs.lemmas.List.Sums.{count_by-le-length, length-filter, list_all-from_AllPass}
 use Rattle.std.proofs.lemmas.Map.Keys.{IsStrictlyIncreasing-dedup}
 use Rattle.audit_core.specs.Classes.{is_among, numbers_where, represents_protocol}
-use Rattle.audit_core.proofs.OrderLemmas.{contains_cases, contains_first, contains_later, contains_none, increasing_ext}
+use Rattle.audit_core.proofs.OrderLemmas.{contains_cases, contains_first, contains_later, increasing_ext}
 
 -- 1. The numbers below a limit for which a test is true.
 
@@ -97,18 +97,12 @@ where_more test n =
 -- 2. Numbers that a list contains.
 
 pub among_has : (numbers : List ℕ) (n : ℕ) → Contains numbers n → is_among numbers n ≡ true
-among_has [] n there = absurd (contains_none n there)
-among_has (x ∷ xs) n there = elim (contains_cases x xs n there) [
-  | inl is ↦ or_left (x == n) _ ((Decides-eqb x n).1 is)
-  | inr later ↦ or_right (x == n) _ (among_has xs n later)
-]
+among_has numbers n there = list_any-from_Any (λ x. x == n) numbers (there.0, n, there.1, there.2, (Decides-eqb n n).1 refl)
 
 among_only : (numbers : List ℕ) (n : ℕ) → is_among numbers n ≡ true → Contains numbers n
-among_only [] n is = absurd (true≢false (sym is))
-among_only (x ∷ xs) n is = elim (or_cases (x == n) _ is) [
-  | inl here ↦ contains_first x xs n ((Decides-eqb x n).0 here)
-  | inr later ↦ contains_later x xs n (among_only xs n later)
-]
+among_only numbers n is =
+    let any = Any-from_list_any (λ x. x == n) numbers is in
+    subst (λ (x : ℕ). Contains numbers x) ((Decides-eqb any.1 n).0 any.4) (any.0, any.2, any.3)
 
 -- Numbers below a limit that are sorted, without duplicates, are the numbers of the list below the limit.
 pub sorted_are : (old ordered new : List ℕ) (limit : ℕ) → IsPermutation old ordered → IsSorted nat_cmp ordered

@@ -17,6 +17,7 @@ use Rattle.flow_set.specs.declared.flow.Flow.{Flow}
 use Rattle.flow_set.specs.EveryFlow.{every_flow}
 use Rattle.flow_set.proofs.EveryFlowLaws.{IsFull-every_flow}
 use Rattle.flow_set.specs.Flow.{IsFlow, same_flow}
+use Rattle.flow_set.specs.laws.FlowLaws.{same_fact}
 use Rattle.flow_set.specs.FlowSet.{has}
 use Rattle.pkt_core.specs.FlowPolicy.{flow_of, flow_of_owners, is_of}
 use Rattle.audit_core.specs.Parts.{Addresses, flow_services, service_parts, site_parts}
@@ -61,12 +62,6 @@ owner_below hosts a i owned = by_holder (prefix_owner_of hosts a) refl owned
     by_holder None is found = let below = place_below (λ h. h.rest) 0 hosts i found in omega arith
     by_holder (Some j) is found = let below = place_below (λ h. covers_any h.prefixes a) 0 hosts i (is ∙ found) in omega arith
 
-same_flow_is : (f g : Flow) → same_flow f g ≡ true → f ≡ g
-same_flow_is f g h =
-    let from : f.from ≡ g.from = grind (arith, nat_tests) in
-    let to : f.to ≡ g.to = grind (arith, nat_tests) in
-    λ i. record { from = from i; to = to i }
-
 -- A property of all elements that are listed for flows holds for the elements that are listed for one of the flows.
 all_of_flow : {X : Type 0} (P : X → Type 0) (listed : Flow → List X) (fs : List Flow) (f : Flow) → has fs f ≡ true
     → AllByRecursion P (flat_map listed fs) → AllByRecursion P (listed f)
@@ -77,7 +72,7 @@ all_of_flow P listed (g ∷ fs) f there all =
   where
     by_test : (b : Bool) → same_flow g f ≡ b → (b || has fs f) ≡ true → AllByRecursion P (listed g) → (has fs f ≡ true → AllByRecursion P (listed f))
         → AllByRecursion P (listed f)
-    by_test true same h here behind = subst (λ (x : Flow). AllByRecursion P (listed x)) (same_flow_is g f same) here
+    by_test true same h here behind = same_fact (λ (x : Flow). AllByRecursion P (listed x)) g f same here
     by_test false same h here behind = behind h
 
 abbrev SameService : Packet → Packet → Service → Type 0

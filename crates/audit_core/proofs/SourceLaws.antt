@@ -16,9 +16,10 @@ use Rattle.audit_core.specs.declared.sources.Sender.{Sender}
 use Rattle.audit_core.specs.declared.sources.Source.{Source}
 use Rattle.audit_core.specs.Findings.{trace_of}
 use Rattle.header_space.specs.Owners.{GoesBetween, IsOfPair, IsOwned, IsRange, LiesIn, LiesInOne}
-use Rattle.audit_core.specs.inner.Pairs.{AreSources, DiffersSo, HaveSameEnds, HoldsOf, IsDifferent, IsFoundBetween, IsSender, IsSource, SaysWhether, every_address, ranges_in}
+use Rattle.audit_core.specs.inner.Pairs.{AreSources, DiffersSo, HaveSameEnds, HoldsBetween, HoldsOf, IsDifferent, IsFoundBetween, IsSender, IsSource, SaysWhether, every_address, ranges_in}
 use Rattle.audit_core.specs.Pairs.{Case, HasNone, IsDifference, case_of}
 use Rattle.audit_core.specs.Sides.{Sides}
+use Rattle.header_space.proofs.CutLaws.{found_one}
 use Rattle.header_space.proofs.OwnersLaws.{covered_cases, covered_left, covered_owned, covered_right}
 
 -- 1. Sources, in order.
@@ -139,21 +140,22 @@ module _ (sides : Sides) (from : Sender) (to : Owned) (sender : IsSender sides f
   none_differs found is none c here there p of differs =
       let moved = subst (λ (o : Option ℕ). IsOfPair sides.site.hosts o to.owner p) here (subst (λ (o : Option ℕ). IsOfPair sides.site.hosts c.from o p) there of) in
       let any : IsDifferent sides p = (c.kind, c.forwards, differs) in
-      subst (λ (found : Option Packet). IsFoundBetween (IsDifferent sides) (ranges_in from.sources.items) to.ranges.items found) is none p
-      (goes_where p moved any) any
+      (subst (λ (found : Option Packet). IsFoundBetween (IsDifferent sides) (ranges_in from.sources.items) to.ranges.items found) is none).none p
+      (goes_where p moved any, any) tt
 
   pub none_of : (direction : Direction) → IsFoundBetween (DiffersSo sides (Some direction)) (ranges_in from.sources.items) to.ranges.items None
       → HasNone sides (case_of from.owner to.owner direction.kind direction.forwards)
-  none_of direction none p of differs = none p (goes_where p of (direction.kind, direction.forwards, differs)) differs
+  none_of direction none p of differs = none.none p (goes_where p of (direction.kind, direction.forwards, differs), differs) tt
 
   pub one_of : (direction : Direction) (p : Packet)
       → IsFoundBetween (DiffersSo sides (Some direction)) (ranges_in from.sources.items) to.ranges.items (Some p) → (d : Difference)
       → d ≡ record { from = from.owner; to = to.owner; trace = trace_of direction.kind p direction.forwards }
       → IsDifference sides (case_of from.owner to.owner direction.kind direction.forwards) d
-  one_of direction p found d is = record {
-    packet = p;
-    of_pair = pair_of p found.goes;
-    differs = found.holds;
-    first = λ q of before differs. found.first q (goes_where q of (direction.kind, direction.forwards, differs)) before differs;
-    is = is;
-  }
+  one_of direction p found d is =
+      let own = found_one (HoldsBetween (DiffersSo sides (Some direction)) (ranges_in from.sources.items) to.ranges.items) p found in record {
+        packet = p;
+        of_pair = pair_of p own.0;
+        differs = own.1;
+        first = λ q of before differs. found.none q (goes_where q of (direction.kind, direction.forwards, differs), differs) before;
+        is = is;
+      }

@@ -14,7 +14,7 @@ use crate::fault::{are_right, fault_of};
 use crate::finding::{AuditRefusal, Finding};
 use crate::kind::Kind;
 use crate::named::named_between;
-use crate::sides::Sides;
+use crate::part::Part;
 use crate::text::Text;
 use flow_set::FlowSet;
 use host_net::{Hosts, Services};
@@ -66,7 +66,7 @@ pub fn audit_policy(
     if count > MOST_CLASSES {
         return Err(AuditRefusal::TooManyClasses { count });
     }
-    Ok(find(alloc, &Sides::new(policy, *text))?)
+    Ok(compare_policy(alloc, policy, text)?)
 }
 
 /// Compares rules with a policy. The number of classes of packets has no limit.
@@ -80,7 +80,8 @@ pub fn compare_policy(
     ensures exact { IfOk result (λ finding. (finding ≡ Finding.Equal) ↔
         (DifferSomewhere (sides_of policy.now.site policy.now.permitted policy.now.stateful (rules_of text.now)) → ⊥)) }
 {
-    find(alloc, &Sides::new(policy, *text))
+    let finding = find(alloc, &Part::whole(policy, *text))?;
+    Ok(finding)
 }
 
 /// Returns the number of classes of packets.
@@ -96,7 +97,7 @@ fn count_classes(
 }
 
 /// Returns the least fault of the first kind of list that has a fault.
-fn find(alloc: Global, sides: &Sides<'_>) -> Result<Finding, AllocError>
+fn find(alloc: Global, sides: &Part<'_>) -> Result<Finding, AllocError>
     ensures { IfOk result (IsSought sides.now) }
 {
     if are_right(alloc, sides)? {

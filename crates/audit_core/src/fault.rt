@@ -7,35 +7,33 @@ ghost use Rattle.header_space.specs.Boxes.{every_packet};
 ghost use Rattle.header_space.specs.Searching.{IsLeastWhere};
 ghost use Rattle.host_net.specs.Packet.{IsPacket};
 ghost use Rattle.audit_core.specs.Findings.{trace_of};
-ghost use Rattle.audit_core.specs.inner.Faults.{AreRight, IsAnyFault, IsFault, IsFaultOf, Wrong, state_in};
+ghost use Rattle.audit_core.specs.inner.Faults.{AreRight, HasFault, IsFault, IsFaultOf, Wrong, state_in};
 ghost use Rattle.audit_core.specs.declared.kind.Kind.{Kind};
 
 use crate::finding::Trace;
 use crate::kind::Kind;
 use crate::part::Part;
-use crate::sides::Sides;
 use header_space::{Cut, PacketBox, Question, least_where};
 use host_net::{CtState, Packet};
 use std::alloc::{AllocError, Global};
 
-/// Whether the rules differ from the policy at the end of the list of that kind.
+/// Whether the rules differ from the policy at the end of the list of that kind or, for `None`, of any kind.
 #[derive(Drop)]
-pub(crate) struct Fault<'a> {
+struct Fault<'a> {
     part: Part<'a>,
-    kind: Kind,
+    kind: Option<Kind>,
 }
 
 impl<'a> Question for Fault<'a> {
-    ghost use Rattle.audit_core.specs.inner.Faults.{IsFault};
+    ghost use Rattle.audit_core.specs.inner.Faults.{HasFault};
 
-    ghost holds_of = { λ q p. IsFault q.part q.kind p };
+    ghost holds_of = { λ q p. HasFault q.part q.kind p };
 
     fn ask(&self, within: &mut PacketBox) -> bool {
         let flow = self.part.flow_within(within);
         match self.kind {
-            Kind::Alone => self.part.is_fault_alone(flow, within),
-            Kind::AfterSwap => self.part.is_fault_behind_swap(flow, within),
-            Kind::AfterBoth => self.part.is_fault_behind_both(flow, within),
+            None => self.part.has_fault(flow, within),
+            Some(kind) => self.part.is_fault(kind, flow, within),
         }
     }
 
@@ -54,62 +52,25 @@ impl<'a> Question for Fault<'a> {
     }
 }
 
-/// Whether the rules differ from the policy at the end of the list of some kind.
-#[derive(Drop)]
-struct AnyFault<'a> {
-    part: Part<'a>,
-}
-
-impl<'a> Question for AnyFault<'a> {
-    ghost use Rattle.audit_core.specs.inner.Faults.{IsAnyFault};
-
-    ghost holds_of = { λ q p. IsAnyFault q.part p };
-
-    fn ask(&self, within: &mut PacketBox) -> bool {
-        let flow = self.part.flow_within(within);
-        if self.part.is_fault_alone(flow, within) {
-            return true;
-        }
-        if self.part.is_fault_behind_swap(flow, within) {
-            return true;
-        }
-        self.part.is_fault_behind_both(flow, within)
-    }
-
-    fn restrict(
-        &self,
-        alloc: Global,
-        within: &PacketBox,
-    ) -> Result<Option<AnyFault<'a>>, AllocError> {
-        match self.part.restrict(alloc, within)? {
-            None => Ok(None),
-            Some(part) => Ok(Some(AnyFault { part })),
-        }
-    }
-
-    fn cut(&self, within: &PacketBox) -> Option<Cut> {
-        self.part.cut(within)
-    }
-}
-
 /// Whether the rules are right about all packets. One search for all kinds of lists is faster than one for
 /// each kind.
-pub(crate) fn are_right(alloc: Global, sides: &Sides<'_>) -> Result<bool, AllocError>
+pub(crate) fn are_right(alloc: Global, sides: &Part<'_>) -> Result<bool, AllocError>
     ensures { IfOk result (λ right. IsTrue right → (kind : Kind) → AreRight sides.now kind) }
 {
-    let fault = AnyFault {
-        part: Part::whole(sides),
-    };
-    let found = least_where(alloc, &fault, PacketBox::every())?;
+    let found = least_fault(alloc, sides, None)?;
     Ok(found.is_none())
 }
 
-/// Returns the least packet at the end of whose list of that kind the two sides differ, if there is one.
-fn least_fault(alloc: Global, sides: &Sides<'_>, kind: Kind) -> Result<Option<Packet>, AllocError>
-    ensures { IfOk result (IsLeastWhere (IsFault sides.now kind) every_packet) }
+/// Returns the least packet at the end of whose list the two sides differ, if there is one.
+fn least_fault(
+    alloc: Global,
+    sides: &Part<'_>,
+    kind: Option<Kind>,
+) -> Result<Option<Packet>, AllocError>
+    ensures { IfOk result (IsLeastWhere (HasFault sides.now kind) every_packet) }
 {
     let fault = Fault {
-        part: Part::whole(sides),
+        part: sides.by_ref(),
         kind,
     };
     least_where(alloc, &fault, PacketBox::every())
@@ -119,18 +80,18 @@ fn least_fault(alloc: Global, sides: &Sides<'_>, kind: Kind) -> Result<Option<Pa
 /// is one.
 pub(crate) fn fault_of(
     alloc: Global,
-    sides: &Sides<'_>,
+    sides: &Part<'_>,
     kind: Kind,
 ) -> Result<Option<Trace>, AllocError>
     ensures { IfOk result (IsFaultOf sides.now kind) }
 {
-    match least_fault(alloc, sides, kind)? {
+    match least_fault(alloc, sides, Some(kind))? {
         None => Ok(None),
         Some(packet) => Ok(Some(sides.trace_at(kind, packet))),
     }
 }
 
-fn state_in(kind: Kind) -> CtState
+pub(crate) fn state_in(kind: Kind) -> CtState
     ensures { result ≡ state_in kind }
 {
     match kind {
@@ -139,14 +100,19 @@ fn state_in(kind: Kind) -> CtState
     }
 }
 
-impl<'a> Sides<'a> {
+impl<'a> Part<'a> {
     fn trace_at(&self, kind: Kind, packet: Packet) -> Trace
         requires packet { IsPacket packet }
         requires fault { IsFault self.now kind packet }
         ensures is { result ≡ trace_of kind packet result.forwards }
         ensures wrong { Wrong self.now kind packet result.forwards }
     {
-        let forwards = self.text.passes(&packet, state_in(kind));
+        self.gives_one();
+        let mut only = PacketBox {
+            least: packet,
+            greatest: packet,
+        };
+        let forwards = self.passes_within(&mut only, state_in(kind));
         Trace::of(kind, packet, forwards)
     }
 }

@@ -46,7 +46,8 @@ impl From<AllocError> for AuditRefusal {
 impl Trace {
     /// Returns the list of that kind at a packet.
     pub(crate) fn of(kind: Kind, packet: Packet, forwards: bool) -> Trace
-        ensures { result ≡ trace_of kind packet forwards }
+        ensures value { result ≡ trace_of kind packet forwards }
+        ensures forwards { result.forwards ≡ forwards }
     {
         match kind {
             Kind::Alone => Trace {

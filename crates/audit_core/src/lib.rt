@@ -1,7 +1,6 @@
 //! Audits whether rules implement a policy.
 #![tactic(auto)]
 
-mod between;
 mod classes;
 mod comparison;
 mod cuts;
@@ -12,12 +11,10 @@ mod kind;
 mod laws;
 mod list_end;
 mod named;
-mod order;
 mod pairs;
 mod part;
 mod policy_box;
 mod report;
-mod sides;
 mod sources;
 mod text;
 

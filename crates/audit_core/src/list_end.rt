@@ -17,7 +17,6 @@ ghost use Rattle.audit_core.specs.inner.Pairs.{DiffersBy, DiffersSo, EndsBy, Hav
 use crate::difference::Direction;
 use crate::kind::Kind;
 use crate::part::Part;
-use crate::sides::Sides;
 use flow_set::Flow;
 use header_space::{Cut, PacketBox, Question};
 use host_net::CtState;
@@ -69,16 +68,15 @@ impl<'a> Question for ListEnd<'a> {
     }
 }
 
-impl<'a> Sides<'a> {
-    /// Returns the two sides with all rules.
-    pub(crate) fn ends(&self) -> Ends<'a>
+impl<'a> Part<'a> {
+    /// Returns the two sides, with the same rules for packets and for their swaps.
+    pub(crate) fn ends(&self) -> Ends<'_>
         ensures { (direction : Option Direction) (p : Packet) → IsPacket p → (HoldsOf result direction p ↔ DiffersSo self.now direction p) }
     {
-        // The use of this field makes known that each packet has one verdict.
-        let _policy = &self.policy;
+        self.gives_one();
         Ends {
-            part: Part::whole(self),
-            swaps: Part::whole(self),
+            part: self.by_ref(),
+            swaps: self.by_ref(),
         }
     }
 }
@@ -134,9 +132,9 @@ impl<'a> Ends<'a> {
         ensures part { Narrows within.old within.new }
         ensures alike { (p : Packet) → IsIn within.new p → (IsTrue result ↔ ((forwards : Bool) × DiffersBy self.now kind p forwards)) }
     {
-        // These calls make known that each packet has one verdict.
-        let (_rules, _swaps) = (self.part.rules(), self.swaps.rules());
-        let expected = self.expects(kind, flow, within);
+        self.part.gives_one();
+        self.swaps.gives_one();
+        let expected = self.part.expects(kind, flow, within);
         let passes = self.passes(kind, within);
         // This call makes known that packets of a box are packets.
         let _last = within.last();
@@ -148,29 +146,16 @@ impl<'a> Ends<'a> {
         ensures part { Narrows within.old within.new }
         ensures alike { (p : Packet) → IsIn within.new p → (IsTrue result ↔ DiffersBy self.now direction.kind p direction.forwards) }
     {
-        // These calls make known that each packet has one verdict.
-        let (_rules, _swaps) = (self.part.rules(), self.swaps.rules());
+        self.part.gives_one();
+        self.swaps.gives_one();
         let flow = self.part.flow_within(within);
-        let expected = self.expects(direction.kind, flow, within);
+        let expected = self.part.expects(direction.kind, flow, within);
         // This call makes known that packets of a box are packets.
         let _last = within.last();
         if expected == direction.forwards {
             return false;
         }
         self.passes(direction.kind, within) == direction.forwards
-    }
-
-    /// Whether the policy expects that the packets of a box pass at the end of their lists of that kind.
-    fn expects(&self, kind: Kind, flow: Option<Flow>, within: &mut PacketBox) -> bool
-        requires is_box { IsBox within.old }
-        requires flow { HaveFlow self.now.part.site.hosts within.old flow }
-        ensures part { Narrows within.old within.new }
-        ensures alike { (p : Packet) → IsIn within.new p → expected_at self.now.part kind p ≡ result }
-    {
-        match kind {
-            Kind::Alone => self.part.permits_within(flow, within),
-            Kind::AfterSwap | Kind::AfterBoth => self.part.lets_pass_within(flow, within),
-        }
     }
 
     /// Whether the rules forward the packets of a box at the end of their lists of that kind.

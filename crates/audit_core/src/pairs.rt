@@ -14,7 +14,7 @@ use crate::difference::{Difference, Direction};
 use crate::fault::are_right;
 use crate::finding::Trace;
 use crate::kind::Kind;
-use crate::sides::Sides;
+use crate::part::Part;
 use crate::sources::Sender;
 use crate::text::Text;
 use header_space::{Owned, all_owned};
@@ -39,7 +39,7 @@ pub fn compare_pairs(
     ensures exact { IfOk result (λ list. (list.items ≡ []) ↔
         (DifferSomewhere (sides_of policy.now.site policy.now.permitted policy.now.stateful (rules_of text.now)) → ⊥)) }
 {
-    let sides = Sides::new(policy, *text);
+    let sides = Part::whole(policy, *text);
     if are_right(alloc, &sides)? {
         return Ok(Vec::new(alloc));
     }
@@ -49,7 +49,7 @@ pub fn compare_pairs(
 
 fn differences_between(
     alloc: Global,
-    sides: &Sides<'_>,
+    sides: &Part<'_>,
     owned: &[Owned],
 ) -> Result<Vec<Difference>, AllocError>
     requires { AreOwned sides.now.site.hosts owned.now }

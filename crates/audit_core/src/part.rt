@@ -1,20 +1,21 @@
 //! The two sides as they are compared for the packets of a box. Rules that decide none of these packets may
 //! be omitted.
 
-ghost use Rattle.std.specs.Prelude.{◌≡◌, ◌↔◌, ◌≤◌, ◌<◌, Bool, IsTrue, IfOk, IfSome};
+ghost use Rattle.std.specs.Prelude.{◌≡◌, ◌↔◌, ◌≤◌, ◌<◌, IsTrue, None, IfOk, IfSome};
 ghost use Rattle.host_net.specs.declared.packet.Packet.{Packet};
-ghost use Rattle.host_net.specs.Packet.{swap_of};
 ghost use Rattle.header_space.specs.Boxes.{IsBox, IsIn, Narrows};
 ghost use Rattle.header_space.specs.Cuts.{IsCutOf};
-ghost use Rattle.audit_core.specs.inner.Faults.{IsExpected, IsFault, SaysOther};
+ghost use Rattle.pkt_core.specs.inner.FlowPolicy.{IsFlowPolicy};
+ghost use Rattle.audit_core.specs.inner.Faults.{HasFault, IsFault, expected_at, is_asked};
 ghost use Rattle.audit_core.specs.Verdicts.{GivesOne, HaveSameVerdicts};
 ghost use Rattle.audit_core.specs.inner.Parts.{HaveFlow, HaveSameFaults, IsPartOf};
 ghost use Rattle.audit_core.specs.Rules.{Chains, filter_of};
-ghost use Rattle.audit_core.specs.Sides.{permits};
+ghost use Rattle.audit_core.specs.RulesView.{rules_of};
+ghost use Rattle.audit_core.specs.Sides.{permits, sides_of};
 
+use crate::fault::state_in;
 use crate::kind::Kind;
 use crate::policy_box::{answers_are_of_within_flow, flow_within, is_of_within_flow};
-use crate::sides::Sides;
 use crate::text::Text;
 use flow_set::Flow;
 use header_space::{Cut, PacketBox};
@@ -54,12 +55,16 @@ impl<'a> Model for Part<'a> {
 
 impl<'a> Part<'a> {
     /// Returns the sides with all rules.
-    pub(crate) fn whole(sides: &Sides<'a>) -> Part<'a>
-        ensures { result ≡ sides.now }
+    pub(crate) fn whole(policy: &'a FlowPolicy<'a>, text: Text<'a>) -> Part<'a>
+        ensures sides { result ≡ sides_of policy.now.site policy.now.permitted policy.now.stateful (rules_of text.entry) }
+        ensures policy { IsFlowPolicy policy.now }
+        ensures gives { GivesOne (filter_of (rules_of text.entry)) }
     {
+        // These calls make known the invariant of a policy, and that a packet passes or does not.
+        let (_count, _rules) = (policy.count(), text.rules());
         Part {
-            policy: sides.policy,
-            rules: Held::Whole(sides.text),
+            policy,
+            rules: Held::Whole(text),
         }
     }
 
@@ -77,15 +82,12 @@ impl<'a> Part<'a> {
         }
     }
 
-    /// Returns the approximate number of rules. The rules have one verdict on each packet.
-    pub(crate) fn rules(&self) -> u32
-        ensures gives { GivesOne (filter_of self.now.rules) }
+    /// States that the rules have one verdict on each packet.
+    pub(crate) fn gives_one(&self)
+        ensures { GivesOne (filter_of self.now.rules) }
     {
-        match &self.rules {
-            Held::Whole(text) => text.rules(),
-            Held::Own(slice) => slice.rules(),
-            Held::Lent(slice) => slice.rules(),
-        }
+        // The use of this field makes the invariant known.
+        let _policy = &self.policy;
     }
 
     /// Returns the sides with the slice of the rules for the packets of a box, if it is worth its cost.
@@ -140,7 +142,6 @@ impl<'a> Part<'a> {
         requires { IsBox within.old }
         ensures part { Narrows within.old within.new }
         ensures passes { (p : Packet) → IsIn within.new p → filter_of self.now.rules state p result }
-        ensures gives { GivesOne (filter_of self.now.rules) }
     {
         match &self.rules {
             Held::Whole(text) => text.passes_within(within, state),
@@ -158,81 +159,80 @@ impl<'a> Part<'a> {
         flow_within(self.policy.hosts(), within)
     }
 
-    pub(crate) fn permits_within(&self, flow: Option<Flow>, within: &mut PacketBox) -> bool
+    /// Whether the packets of a box are faults of some kind.
+    pub(crate) fn has_fault(&self, flow: Option<Flow>, within: &mut PacketBox) -> bool
+        requires is_box { IsBox within.old }
+        requires flow { HaveFlow self.now.site.hosts within.old flow }
+        ensures part { Narrows within.old within.new }
+        ensures alike { (p : Packet) → IsIn within.new p → (IsTrue result ↔ HasFault self.now None p) }
+    {
+        if self.is_fault(Kind::Alone, flow, within) {
+            return true;
+        }
+        if self.is_fault(Kind::AfterSwap, flow, within) {
+            return true;
+        }
+        self.is_fault(Kind::AfterBoth, flow, within)
+    }
+
+    /// Whether the packets of a box are faults of that kind.
+    pub(crate) fn is_fault(&self, kind: Kind, flow: Option<Flow>, within: &mut PacketBox) -> bool
+        requires is_box { IsBox within.old }
+        requires flow { HaveFlow self.now.site.hosts within.old flow }
+        ensures part { Narrows within.old within.new }
+        ensures alike { (p : Packet) → IsIn within.new p → (IsTrue result ↔ IsFault self.now kind p) }
+    {
+        self.gives_one();
+        if !self.is_asked(kind, flow, within) {
+            return false;
+        }
+        let expected = self.expects(kind, flow, within);
+        let passes = self.passes_within(within, state_in(kind));
+        // This call makes known that packets of a box are packets.
+        let _last = within.last();
+        passes != expected
+    }
+
+    /// Whether the condition of that kind of list applies to the packets of a box.
+    fn is_asked(&self, kind: Kind, flow: Option<Flow>, within: &mut PacketBox) -> bool
+        requires is_box { IsBox within.old }
+        requires flow { HaveFlow self.now.site.hosts within.old flow }
+        ensures part { Narrows within.old within.new }
+        ensures alike { (p : Packet) → IsIn within.new p → is_asked (permits self.now) kind p ≡ result }
+    {
+        match kind {
+            Kind::Alone => true,
+            Kind::AfterSwap => {
+                answers_are_of_within_flow(self.policy, self.policy.permitted(), flow, within)
+            }
+            Kind::AfterBoth => self.permits_within(flow, within),
+        }
+    }
+
+    /// Whether the policy expects that the packets of a box pass at the end of their lists of that kind.
+    pub(crate) fn expects(&self, kind: Kind, flow: Option<Flow>, within: &mut PacketBox) -> bool
+        requires is_box { IsBox within.old }
+        requires flow { HaveFlow self.now.site.hosts within.old flow }
+        ensures part { Narrows within.old within.new }
+        ensures alike { (p : Packet) → IsIn within.new p → expected_at self.now kind p ≡ result }
+    {
+        let permits = self.permits_within(flow, within);
+        match kind {
+            Kind::Alone => permits,
+            Kind::AfterSwap | Kind::AfterBoth => {
+                permits
+                    || answers_are_of_within_flow(self.policy, self.policy.stateful(), flow, within)
+            }
+        }
+    }
+
+    fn permits_within(&self, flow: Option<Flow>, within: &mut PacketBox) -> bool
         requires is_box { IsBox within.old }
         requires flow { HaveFlow self.now.site.hosts within.old flow }
         ensures part { Narrows within.old within.new }
         ensures alike { (p : Packet) → IsIn within.new p → permits self.now p ≡ result }
     {
         is_of_within_flow(self.policy, self.policy.permitted(), flow, within)
-    }
-
-    pub(crate) fn is_fault_alone(&self, flow: Option<Flow>, within: &mut PacketBox) -> bool
-        requires is_box { IsBox within.old }
-        requires flow { HaveFlow self.now.site.hosts within.old flow }
-        ensures part { Narrows within.old within.new }
-        ensures alike { (p : Packet) → IsIn within.new p → (IsTrue result ↔ IsFault self.now Kind.Alone p) }
-    {
-        let expected = self.permits_within(flow, within);
-        self.says_other(CtState::New, expected, within)
-    }
-
-    pub(crate) fn is_fault_behind_swap(&self, flow: Option<Flow>, within: &mut PacketBox) -> bool
-        requires is_box { IsBox within.old }
-        requires flow { HaveFlow self.now.site.hosts within.old flow }
-        ensures part { Narrows within.old within.new }
-        ensures alike { (p : Packet) → IsIn within.new p → (IsTrue result ↔ IsFault self.now Kind.AfterSwap p) }
-    {
-        if !self.permits_answers_within(flow, within) {
-            return false;
-        }
-        let expected = self.lets_pass_within(flow, within);
-        self.says_other(CtState::Established, expected, within)
-    }
-
-    pub(crate) fn is_fault_behind_both(&self, flow: Option<Flow>, within: &mut PacketBox) -> bool
-        requires is_box { IsBox within.old }
-        requires flow { HaveFlow self.now.site.hosts within.old flow }
-        ensures part { Narrows within.old within.new }
-        ensures alike { (p : Packet) → IsIn within.new p → (IsTrue result ↔ IsFault self.now Kind.AfterBoth p) }
-    {
-        if !self.permits_within(flow, within) {
-            return false;
-        }
-        self.says_other(CtState::Established, true, within)
-    }
-
-    /// Whether the policy permits the answers to the packets of a box.
-    fn permits_answers_within(&self, flow: Option<Flow>, within: &mut PacketBox) -> bool
-        requires is_box { IsBox within.old }
-        requires flow { HaveFlow self.now.site.hosts within.old flow }
-        ensures part { Narrows within.old within.new }
-        ensures alike { (p : Packet) → IsIn within.new p → permits self.now (swap_of p) ≡ result }
-    {
-        answers_are_of_within_flow(self.policy, self.policy.permitted(), flow, within)
-    }
-
-    /// Whether the policy allows the packets of a box on established connections.
-    pub(crate) fn lets_pass_within(&self, flow: Option<Flow>, within: &mut PacketBox) -> bool
-        requires is_box { IsBox within.old }
-        requires flow { HaveFlow self.now.site.hosts within.old flow }
-        ensures part { Narrows within.old within.new }
-        ensures alike { (p : Packet) → IsIn within.new p → IsExpected self.now CtState.Established p result }
-    {
-        self.permits_within(flow, within)
-            || answers_are_of_within_flow(self.policy, self.policy.stateful(), flow, within)
-    }
-
-    /// Whether the rules have an unexpected verdict on the packets of a box in a state.
-    fn says_other(&self, state: CtState, expected: bool, within: &mut PacketBox) -> bool
-        requires { IsBox within.old }
-        ensures part { Narrows within.old within.new }
-        ensures alike { (p : Packet) → IsIn within.new p → (IsTrue result ↔ SaysOther self.now state expected p) }
-    {
-        let passes = self.passes_within(within, state);
-        // This call makes known that packets of a box are packets.
-        let _last = within.last();
-        passes != expected
     }
 }
 

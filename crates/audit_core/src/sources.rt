@@ -4,13 +4,13 @@ ghost use Rattle.std.specs.Prelude.{◌≡◌, ◌∷◌, [], IfOk, IfSome};
 ghost use Rattle.std.specs.List.{All};
 ghost use Rattle.audit_core.specs.Sides.{Sides};
 ghost use Rattle.header_space.specs.Owners.{IsOwned, IsRange};
-ghost use Rattle.audit_core.specs.inner.Pairs.{AreSources, DiffersSo, HoldsOf, ImprovesBetween, IsFoundBetween, IsSender, IsSource, HasRange, SaysWhether, every_address, ranges_in};
+ghost use Rattle.header_space.specs.Searching.{Improves};
+ghost use Rattle.audit_core.specs.inner.Pairs.{AreSources, DiffersSo, HoldsBetween, HoldsOf, IsFoundBetween, IsSender, IsSource, HasRange, SaysWhether, every_address, ranges_in};
 
-use crate::between::find_from;
 use crate::difference::Direction;
 use crate::list_end::{Ends, ListEnd};
-use crate::sides::Sides;
-use header_space::{AddressRange, Owned, box_between, least_where};
+use crate::part::Part;
+use header_space::{AddressRange, Owned, box_between, least_before, least_where};
 use host_net::Packet;
 use std::alloc::{AllocError, Global};
 
@@ -28,9 +28,9 @@ pub(crate) struct Sender<'a> {
     pub(crate) sources: Vec<Source<'a>>,
 }
 
-impl<'a> Sides<'a> {
+impl<'a> Part<'a> {
     /// Returns an owner with its ranges from which some packet differs.
-    pub(crate) fn sender(&self, alloc: Global, owned: &Owned) -> Result<Sender<'a>, AllocError>
+    pub(crate) fn sender(&self, alloc: Global, owned: &Owned) -> Result<Sender<'_>, AllocError>
         requires { IsOwned self.now.site.hosts owned.now }
         ensures sender { IfOk result (IsSender self.now) }
         ensures owner { IfOk result (λ sender. sender.owner ≡ owned.now.owner) }
@@ -43,7 +43,7 @@ impl<'a> Sides<'a> {
         })
     }
 
-    fn sources(&self, alloc: Global, ranges: &[AddressRange]) -> Result<Vec<Source<'a>>, AllocError>
+    fn sources(&self, alloc: Global, ranges: &[AddressRange]) -> Result<Vec<Source<'_>>, AllocError>
         requires { All IsRange ranges.now }
         ensures { IfOk result (λ sources. AreSources self.now ranges.now sources.items) }
     {
@@ -58,7 +58,7 @@ impl<'a> Sides<'a> {
     }
 
     /// Returns a range with the rules for the packets from it.
-    fn source(&self, alloc: Global, range: AddressRange) -> Result<Source<'a>, AllocError>
+    fn source(&self, alloc: Global, range: AddressRange) -> Result<Source<'_>, AllocError>
         requires { IsRange range }
         ensures source { IfOk result (IsSource self.now) }
         ensures range { IfOk result (λ source. source.range ≡ range) }
@@ -97,13 +97,17 @@ impl<'a> Source<'a> {
     ) -> Result<Option<Packet>, AllocError>
         requires from { HasRange self.now }
         requires to { All IsRange to.now }
-        ensures { IfOk result (ImprovesBetween (HoldsOf self.now.ends direction) (self.now.range ∷ []) to.now found) }
+        ensures { IfOk result (Improves (HoldsBetween (HoldsOf self.now.ends direction) (self.now.range ∷ []) to.now) found) }
     {
         let question = ListEnd {
             ends: self.ends.by_ref(),
             direction,
         };
-        find_from(alloc, &question, self.range, to, found)
+        let mut first = found;
+        for range in to {
+            first = least_before(alloc, &question, box_between(self.range, *range), first)?;
+        }
+        Ok(first)
     }
 }
 

@@ -1,7 +1,5 @@
 -- Lemmas on cuts, and on consecutive searches of boxes.
-use Rattle.std.proofs.Common.{◌≡◌, ◌⊎◌, ◌↔◌, inl, inr, ℕ, ◌<◌, Bool, true, false, IsTrue, Option, Some, None, refl, sym, subst, ◌∙◌, arith}
-use Rattle.std.specs.Prelude.{if◌then◌else◌}
-use Rattle.std.proofs.Math.Nat.{eq-or-lt_of_le}
+use Rattle.std.proofs.Common.{◌⊎◌, inl, inr, Option, Some, None, refl, sym, subst, ◌∙◌, arith}
 use Rattle.std.proofs.lemmas.Option.{same_Some}
 use Rattle.host_net.specs.declared.packet.Packet.{Packet}
 use Rattle.header_space.specs.declared.packet_box.PacketBox.{PacketBox}
@@ -10,13 +8,10 @@ use Rattle.header_space.specs.declared.cut.Cut.TheVariants.{Src, Dst}
 use Rattle.header_space.specs.declared.field.Field.TheVariants.{Src as FieldSrc, Dst as FieldDst}
 use Rattle.header_space.specs.Boxes.{IsBox, IsIn}
 use Rattle.header_space.specs.Cuts.{IsCutOf}
-use Rattle.header_space.specs.Order.{ComesBefore, comes_first}
-use Rattle.header_space.specs.Searching.{IsLeast, IsLeastWhere}
-use Rattle.header_space.specs.inner.Cutting.{AreSameIn, Improves, lower, upper}
-use Rattle.header_space.specs.inner.Splitting.{IsEarlier}
+use Rattle.header_space.specs.Searching.{HoldsIn, Improves, IsEarlier, IsLeastWhere}
+use Rattle.header_space.specs.inner.Cutting.{AreSameIn, lower, upper}
 use Rattle.header_space.proofs.FieldLaws.{after_box, after_in, in_parts, up_to_box, up_to_in}
-use Rattle.header_space.proofs.SeekLaws.{earlier_low, earlier_trans}
-use Rattle.header_space.proofs.SplitLaws.{le_or_lt}
+use Rattle.header_space.proofs.SeekLaws.{earlier_low, earlier_old}
 
 -- ---- The two parts
 
@@ -42,96 +37,62 @@ upper_box b (Dst n) is cut = after_box FieldDst b n is cut.1
 
 -- ---- The packet found
 
--- If a comes before r and not before p, then p comes before r.
-first_later : (a p r : ℕ) (A B C : Type 0) → (A → (B → ⊥) → C) → comes_first a r A → (comes_first a p B → ⊥) → comes_first p r C
-first_later a p r A B C later early late = elim (le_or_lt p a) [
-  | inl low ↦ elim early [
-    | inl less ↦ inl (omega (arith, low, less))
-    | inr same ↦ elim (eq-or-lt_of_le low) [
-      | inl equal ↦ inr (equal ∙ same.0, later same.1 (λ h. late (inr (sym equal, h))))
-      | inr less ↦ inl (let e = same.0 in omega (arith, e, less))
-    ]
-  ]
-  | inr high ↦ absurd (late (inl high))
+pub found_one : (Holds : Packet → Type 0) (p : Packet) → Improves Holds None (Some p) → Holds p
+found_one Holds p is = elim is.found [
+  | inl none ↦ cc
+  | inr finds ↦ subst Holds (sym (same_Some p finds.packet finds.is)) finds.holds
 ]
 
-last_later : (x y z : ℕ) → x < z → (x < y → ⊥) → y < z
-last_later x y z one two = elim (le_or_lt y x) [ inl low ↦ omega (arith, low, one) | inr less ↦ absurd (two less) ]
+-- Two searches in a row are a search for the packets of either search.
+pub improves_then : (A B C : Packet → Type 0) (old mid new : Option Packet) → ((p : Packet) → C p → A p ⊎ B p) → ((p : Packet) → A p → C p)
+    → ((p : Packet) → B p → C p) → Improves A old mid → Improves B mid new → Improves C old new
+improves_then A B C old mid new cases left right one two = record {
+  found = elim two.found [
+    | inl kept ↦ elim one.found [
+      | inl also ↦ inl (kept ∙ also)
+      | inr finds ↦ inr (record { packet = finds.packet; is = kept ∙ finds.is; holds = left finds.packet finds.holds; earlier = finds.earlier })
+    ]
+    | inr finds ↦ inr (record {
+      packet = finds.packet;
+      is = finds.is;
+      holds = right finds.packet finds.holds;
+      earlier = earlier_old A old mid finds.packet one.found finds.earlier;
+    })
+  ];
+  none = λ p holds early. elim (cases p holds) [
+    | inl first ↦ one.none p first (earlier_old B mid new p two.found early)
+    | inr second ↦ two.none p second early
+  ];
+}
 
-before_later : (a p r : Packet) → ComesBefore a r → (ComesBefore a p → ⊥) → ComesBefore p r
-before_later a p r =
-    first_later a.src p.src r.src _ _ _ (first_later a.dst p.dst r.dst _ _ _
-    (first_later a.proto p.proto r.proto _ _ _ (first_later a.sport p.sport r.sport _ _ _ (last_later a.dport p.dport r.dport))))
-
-earlier_later : (found : Option Packet) (a p : Packet) → IsEarlier a found → (ComesBefore a p → ⊥) → (IsEarlier p found → ⊥) → ⊥
-earlier_later None a p early late not = not tt
-earlier_later (Some r) a p early late not = not (before_later a p r early late)
+-- A search for packets that do not exist finds nothing.
+pub improves_nowhere : (Holds : Packet → Type 0) (found : Option Packet) → ((p : Packet) → Holds p → ⊥) → Improves Holds found found
+improves_nowhere Holds found none = record { found = inl refl; none = λ p holds early. none p holds }
 
 module _ (Holds : Packet → Type 0) (b : PacketBox) where
   -- A search skips a box whose least packet does not come before the packet found.
-  pub improves_passed : (found : Option Packet) → (IsEarlier b.least found → ⊥) → Improves Holds b found found
+  pub improves_passed : (found : Option Packet) → (IsEarlier b.least found → ⊥) → Improves (HoldsIn Holds b) found found
   improves_passed found late = record {
     found = inl refl;
-    none = λ p inside holds early. late (earlier_low found b.least p inside.above early);
+    none = λ p holds early. late (earlier_low found b.least p holds.0.above early);
   }
 
-  -- The search finds the least packet of the box that satisfies `Holds`, or the packet found before remains.
-  pub improves_none : (found : Option Packet) → IsLeastWhere Holds b None → Improves Holds b found found
-  improves_none found none = record { found = inl refl; none = λ p inside holds early. none p inside holds }
-
-  pub improves_some : (p : Packet) (found : Option Packet) (answer : Bool) → IsLeast Holds b p → (IsTrue answer ↔ IsEarlier p found)
-      → Improves Holds b found (if answer then Some p else found)
-  improves_some p found true least is = record {
-    found = inr (record { packet = p; is = refl; inside = least.inside; holds = least.holds; earlier = is.0 refl });
-    none = λ q inside holds early. least.first q inside early holds;
-  }
-  improves_some p found false least is = record {
-    found = inl refl;
-    none = λ q inside holds early. earlier_later found q p early (λ before. least.first q inside before holds) (λ early. let wrong : false ≡ true = is.1 early in cc);
-  }
-
-  pub improves_same : (Other : Packet → Type 0) (old new : Option Packet) → AreSameIn b Other Holds → Improves Other b old new → Improves Holds b old new
-  improves_same Other old new same is = record {
-    found = elim is.found [
-      | inl kept ↦ inl kept
-      | inr finds ↦ inr (record { packet = finds.packet; is = finds.is; inside = finds.inside; holds = (same finds.packet finds.inside).0 finds.holds; earlier = finds.earlier })
-    ];
-    none = λ p inside holds early. is.none p inside ((same p inside).1 holds) early;
-  }
+  pub improves_same : (Other : Packet → Type 0) (old new : Option Packet) → AreSameIn b Other Holds → Improves (HoldsIn Other b) old new
+      → Improves (HoldsIn Holds b) old new
+  improves_same Other old new same is =
+      improves_then (λ p. ⊥) (HoldsIn Other b) (HoldsIn Holds b) old old new (λ p holds. inr (holds.0, (same p holds.0).1 holds.1)) (λ p none. absurd none)
+      (λ p holds. (holds.0, (same p holds.0).0 holds.1)) (improves_nowhere (λ p. ⊥) old (λ p none. none)) is
 
   -- The searches of the two parts of a box, in order, are together a search of the box.
-  pub improves_parts : (cut : Cut) (old mid new : Option Packet) → IsCutOf b cut → Improves Holds (lower b cut) old mid → Improves Holds (upper b cut) mid new
-      → Improves Holds b old new
-  improves_parts cut old mid new is one two = record {
-    found = elim two.found [
-      | inl kept ↦ elim one.found [
-        | inl also ↦ inl (kept ∙ also)
-        | inr finds ↦ inr (record { packet = finds.packet; is = kept ∙ finds.is; inside = lower_in b cut finds.packet is finds.inside; holds = finds.holds; earlier = finds.earlier })
-      ]
-      | inr finds ↦ inr (record { packet = finds.packet; is = finds.is; inside = upper_in b cut finds.packet is finds.inside; holds = finds.holds; earlier = before_old finds.packet finds.earlier })
-    ];
-    none = λ p inside holds early. elim (cut_in b cut p inside) [
-      | inl low ↦ one.none p low holds (before_mid p early)
-      | inr high ↦ two.none p high holds early
-    ];
-  }
-    where
-      before_old : (p : Packet) → IsEarlier p mid → IsEarlier p old
-      before_old p early = elim one.found [
-        | inl also ↦ subst (λ (found : Option Packet). IsEarlier p found) also early
-        | inr finds ↦ earlier_trans old p finds.packet (subst (λ (found : Option Packet). IsEarlier p found) finds.is early) finds.earlier
-      ]
+  pub improves_parts : (cut : Cut) (old mid new : Option Packet) → IsCutOf b cut → Improves (HoldsIn Holds (lower b cut)) old mid
+      → Improves (HoldsIn Holds (upper b cut)) mid new → Improves (HoldsIn Holds b) old new
+  improves_parts cut old mid new is =
+      improves_then (HoldsIn Holds (lower b cut)) (HoldsIn Holds (upper b cut)) (HoldsIn Holds b) old mid new
+      (λ p holds. elim (cut_in b cut p holds.0) [ inl low ↦ inl (low, holds.1) | inr high ↦ inr (high, holds.1) ])
+      (λ p holds. (lower_in b cut p is holds.0, holds.1)) (λ p holds. (upper_in b cut p is holds.0, holds.1))
 
-      before_mid : (p : Packet) → IsEarlier p new → IsEarlier p mid
-      before_mid p early = elim two.found [
-        | inl also ↦ subst (λ (found : Option Packet). IsEarlier p found) also early
-        | inr finds ↦ earlier_trans mid p finds.packet (subst (λ (found : Option Packet). IsEarlier p found) finds.is early) finds.earlier
-      ]
-
-  pub improves_done : (new : Option Packet) → Improves Holds b None new → IsLeastWhere Holds b new
-  improves_done None is = λ p inside holds. is.none p inside holds tt
-  improves_done (Some p) is = record {
-    inside = elim is.found [ inl none ↦ cc | inr finds ↦ subst (λ (q : Packet). IsIn b q) (sym (same_Some p finds.packet finds.is)) finds.inside ];
-    holds = elim is.found [ inl none ↦ cc | inr finds ↦ subst (λ (q : Packet). Holds q) (sym (same_Some p finds.packet finds.is)) finds.holds ];
-    first = λ q inside before holds. is.none q inside holds before;
-  }
+  pub improves_done : (new : Option Packet) → Improves (HoldsIn Holds b) None new → IsLeastWhere Holds b new
+  improves_done None is = λ p inside holds. is.none p (inside, holds) tt
+  improves_done (Some p) is =
+      let own = found_one (HoldsIn Holds b) p is in
+      record { inside = own.0; holds = own.1; first = λ q inside before holds. is.none q (inside, holds) before }

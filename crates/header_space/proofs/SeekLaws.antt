@@ -2,14 +2,13 @@
 use Rattle.std.proofs.Common.{◌≡◌, ◌⊎◌, ◌↔◌, inl, inr, ℕ, ◌+◌, ◌<◌, ◌≤◌, Bool, true, false, IsTrue, List, [], ◌∷◌, ◌++◌, Option, Some, None, refl, ap, subst, ◌∙◌, arith}
 use Rattle.std.specs.Prelude.{if◌then◌else◌}
 use Rattle.std.proofs.Math.Nat.{eq-or-lt_of_le, mul-pos}
-use Rattle.std.proofs.lemmas.Option.{same_Some}
 use Rattle.host_net.specs.declared.packet.Packet.{Packet}
 use Rattle.header_space.specs.declared.packet_box.PacketBox.{PacketBox}
 use Rattle.header_space.specs.Boxes.{IsBox, IsIn, IsNoHigher, Narrows}
 use Rattle.header_space.specs.Order.{ComesBefore, comes_first}
-use Rattle.header_space.specs.Searching.{IsLeastWhere}
-use Rattle.header_space.specs.inner.Splitting.{AreWithin, IsAmong, IsEarlier, IsWithin, Seeks, Splits, Tries, volume, volumes, width}
-use Rattle.header_space.proofs.BoxLaws.{least_in, low_trans, self_low}
+use Rattle.header_space.specs.Searching.{Finds, HoldsIn, Improves, IsEarlier}
+use Rattle.header_space.specs.inner.Splitting.{AreWithin, IsAmong, IsWithin, Seeks, Splits, Tries, volume, volumes, width}
+use Rattle.header_space.proofs.BoxLaws.{least_in, low_trans, own_least, self_low}
 use Rattle.header_space.proofs.SplitLaws.{among_cases, volumes_pushed, within_front}
 
 -- ---- The order of packets
@@ -57,6 +56,11 @@ pub earlier_trans : (found : Option Packet) (p q : Packet) → ComesBefore p q �
 earlier_trans None p q before early = tt
 earlier_trans (Some r) p q before early = before_trans p q r before early
 
+-- A packet that comes before the new result of a search comes before the old result.
+pub earlier_old : (Holds : Packet → Type 0) (old new : Option Packet) (p : Packet) → (new ≡ old) ⊎ Finds Holds old new → IsEarlier p new → IsEarlier p old
+earlier_old Holds old new p (inl kept) early = subst (IsEarlier p) kept early
+earlier_old Holds old new p (inr finds) early = earlier_trans old p finds.packet (subst (IsEarlier p) finds.is early) finds.earlier
+
 -- ---- Testing a box
 
 wide : (first last : ℕ) → first ≤ last → 0 < width first last
@@ -88,16 +92,15 @@ in_whole whole b p within inside = record {
   below = low_trans p b.greatest whole.greatest inside.below within.below;
 }
 
-module _ (Holds : Packet → Type 0) (whole : PacketBox) where
-  pub seeks_first : IsBox whole → Seeks Holds whole (whole ∷ []) None
+module _ (Holds : Packet → Type 0) (whole : PacketBox) (old : Option Packet) where
+  pub seeks_first : IsBox whole → Seeks Holds whole old (whole ∷ []) old
   seeks_first is = record {
     are = (record { above = self_low whole.least; is_box = is; below = self_low whole.greatest }, tt);
-    inside = λ q none. cc;
-    holds = λ q none. cc;
+    is = inl refl;
     left = λ p inside holds early. inl inside;
   }
 
-  module _ (bs rest : List PacketBox) (b : PacketBox) (found : Option Packet) (same : bs ≡ rest ++ b ∷ []) (is : Seeks Holds whole bs found) where
+  module _ (bs rest : List PacketBox) (b : PacketBox) (found : Option Packet) (same : bs ≡ rest ++ b ∷ []) (is : Seeks Holds whole old bs found) where
     both : AreWithin whole rest × IsWithin whole b
     both = within_front whole rest b (subst (λ (xs : List PacketBox). AreWithin whole xs) same is.are)
 
@@ -111,11 +114,10 @@ module _ (Holds : Packet → Type 0) (whole : PacketBox) where
     there p inside holds early = among_cases rest b p (subst (λ (xs : List PacketBox). IsAmong xs p) same (is.left p inside holds early))
 
     -- If the least packet of a box does not come before the packet found, no packet of the box does.
-    pub seeks_passed : (IsEarlier b.least found → ⊥) → Seeks Holds whole rest found
+    pub seeks_passed : (IsEarlier b.least found → ⊥) → Seeks Holds whole old rest found
     seeks_passed late = record {
       are = both.0;
-      inside = is.inside;
-      holds = is.holds;
+      is = is.is;
       left = λ p inside holds early. elim (there p inside holds early) [
         | inl old ↦ old
         | inr own ↦ absurd (late (earlier_low found b.least p own.above early))
@@ -123,11 +125,15 @@ module _ (Holds : Packet → Type 0) (whole : PacketBox) where
     }
 
     pub seeks_tried : (new : List PacketBox) (answer : Bool) → IsEarlier b.least found → Tries Holds b rest new answer
-        → Seeks Holds whole new (if answer then Some b.least else found)
+        → Seeks Holds whole old new (if answer then Some b.least else found)
     seeks_tried new true early tries = record {
       are = tries.within whole both.0 both.1;
-      inside = λ q now. subst (λ (x : Packet). IsIn whole x) (same_Some b.least q now) (in_whole whole b b.least both.1 (record { above = self_low b.least; below = both.1.is_box }));
-      holds = λ q now. subst (λ (x : Packet). Holds x) (same_Some b.least q now) (tries.least.0 refl);
+      is = inr (record {
+        packet = b.least;
+        is = refl;
+        holds = (in_whole whole b b.least both.1 (own_least b both.1.is_box), tries.least.0 refl);
+        earlier = earlier_old (HoldsIn Holds whole) old found b.least is.is early;
+      });
       left = λ p inside holds before. elim (there p inside holds (earlier_trans found p b.least before early)) [
         | inl old ↦ tries.kept p old
         | inr own ↦ absurd (not_before b.least p own.above before)
@@ -135,8 +141,7 @@ module _ (Holds : Packet → Type 0) (whole : PacketBox) where
     }
     seeks_tried new false early tries = record {
       are = tries.within whole both.0 both.1;
-      inside = is.inside;
-      holds = is.holds;
+      is = is.is;
       left = λ p inside holds before. elim (there p inside holds before) [
         | inl old ↦ tries.kept p old
         | inr own ↦ elim (tries.packets p own) [
@@ -146,10 +151,8 @@ module _ (Holds : Packet → Type 0) (whole : PacketBox) where
       ];
     }
 
-  pub seeks_done : (bs : List PacketBox) (found : Option Packet) → bs ≡ [] → Seeks Holds whole bs found → IsLeastWhere Holds whole found
-  seeks_done bs None none is = λ q inside holds. subst (λ (xs : List PacketBox). IsAmong xs q) none (is.left q inside holds tt)
-  seeks_done bs (Some p) none is = record {
-    inside = is.inside p refl;
-    holds = is.holds p refl;
-    first = λ q inside before holds. subst (λ (xs : List PacketBox). IsAmong xs q) none (is.left q inside holds before);
+  pub seeks_done : (bs : List PacketBox) (found : Option Packet) → bs ≡ [] → Seeks Holds whole old bs found → Improves (HoldsIn Holds whole) old found
+  seeks_done bs found none is = record {
+    found = is.is;
+    none = λ p holds early. subst (λ (xs : List PacketBox). IsAmong xs p) none (is.left p holds.0 holds.1 early);
   }

@@ -18,5 +18,5 @@ pub use cut::Cut;
 pub use header_match::{FieldMatch, HeaderMatch, field_may_fit};
 pub use owners::{Owned, all_owned, ranges_of};
 pub use packet_box::PacketBox;
-pub use search::{Question, least_where};
+pub use search::{Question, least_before, least_where};
 pub use visit::{Visitor, visit_all};

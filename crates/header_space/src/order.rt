@@ -2,7 +2,7 @@
 
 ghost use Rattle.std.specs.Prelude.{◌≡◌, ◌↔◌, IsTrue, IsFalse, if◌then◌else◌, Some};
 ghost use Rattle.header_space.specs.Order.{ComesBefore};
-ghost use Rattle.header_space.specs.inner.Splitting.{IsEarlier};
+ghost use Rattle.header_space.specs.Searching.{IsEarlier};
 
 use host_net::Packet;
 

@@ -7,8 +7,7 @@ ghost use Rattle.std.specs.Prelude.{◌↔◌, Bool, IsTrue, IfOk, IfSome};
 ghost use Rattle.host_net.specs.declared.packet.Packet.{Packet};
 ghost use Rattle.header_space.specs.Boxes.{IsBox, IsIn, Narrows};
 ghost use Rattle.header_space.specs.Cuts.{IsCutOf};
-ghost use Rattle.header_space.specs.Searching.{IsLeastWhere};
-ghost use Rattle.header_space.specs.inner.Cutting.{Improves};
+ghost use Rattle.header_space.specs.Searching.{HoldsIn, Improves, IsLeastWhere};
 ghost use Rattle.header_space.specs.inner.Splitting.{Tries};
 
 use crate::cut::{Cut, lower, upper};
@@ -55,7 +54,21 @@ pub fn least_where<Q: Question>(
     requires { IsBox whole }
     ensures { IfOk result (IsLeastWhere (Q.holds_of question.now) whole) }
 {
-    least_after(alloc, question, whole, None, DEPTH_LIMIT, TRIES)
+    least_before(alloc, question, whole, None)
+}
+
+/// Returns the least packet of a box for which the question holds, if it comes before the packet found so
+/// far. Otherwise returns the packet found so far.
+pub fn least_before<Q: Question>(
+    alloc: Global,
+    question: &Q,
+    whole: PacketBox,
+    found: Option<Packet>,
+) -> Result<Option<Packet>, AllocError>
+    requires { IsBox whole }
+    ensures { IfOk result (Improves (HoldsIn (Q.holds_of question.now) whole) found) }
+{
+    least_after(alloc, question, whole, found, DEPTH_LIMIT, TRIES)
 }
 
 /// Searches a box for a packet that comes before the packet found so far. Cuts the box, nested at most
@@ -70,19 +83,19 @@ fn least_after<Q: Question>(
     tries: u32,
 ) -> Result<Option<Packet>, AllocError>
     requires { IsBox whole }
-    ensures { IfOk result (Improves (Q.holds_of question.now) whole found) }
+    ensures { IfOk result (Improves (HoldsIn (Q.holds_of question.now) whole) found) }
 {
     if !is_earlier(&whole.least, found) {
         return Ok(found);
     }
     if depth == 0 || tries == 0 {
-        return search_after(alloc, question, whole, found);
+        return search(alloc, question, whole, found);
     }
     if let Some(part) = question.restrict(alloc, &whole)? {
         return least_after(alloc, &part, whole, found, depth - 1, TRIES);
     }
     let Some(cut) = question.cut(&whole) else {
-        return search_after(alloc, question, whole, found);
+        return search(alloc, question, whole, found);
     };
     let first = least_after(
         alloc,
@@ -103,43 +116,25 @@ fn least_after<Q: Question>(
 }
 
 /// Searches a box, without cuts, for a packet that comes before the packet found so far.
-fn search_after<Q: Question>(
+fn search<Q: Question>(
     alloc: Global,
     question: &Q,
     whole: PacketBox,
     found: Option<Packet>,
 ) -> Result<Option<Packet>, AllocError>
     requires { IsBox whole }
-    ensures { IfOk result (Improves (Q.holds_of question.now) whole found) }
-{
-    match search(alloc, question, whole)? {
-        None => Ok(found),
-        Some(least) => {
-            let earlier = is_earlier(&least, found);
-            Ok(found_then(earlier, least, found))
-        }
-    }
-}
-
-/// Returns the least packet of a box for which the question holds. Makes no cuts.
-fn search<Q: Question>(
-    alloc: Global,
-    question: &Q,
-    whole: PacketBox,
-) -> Result<Option<Packet>, AllocError>
-    requires { IsBox whole }
-    ensures { IfOk result (IsLeastWhere (Q.holds_of question.now) whole) }
+    ensures { IfOk result (Improves (HoldsIn (Q.holds_of question.now) whole) found) }
 {
     let mut boxes = Vec::new(alloc);
     boxes.push(whole)?;
-    let mut found = None;
+    let mut first = found;
     while let Some(next) = boxes.pop() {
-        if is_earlier(&next.least, found) {
+        if is_earlier(&next.least, first) {
             let holds = try_box(question, &mut boxes, next)?;
-            found = found_then(holds, next.least, found);
+            first = found_then(holds, next.least, first);
         }
     }
-    Ok(found)
+    Ok(first)
 }
 
 /// Whether the question holds for the least packet of a box. Adds boxes of the packets that this answer

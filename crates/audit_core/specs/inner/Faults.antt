@@ -43,20 +43,14 @@ pub record Wrong (sides : Sides) (kind : Kind) (p : Packet) (passes : Bool) : Ty
   pub said : filter_of sides.rules (state_in kind) p passes
   pub wrong : passes ≢ expected_at sides kind p
 
--- The packet is a fault for that kind of list, or for some kind.
+-- The packet is a fault for that kind of list.
 abbrev pub IsFault : Sides → Kind → Packet → Type 0
 IsFault sides kind p = (passes : Bool) × Wrong sides kind p passes
 
-abbrev pub IsAnyFault : Sides → Packet → Type 0
-IsAnyFault sides p = (kind : Kind) × IsFault sides kind p
-
--- The policy allows the packet in the state if and only if `expected` is true.
-abbrev pub IsExpected : Sides → CtState → Packet → Bool → Type 0
-IsExpected sides state p expected = may_pass (permits sides) (permits_reply_to sides) state p ≡ expected
-
--- In the state, the rules have a verdict on the packet that is not the expected verdict.
-abbrev pub SaysOther : Sides → CtState → Bool → Packet → Type 0
-SaysOther sides state expected p = (passes : Bool) × filter_of sides.rules state p passes × (passes ≢ expected)
+-- The packet is a fault for that kind of list or, for `None`, for some kind.
+abbrev pub HasFault : Sides → Option Kind → Packet → Type 0
+HasFault sides None p = (kind : Kind) × IsFault sides kind p
+HasFault sides (Some kind) p = IsFault sides kind p
 
 -- The rules are right about all packets.
 abbrev pub AreRight : Sides → Kind → Type 0

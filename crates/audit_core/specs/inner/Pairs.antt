@@ -1,6 +1,6 @@
 -- Parts of the comparison by pairs: the verdict of the rules at the end of a list, and the search between ranges of addresses. Callers use
 -- `Pairs` instead.
-use Rattle.std.specs.Prelude.{◌≡◌, ◌≢◌, ◌↔◌, ◌⊎◌, ℕ, Bool, ◌||◌, IsTrue, if◌then◌else◌, ◌++◌, List, Option, Some, None, map}
+use Rattle.std.specs.Prelude.{◌≡◌, ◌≢◌, ◌↔◌, ℕ, Bool, ◌||◌, IsTrue, if◌then◌else◌, ◌++◌, List, Option, Some, None, map}
 use Rattle.std.specs.List.{All}
 use Rattle.host_net.specs.declared.packet.Packet.{Packet}
 use Rattle.host_net.specs.declared.packet.CtState.{CtState}
@@ -9,9 +9,8 @@ use Rattle.host_net.specs.Host.{owner_of}
 use Rattle.host_net.specs.Packet.{IsPacket, swap_of}
 use Rattle.header_space.specs.declared.packet_box.PacketBox.{PacketBox}
 use Rattle.header_space.specs.Boxes.{IsIn}
-use Rattle.header_space.specs.Order.{ComesBefore}
 use Rattle.header_space.specs.Owners.{GoesBetween, IsRange, LiesIn, LiesInOne}
-use Rattle.header_space.specs.inner.Splitting.{IsEarlier}
+use Rattle.header_space.specs.Searching.{Improves}
 use Rattle.audit_core.specs.declared.difference.Difference.{Difference}
 use Rattle.audit_core.specs.declared.difference.Direction.{Direction}
 use Rattle.audit_core.specs.declared.kind.Kind.{Kind}
@@ -72,35 +71,13 @@ AreSame sides = (p : Packet) → IsPacket p → IsDifferent sides p → ⊥
 abbrev pub every_address : AddressRange
 every_address = record { first = 0; last = 4294967295 }
 
--- Packet p goes between the ranges and has the property. No packet between the ranges that has it comes before p.
-pub record IsFirstBetween (Holds : Packet → Type 0) (from to : List AddressRange) (p : Packet) : Type 0 where
-  pub goes : GoesBetween from to p
-  pub holds : Holds p
-  pub first : (q : Packet) → GoesBetween from to q → ComesBefore q p → Holds q → ⊥
+-- Packet p goes between the ranges and has the property.
+abbrev pub HoldsBetween : (Packet → Type 0) → (from to : List AddressRange) → Packet → Type 0
+HoldsBetween Holds from to p = GoesBetween from to p × Holds p
 
 -- The result is the first packet between the ranges with the property, or `None` if no packet between them has it.
 abbrev pub IsFoundBetween : (Packet → Type 0) → (from to : List AddressRange) → Option Packet → Type 0
-IsFoundBetween Holds from to None = (p : Packet) → GoesBetween from to p → Holds p → ⊥
-IsFoundBetween Holds from to (Some p) = IsFirstBetween Holds from to p
-
--- The new result is a packet between the ranges that has the property and comes before the old result.
-pub record FindsBetween (Holds : Packet → Type 0) (from to : List AddressRange) (old new : Option Packet) : Type 0 where
-  pub packet : Packet
-  pub is : new ≡ Some packet
-  pub goes : GoesBetween from to packet
-  pub holds : Holds packet
-  pub earlier : IsEarlier packet old
-
--- After the search between the ranges, no packet between them that has the property comes before the result.
-pub record ImprovesBetween (Holds : Packet → Type 0) (from to : List AddressRange) (old new : Option Packet) : Type 0 where
-  pub found : (new ≡ old) ⊎ FindsBetween Holds from to old new
-  pub none : (q : Packet) → GoesBetween from to q → Holds q → IsEarlier q new → ⊥
-
--- The part is a subrange of the range. It contains the sources of all packets from the range that come before the result found so far.
-pub record IsPartBefore (range : AddressRange) (found : Option Packet) (part : AddressRange) : Type 0 where
-  pub some : IsRange part
-  pub within : (a : ℕ) → LiesIn part a → LiesIn range a
-  pub earlier : (q : Packet) → LiesIn range q.src → IsEarlier q found → LiesIn part q.src
+IsFoundBetween Holds from to found = Improves (HoldsBetween Holds from to) None found
 
 -- ---- Sources
 

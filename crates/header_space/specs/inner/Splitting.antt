@@ -1,10 +1,10 @@
 -- Pending boxes, their numbers of packets, and the results of splits. Not visible to callers, which use `Searching`.
-use Rattle.std.specs.Prelude.{◌≡◌, ◌⊎◌, ◌↔◌, ℕ, ◌+◌, ◌-◌, ◌*◌, ◌<◌, Bool, IsTrue, List, [], ◌∷◌, Option, Some, None}
+use Rattle.std.specs.Prelude.{◌≡◌, ◌⊎◌, ◌↔◌, ℕ, ◌+◌, ◌-◌, ◌*◌, ◌<◌, Bool, IsTrue, List, [], ◌∷◌, Option}
 use Rattle.std.specs.List.{sum_by}
 use Rattle.host_net.specs.declared.packet.Packet.{Packet}
 use Rattle.header_space.specs.declared.packet_box.PacketBox.{PacketBox}
 use Rattle.header_space.specs.Boxes.{IsBox, IsIn, IsNoHigher}
-use Rattle.header_space.specs.Order.{ComesBefore}
+use Rattle.header_space.specs.Searching.{Finds, HoldsIn, IsEarlier}
 
 -- The number of integers from `first` to `last`.
 abbrev pub width : ℕ → ℕ → ℕ
@@ -43,11 +43,6 @@ pub record Splits (b : PacketBox) (old new : List PacketBox) (part : PacketBox) 
   pub kept : (p : Packet) → IsAmong old p → IsAmong new p
   pub within : (whole : PacketBox) → AreWithin whole old → IsWithin whole b → AreWithin whole new × IsWithin whole part
 
--- Packet p comes before the packet found, or no packet is found.
-abbrev pub IsEarlier : Packet → Option Packet → Type 0
-IsEarlier p None = Unit {0}
-IsEarlier p (Some q) = ComesBefore p q
-
 -- A test of box b answers for its least packet. Each packet of b with another answer is in a pending box.
 pub record Tries (Holds : Packet → Type 0) (b : PacketBox) (old new : List PacketBox) (answer : Bool) : Type 0 where
   pub least : IsTrue answer ↔ Holds b.least
@@ -56,9 +51,8 @@ pub record Tries (Holds : Packet → Type 0) (b : PacketBox) (old new : List Pac
   pub kept : (p : Packet) → IsAmong old p → IsAmong new p
   pub within : (whole : PacketBox) → AreWithin whole old → IsWithin whole b → AreWithin whole new
 
--- The invariant of a search: the packet found satisfies `Holds`, and each earlier packet that satisfies it is in a pending box.
-pub record Seeks (Holds : Packet → Type 0) (whole : PacketBox) (bs : List PacketBox) (found : Option Packet) : Type 0 where
+-- The invariant of a search from `old`: each packet that satisfies `Holds` and comes before the packet found is in a pending box.
+pub record Seeks (Holds : Packet → Type 0) (whole : PacketBox) (old : Option Packet) (bs : List PacketBox) (found : Option Packet) : Type 0 where
   pub are : AreWithin whole bs
-  pub inside : (q : Packet) → found ≡ Some q → IsIn whole q
-  pub holds : (q : Packet) → found ≡ Some q → Holds q
+  pub is : (found ≡ old) ⊎ Finds (HoldsIn Holds whole) old found
   pub left : (p : Packet) → IsIn whole p → Holds p → IsEarlier p found → IsAmong bs p

@@ -4,6 +4,4 @@ use Rattle.audit_core.proofs.FaultLaws.{right_where_none}
 use Rattle.audit_core.proofs.fault.are_right.Goals as goal
 
 pub returns : goal.returns
-returns c = λ right.
-    right_where_none c.args.sides.now c.whole.result c.every.result c.in_ok-found.found c.whole.ensures c.every.ensures.value c.in_ok-found.ensures
-    (c.is_none.ensures ∙ ap not right)
+returns c = λ right. right_where_none c.args.sides.now c.in_ok-found.found c.in_ok-found.ensures (c.is_none.ensures ∙ ap not right)

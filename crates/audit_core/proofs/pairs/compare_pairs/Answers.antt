@@ -22,8 +22,8 @@ pub returns-then-branch-clause-differences : goal.returns-then-branch-clause-dif
 returns-then-branch-clause-differences c =
     let sides = compared c.args.policy.now c.args.text.now in
     subst (λ (l : List Difference). AreDifferences sides l) (sym c.new.ensures.items)
-    (none_where_right sides c.new-sides.ensures.gives c.new-sides.ensures.policy.within
-    (subst (λ (s : Sides). (kind : Kind) → AreRight s kind) c.new-sides.ensures.sides (c.in_ok-are_right.ensures c.if-branch.true)))
+    (none_where_right sides c.whole-sides.ensures.gives c.whole-sides.ensures.policy.within
+    (subst (λ (s : Sides). (kind : Kind) → AreRight s kind) c.whole-sides.ensures.sides (c.in_ok-are_right.ensures c.if-branch.true)))
 
 pub returns-then-branch-clause-complete : goal.returns-then-branch-clause-complete
 returns-then-branch-clause-complete c =
@@ -31,7 +31,7 @@ returns-then-branch-clause-complete c =
 
 pub returns-then-branch-clause-exact : goal.returns-then-branch-clause-exact
 returns-then-branch-clause-exact c =
-    none_exactly (compared c.args.policy.now c.args.text.now) c.new-sides.ensures.gives c.new-sides.ensures.policy.within c.new.result.items
+    none_exactly (compared c.args.policy.now c.args.text.now) c.whole-sides.ensures.gives c.whole-sides.ensures.policy.within c.new.result.items
     (returns-then-branch-clause-differences c)
 
 pub returns-then-branch-clause-one : goal.returns-then-branch-clause-one
@@ -40,7 +40,7 @@ returns-then-branch-clause-one c = λ other are.
 
 pub returns-clause-differences : goal.returns-clause-differences
 returns-clause-differences c =
-    subst (λ (s : Sides). IfOk c.differences_between.result (λ list. AreDifferences s list.items)) c.new-sides.ensures.sides c.differences_between.ensures
+    subst (λ (s : Sides). IfOk c.differences_between.result (λ list. AreDifferences s list.items)) c.whole-sides.ensures.sides c.differences_between.ensures
 
 pub returns-clause-complete : goal.returns-clause-complete
 returns-clause-complete c =
@@ -52,7 +52,7 @@ pub returns-clause-exact : goal.returns-clause-exact
 returns-clause-exact c =
     let sides = compared c.args.policy.now c.args.text.now in
     IfOk-weaker c.differences_between.result (λ list. AreDifferences sides list.items) (λ list. (list.items ≡ []) ↔ (DifferSomewhere sides → ⊥))
-    (λ list are. none_exactly sides c.new-sides.ensures.gives c.new-sides.ensures.policy.within list.items are) (returns-clause-differences c)
+    (λ list are. none_exactly sides c.whole-sides.ensures.gives c.whole-sides.ensures.policy.within list.items are) (returns-clause-differences c)
 
 pub returns-clause-one : goal.returns-clause-one
 returns-clause-one c =

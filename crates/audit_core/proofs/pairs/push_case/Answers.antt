@@ -30,5 +30,5 @@ returns-in_ok-push-in-Some c = λ sides sender owned.
           c.in-Some.is
           (subst (λ (l : List AddressRange). IsFoundBetween (DiffersSo sides (Some direction)) (ranges_in c.args.from.now.sources.items) l c.in_ok-find.field-0)
           c.deref.ensures.value (c.in_ok-find.ensures sides sender.each))) _
-          (λ i. record { from = c.args.from.now.owner; to = c.args.to.now.owner; trace = c.of.ensures i })),
+          (λ i. record { from = c.args.from.now.owner; to = c.args.to.now.owner; trace = c.of.ensures.value i })),
     )

@@ -4,7 +4,7 @@ use Rattle.audit_core.proofs.list_end.Ends.differs.Goals as goal
 
 pub returns-clause-alike : goal.returns-clause-alike
 returns-clause-alike c = λ p inside.
-    differs_where c.args.self.now c.rules-rules.ensures.gives c.rules-swaps.ensures.gives c.args.direction.kind p (c.last-last.ensures.packets p
+    differs_where c.args.self.now c.gives_one.ensures c.gives_one-2.ensures c.args.direction.kind p (c.last-last.ensures.packets p
     (narrows_in c.expects-expected.new.within c.passes.new.within p c.passes.ensures.part inside))
     c.passes.result c.expects-expected.result c.args.direction.forwards _ (c.passes.ensures.alike p inside)
     (c.expects-expected.ensures.alike p (narrows_in c.expects-expected.new.within c.passes.new.within p c.passes.ensures.part inside))

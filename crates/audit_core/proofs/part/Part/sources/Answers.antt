@@ -3,8 +3,8 @@ use Rattle.std.proofs.lemmas.List.{take_more}
 use Rattle.audit_core.specs.declared.sources.Source.{Source}
 use Rattle.audit_core.specs.inner.Pairs.{AreSources}
 use Rattle.audit_core.proofs.SourceLaws.{sources_more, sources_same}
-use Rattle.audit_core.proofs.sides.Sides.sources.Goals as goal
-use Rattle.audit_core.proofs.sides.Sides.sources.Goals.{then-branch+in_ok-push, else-branch+in-Own-1, else-branch+in-Whole-1}
+use Rattle.audit_core.proofs.part.Part.sources.Goals as goal
+use Rattle.audit_core.proofs.part.Part.sources.Goals.{then-branch+in_ok-push, else-branch+in-Own-1, else-branch+in-Whole-1}
 
 pub loop-range-preserved : goal.loop-range-preserved
 loop-range-preserved c = elim c.if-branch.branch [

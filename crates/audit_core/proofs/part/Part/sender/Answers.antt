@@ -2,7 +2,7 @@ use Rattle.std.proofs.Common.{List, refl, subst}
 use Rattle.header_space.specs.declared.address_range.AddressRange.{AddressRange}
 use Rattle.audit_core.specs.inner.Pairs.{AreSources}
 use Rattle.audit_core.proofs.SourceLaws.{sender_is}
-use Rattle.audit_core.proofs.sides.Sides.sender.Goals as goal
+use Rattle.audit_core.proofs.part.Part.sender.Goals as goal
 
 pub returns-clause-sender : goal.returns-clause-sender
 returns-clause-sender c =

@@ -3,8 +3,8 @@ use Rattle.std.specs.Prelude.{IfSome}
 use Rattle.audit_core.specs.declared.list_end.Ends.{Ends}
 use Rattle.audit_core.specs.inner.Pairs.{HaveSameEnds}
 use Rattle.audit_core.proofs.SourceLaws.{source_part, source_whole}
-use Rattle.audit_core.proofs.sides.Sides.source.Goals as goal
-use Rattle.audit_core.proofs.sides.Sides.source.Goals.{in-None, in-Some}
+use Rattle.audit_core.proofs.part.Part.source.Goals as goal
+use Rattle.audit_core.proofs.part.Part.source.Goals.{in-None, in-Some}
 
 pub returns-clause-source : goal.returns-clause-source
 returns-clause-source c = elim c.match-branch-2.branch [
