@@ -1,5 +1,5 @@
 -- A description, from its bytes to its table and from there to its raw description.
-use Rattle.std.proofs.Common.{◌≡◌, ℕ, Bool, true, false, List, ◌++◌, length, Option, Some, None, Result, Ok, Err, refl, ap, ◌∙◌, subst, sym}
+use Rattle.std.proofs.Common.{◌≡◌, ℕ, Bool, true, false, List, length, Option, Some, None, Result, Ok, Err, refl, ap, ◌∙◌, subst, sym}
 use Rattle.std.specs.Option.{ok_or, option_or}
 use Rattle.std.specs.Prelude.{◌≢◌, if◌then◌else◌, nat_lt, IfOk}
 use Rattle.desc_core.specs.inner.TableFacts.{IsRight}
@@ -8,13 +8,12 @@ use Rattle.toml.specs.Data.{Members}
 use Rattle.desc_core.specs.inner.AllConditions.{conditions}
 use Rattle.desc_core.specs.Conditions.{byte_limit, table_conditions}
 use Rattle.desc_core.specs.Description.{described, described_by, described_by_table, ok_unless_refused}
-use Rattle.desc_core.proofs.DescriptionLaws.{first_of-append}
+use Rattle.desc_core.proofs.DescriptionLaws.{form_first}
 use Rattle.desc_core.specs.Document.{document}
 use Rattle.desc_core.specs.inner.Reads.{Reads}
 use Rattle.net_core.specs.Network.{Network}
 use Rattle.desc_core.specs.inner.Order.{IsLeast, NoneHolds}
 use Rattle.desc_core.specs.inner.Parts.{network_or, table_of}
-use Rattle.desc_core.specs.UseConditions.{use_conditions}
 use Rattle.desc_core.specs.RawNetwork.{network_of}
 use Rattle.desc_core.proofs.OrderLaws.{IsLeast-described, IsLeast-table, NoneHolds-described, NoneHolds-table}
 use Rattle.desc_core.specs.inner.Whole.{IsDescribed, IsDescribedByTable}
@@ -28,11 +27,6 @@ use Rattle.desc_form.specs.RawDescription.{written}
 use Rattle.desc_form.specs.declared.refusal.Place.TheVariants.{Document}
 use Rattle.desc_form.specs.declared.refusal.Refusal.{Refusal}
 use Rattle.desc_form.specs.declared.refusal.Why.TheVariants.{TooLong, NotToml}
-use Rattle.desc_form.specs.HostConditions.{host_conditions}
-
-form_first : (table : Members) → first_of (table_conditions table) ≡ option_or (first_of (form_conditions table)) (first_of (host_conditions (written table) ++ use_conditions (written table)))
-unfolding table_conditions
-form_first table = first_of-append (form_conditions table) (host_conditions (written table) ++ use_conditions (written table))
 
 refused_by : {A : Type 0} (o p q : Option Refusal) (x : A) (r : Refusal) → o ≡ option_or p q → p ≡ Some r → ok_unless_refused o x ≡ Err r
 refused_by o p q x r first here = rw (first, here) refl

@@ -41,23 +41,25 @@ first_of-append (None ∷ xs) ys = first_of-append xs ys
 first_of-append (Some x ∷ xs) ys = refl
 
 -- The result if nothing is refused, and the refusal otherwise.
-passed : {A : Type 0} (o : Option Refusal) (x y : A) → ok_unless_refused o x ≡ Ok y → (o ≡ None) × (x ≡ y)
+pub passed : {A : Type 0} (o : Option Refusal) (x y : A) → ok_unless_refused o x ≡ Ok y → (o ≡ None) × (x ≡ y)
 passed None x y said = (refl, cc)
 passed (Some r) x y said = cc
 
-told_by : {A : Type 0} (o : Option Refusal) (x : A) (r : Refusal) → ok_unless_refused o x ≡ Err r → o ≡ Some r
+pub told_by : {A : Type 0} (o : Option Refusal) (x : A) (r : Refusal) → ok_unless_refused o x ≡ Err r → o ≡ Some r
 told_by None x r said = cc
 told_by (Some s) x r said = cc
 
 -- ---- tables
 
 -- The conditions on a table in groups: its form, its hosts, and the uses of the hosts.
+pub form_first : (table : Members) → first_of (table_conditions table) ≡ option_or (first_of (form_conditions table)) (first_of (host_conditions (written table) ++ use_conditions (written table)))
+unfolding table_conditions
+form_first table = first_of-append (form_conditions table) (host_conditions (written table) ++ use_conditions (written table))
+
 pub by_groups : (table : Members)
     → first_of (table_conditions table) ≡ option_or (first_of (form_conditions table)) (option_or (first_of (host_conditions (written table))) (first_of (use_conditions (written table))))
-unfolding table_conditions
 by_groups table =
-    first_of-append (form_conditions table) (host_conditions (written table) ++ use_conditions (written table))
-    ∙ ap (option_or (first_of (form_conditions table))) (first_of-append (host_conditions (written table)) (use_conditions (written table)))
+    form_first table ∙ ap (option_or (first_of (form_conditions table))) (first_of-append (host_conditions (written table)) (use_conditions (written table)))
 
 pub accepted : (table : Members) (d : Network) → described_by_table table ≡ Ok d → IsAccepted table d
 unfolding described_by_table

@@ -1,10 +1,10 @@
 -- If all names of a description are known: the conditions on them, in terms of the resolved names.
-use Rattle.std.proofs.Common.{◌≡◌, ℕ, ◌+◌, ◌==◌, Bool, true, false, cond, not, ◌&&◌, List, [], ◌∷◌, map, length, Option, Some, None, option_map, option_and_then, is_none, is_some, refl, sym, ap, subst, ◌∙◌, arith}
-use Rattle.std.proofs.lemmas.Bool.{and_parts, false≢true}
-use Rattle.std.proofs.lemmas.Bool.Decides.{nat_tests}
+use Rattle.std.proofs.Common.{◌≡◌, ℕ, ◌+◌, ◌==◌, Bool, true, false, cond, not, ◌&&◌, List, [], ◌∷◌, map, length, Option, Some, None, option_map, option_and_then, is_none, is_some, refl, sym, ap, subst, ◌∙◌}
+use Rattle.std.proofs.lemmas.Bool.{and_parts, eq-eqb, eqb-true, false≢true}
 use Rattle.std.proofs.lemmas.List.Elements.{All-from_recursion}
 use Rattle.std.proofs.lemmas.Option.{option_and_then_some}
 use Rattle.std.proofs.lemmas.Slice.Eq.{bytes_eq-Decides}
+use Rattle.std.specs.Cmp.{both_ways}
 use Rattle.std.specs.List.{AllByRecursion, AllZip, cons_option, filter_map, find, list_all}
 use Rattle.std.specs.Option.{option_or}
 use Rattle.std.specs.Prelude.{◌≢◌, All, if◌then◌else◌}
@@ -16,7 +16,7 @@ use Rattle.desc_core.proofs.ListingLaws.{all_both, all_weaker}
 use Rattle.desc_core.proofs.NamesLaws.{undeclared}
 use Rattle.desc_core.specs.Flows.{flow_of_names}
 use Rattle.desc_core.specs.inner.Parts.{bad_known, ends_of, name_conditions, self_found, twice_found}
-use Rattle.desc_core.proofs.UseFactsLaws.{PassesUses, hosts_declared, templates_known}
+use Rattle.desc_core.proofs.UseFactsLaws.{PassesUses, assigns_test, ends_test, hosts_declared, templates_known}
 use Rattle.desc_core.specs.UseConditions.{bad_at, bad_attribute, bad_attribute_of, duplicate_flow, is_declared, self_flow, undeclared_host, unknown_template}
 use Rattle.desc_core.specs.inner.Flows.{same_names}
 use Rattle.desc_core.specs.RawNetwork.{Known, asked_of, given_by, invariant_of, invariants_of, known_of, made_of}
@@ -36,7 +36,7 @@ use Rattle.host_net.proofs.NamedLaws.{host_named_within, one_name}
 use Rattle.table_core.specs.Listing.{each}
 use Rattle.text_core.proofs.FirstPairLaws.{told_numbered}
 use Rattle.text_core.specs.FirstMatch.{Numbered, Conflict, first_found, first_of, first_conflict, numbered, numbered_from}
-use Rattle.text_core.proofs.FirstsLaws.{neither, none_mapped}
+use Rattle.text_core.proofs.FirstsLaws.{neither, none_mapped, some_same}
 
 -- ---- lists that are read element by element
 
@@ -87,7 +87,7 @@ map_is : {A B : Type 0} (f : A → B) (o : Option A) → is_some (option_map f o
 map_is f None = refl
 map_is f (Some x) = refl
 
-abbrev known : Choice → List Given → Known
+abbrev pub known : Choice → List Given → Known
 known template assigns = record { template = template; assigns = assigns }
 
 known_by : (t : Option Choice) (assigns : Option (List Given))
@@ -127,16 +127,10 @@ are_ends w f = ends_by (host_named (network_hosts w) f.from) (host_named (networ
 abbrev template_test : RawDescription → RawInvariant → Bool
 template_test w i = is_some (chosen w.templates i.template)
 
-abbrev assigns_test : RawDescription → RawInvariant → Bool
-assigns_test w i = list_all (λ a. is_declared w a.host) i.assigns
-
-abbrev ends_test : RawDescription → RawFlow → Bool
-ends_test w f = is_declared w f.from && is_declared w f.to
-
 known_tests : (w : RawDescription) → list_all (λ i. is_some (known_of w.templates (network_hosts w) i)) w.invariants ≡ list_all (λ i. template_test w i && assigns_test w i) w.invariants
 known_tests w = λ j. list_all (λ i. is_known w i j) w.invariants
 
-ends_tests : (w : RawDescription) → list_all (λ f. is_some (ends_of (network_hosts w) f)) w.flows ≡ list_all (ends_test w) w.flows
+pub ends_tests : (w : RawDescription) → list_all (λ f. is_some (ends_of (network_hosts w) f)) w.flows ≡ list_all (ends_test w) w.flows
 ends_tests w = λ j. list_all (λ f. are_ends w f j) w.flows
 
 -- Every invariant of a sound description is known.
@@ -226,26 +220,12 @@ named_ends hosts w e is =
     let same : flow_from_to from to ≡ e = cc in
     (is_from ∙ ap (λ (f : Flow). Some f.from) same, is_to ∙ ap (λ (f : Flow). Some f.to) same)))
 
-same_bools : (a b : Bool) → (a ≡ true → b ≡ true) → (b ≡ true → a ≡ true) → a ≡ b
-same_bools true b forth back = sym (forth refl)
-same_bools false true forth back = back refl
-same_bools false false forth back = refl
-
-numbers_same : (a b : ℕ) → (a == b) ≡ true → a ≡ b
-numbers_same a b h = grind (arith, nat_tests)
-
-numbers_equal : (a b : ℕ) → a ≡ b → (a == b) ≡ true
-numbers_equal a b h = grind (arith, nat_tests)
-
-some_equal : {A : Type 0} (x y : A) → Some x ≡ Some y → x ≡ y
-some_equal x y is = cc
-
 -- Two names are equal if their hosts are.
 one_test : (hosts : List Host) (a b : List ℕ) (i j : ℕ) → host_named hosts a ≡ Some i → host_named hosts b ≡ Some j → bytes_eq a b ≡ (i == j)
 one_test hosts a b i j at_a at_b =
-    same_bools (bytes_eq a b) (i == j)
-    (λ same. numbers_equal i j (some_equal i j (sym at_a ∙ ap (host_named hosts) ((bytes_eq-Decides a b).0 same) ∙ at_b)))
-    (λ same. (bytes_eq-Decides a b).1 (one_name hosts a b j (at_a ∙ ap Some (numbers_same i j same)) at_b))
+    both_ways (bytes_eq a b) (i == j)
+    (λ same. eq-eqb i j (some_same i j (sym at_a ∙ ap (host_named hosts) ((bytes_eq-Decides a b).0 same) ∙ at_b)))
+    (λ same. (bytes_eq-Decides a b).1 (one_name hosts a b j (at_a ∙ ap Some (eqb-true i j same)) at_b))
 
 same_test : (hosts : List Host) (x y : Located hosts) → same_names x.written y.written ≡ same_flow x.flow y.flow
 same_test hosts x y =
@@ -309,7 +289,7 @@ pub all_apart : (es : List Flow) → self_found es ≡ None → list_all (λ (e 
 all_apart es none = apart_from 1 es (none_mapped tell_self _ none)
 
 differ_by : (a b : ℕ) → not (a == b) ≡ true → a ≢ b
-differ_by a b apart same = let never : not true ≡ true = sym (ap not (numbers_equal a b same)) ∙ apart in cc
+differ_by a b apart same = let never : not true ≡ true = sym (ap not (eq-eqb a b same)) ∙ apart in cc
 
 flow_by : (b : Bool) (w : RawFlow) (i j : ℕ) → not b ≡ true → (if b then None else Some (flow_from_to i j)) ≡ Some (flow_from_to i j)
 flow_by true w i j apart = cc

@@ -1,9 +1,10 @@
 -- Name resolution one by one: the resolved names so far, and the remaining ones.
-use Rattle.std.proofs.Common.{◌≡◌, ℕ, ◌+◌, ◌<◌, List, [], ◌∷◌, ◌++◌, map, drop, drop-cons, add-one, get_or, length, Option, Some, option_map, sym, ap, ◌∙◌}
+use Rattle.std.proofs.Common.{◌≡◌, ℕ, ◌+◌, ◌<◌, List, [], ◌∷◌, ◌++◌, map, drop, get_or, length, Option, Some, option_map, ap, ◌∙◌}
 use Rattle.std.proofs.lemmas.List.{map-append}
 use Rattle.attr_core.specs.inner.AssignView.{given_of}
 use Rattle.attr_core.specs.Assigns.{Given}
 use Rattle.attr_core.specs.declared.assign.Assign as read
+use Rattle.desc_core.proofs.ListingLaws.{next}
 use Rattle.desc_core.specs.inner.KnownView.{known_view}
 use Rattle.desc_core.specs.RawNetwork.{Known, given_by, known_of}
 use Rattle.desc_core.specs.declared.known.KnownInvariant.{KnownInvariant}
@@ -20,8 +21,7 @@ one_more : {W V K : Type 0} (view : W → V) (find : V → Option K) (given : Li
     → option_map (λ rest. given ++ rest) (each find (map view (drop i ws))) ≡ whole
     → option_map (λ rest. (given ++ k ∷ []) ++ rest) (each find (map view (drop (i + 1) ws))) ≡ whole
 one_more view find given k w ws i whole within here says so_far =
-    let next : drop i ws ≡ w ∷ drop (i + 1) ws = drop-cons ws i w within ∙ (λ j. sym here j ∷ drop (sym (add-one i) j) ws) in
-    each_more find given k (view w) (map view (drop (i + 1) ws)) whole says (rw next at so_far)
+    each_more find given k (view w) (map view (drop (i + 1) ws)) whole says (rw (next ws i w w within here) at so_far)
 
 -- The host and table of an assign, after those before it.
 pub assigns_more : (hosts : List Host) (given items : List read.Assign) (a : read.Assign) (w : RawAssign) (ws : List RawAssign) (i : ℕ) (whole : Option (List Given))

@@ -5,7 +5,6 @@ pub mod Examples
 pub mod FlowsLaws
 pub mod KnownLaws
 pub mod KnownLemmas
-pub mod LimitLaws
 pub mod ListingLaws
 pub mod MakeableLaws
 pub mod MigratedLaws
@@ -19,9 +18,6 @@ pub mod OrderLaws
 pub mod OwnTableLemmas
 pub mod RepeatLemmas
 pub mod ServicesLemmas
-pub mod ServicesWalk
-pub mod SetLaws
-pub mod Settled
 pub mod ShallowLaws
 pub mod TableFactsLaws
 pub mod Tables
@@ -31,4 +27,3 @@ pub mod UseFactsLaws
 pub mod UsesLaws
 pub mod WholeLaws
 pub mod Worked
-pub mod WorkedServices

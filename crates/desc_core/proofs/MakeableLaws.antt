@@ -18,7 +18,9 @@ use Rattle.desc_core.specs.inner.KnownView.{known_view}
 use Rattle.desc_core.specs.inner.Makeable.{CanBeMade, IsMakeable}
 use Rattle.desc_core.specs.inner.Parts.{templates_found}
 use Rattle.desc_core.specs.TemplateConditions.{bad_template, denies, first_bad, has_kinds, has_own_name, has_partner, has_strategy, is_well_formed, not_lawful, uses_kinds}
+use Rattle.desc_core.proofs.TemplateFactsLaws.{good_by}
 use Rattle.desc_core.proofs.UseFactsLaws.{partners_there}
+use Rattle.desc_form.proofs.NoneLaws.{none_of_both}
 use Rattle.desc_core.specs.RawNetwork.{Known, given_by, known_of}
 use Rattle.desc_core.specs.declared.known.KnownInvariant.{KnownInvariant}
 use Rattle.desc_form.specs.RawDescription.{RawDescription, RawInvariant}
@@ -26,7 +28,7 @@ use Rattle.desc_form.specs.RawTemplate.{RawPair, RawTemplate}
 use Rattle.host_net.specs.Host.{Host}
 use Rattle.inv_law.specs.declared.strategy.Strategy.TheVariants.{Access, Information}
 use Rattle.table_core.specs.Listing.{each}
-use Rattle.text_core.proofs.FirstsLaws.{neither, none_mapped}
+use Rattle.text_core.proofs.FirstsLaws.{neither, none_mapped, some_same}
 use Rattle.text_core.specs.Name.{is_name}
 use Rattle.tmpl_table.specs.KindTable.{is_lawful, lists, passes_with}
 
@@ -77,15 +79,11 @@ makeable earlier t good all =
     let more = ltb-true 0 (length t.kinds) some in
     record { named = name; some_kinds = omega (arith, more); few_kinds = leb-true (length t.kinds) 64 few; lawful = lawful_table t all }
 
-none_bad : (b : Bool) (later : Option ℕ) (k : ℕ) → (if b then later else Some k) ≡ None → (b ≡ true) × (later ≡ None)
-none_bad true later k none = (refl, none)
-none_bad false later k none = cc
-
 each_makeable : (earlier : List RawTemplate) (k : ℕ) (ts : List RawTemplate) → first_bad earlier k ts ≡ None
     → list_all (λ t. list_all (has_partner t) t.deny) ts ≡ true → AllByRecursion IsMakeable ts
 each_makeable earlier k [] none all = tt
 each_makeable earlier k (t ∷ ts) none all =
-    let (good, later) = none_bad (is_well_formed earlier t) (first_bad (earlier ++ t ∷ []) (k + 1) ts) k none in
+    let (good, later) = good_by (is_well_formed earlier t) (first_bad (earlier ++ t ∷ []) (k + 1) ts) k none in
     let (here, behind) = and_parts (list_all (has_partner t) t.deny) _ all in
     (makeable earlier t good here, each_makeable (earlier ++ t ∷ []) (k + 1) ts later behind)
 
@@ -103,11 +101,7 @@ each_lawful (t ∷ ts) (here, behind) = (here.lawful, each_lawful ts behind)
 pub all_lawful : (w : RawDescription) → bad_template w ≡ None → not_lawful w ≡ None → All (λ (t : RawTemplate). is_lawful (declared_table t) ≡ true) w.templates
 all_lawful w good lawful =
     All-from_recursion (λ (t : RawTemplate). is_lawful (declared_table t) ≡ true) w.templates
-    (each_lawful w.templates (all_makeable w (none_of_two (bad_template w) (not_lawful w) good lawful)))
-  where
-    none_of_two : {A : Type 0} (o p : Option A) → o ≡ None → p ≡ None → option_or o p ≡ None
-    none_of_two None p first second = second
-    none_of_two (Some x) p first second = first
+    (each_lawful w.templates (all_makeable w (none_of_both (bad_template w) (not_lawful w) good lawful)))
 
 -- ---- each template that is named
 
@@ -134,12 +128,9 @@ unfolding known_of
 known_can ts hosts i k all is =
     option_and_then_some _ (chosen ts i.template) k is (λ template named rest.
     option_and_then_some _ (each (given_by hosts) i.assigns) k rest (λ assigns given last.
-    let same : template ≡ k.template = ap (λ (j : Known). j.template) (some_equal _ k last) in
+    let same : template ≡ k.template = ap (λ (j : Known). j.template) (some_same _ k last) in
     subst CanBeMade same
     (chosen_by (template_named i.template) (find (λ t. bytes_eq i.template t.name) ts) template named (λ u. found_makeable i.template ts u all))))
-  where
-    some_equal : (x y : Known) → Some x ≡ Some y → x ≡ y
-    some_equal x y is = cc
 
 all_can : (ts : List RawTemplate) (hosts : List Host) (is : List RawInvariant) (ks : List KnownInvariant) → AllByRecursion IsMakeable ts
     → AllZip (λ i k. known_of ts hosts i ≡ Some k) is (map known_view ks) → AllByRecursion (λ (k : KnownInvariant). CanBeMade (known_view k).template) ks

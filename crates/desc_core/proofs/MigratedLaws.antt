@@ -86,7 +86,7 @@ keys_with test k d (member l e ms) here all =
 
 -- ---- the requirements of `toml` on a table that it prints
 
-abbrev ArePrintable : ℕ → Members → Type 0
+abbrev pub ArePrintable : ℕ → Members → Type 0
 ArePrintable n ms = (members_depth ms ≤ n) × (members_are_plain ms ≡ true)
 
 printable : (n : ℕ) (k : List ℕ) (d : Data) (ms : Members) → depth d ≤ n → is_plain d ≡ true → ArePrintable n ms → ArePrintable n (member k d ms)
@@ -136,11 +136,15 @@ mutual
       and_from (has_valid_dates d) (members_have_valid_dates ms) (plain_dates d here) (members_dates ms behind)
 
 -- The table in version 2 nests no deeper, and it contains no dates.
-pub migrated_prints : (ms : Members) → IsShallow 6 (table ms) → (members_depth (migrated ms) ≤ 5) × (members_have_valid_dates (migrated ms) ≡ true)
-migrated_prints ms (deep, plain) =
+pub migrated_printable : (ms : Members) → IsShallow 6 (table ms) → ArePrintable 5 (migrated ms)
+migrated_printable ms (deep, plain) =
     let few : members_depth ms ≤ 5 = omega (arith, deep) in
-    let (small, all) = printable_with 5 (codes "topos") (integer (pos 2)) ms (omega arith) refl (few, plain) in
-    (small, members_dates (migrated ms) all)
+    printable_with 5 (codes "topos") (integer (pos 2)) ms (omega arith) refl (few, plain)
+
+pub migrated_prints : (ms : Members) → IsShallow 6 (table ms) → (members_depth (migrated ms) ≤ 5) × (members_have_valid_dates (migrated ms) ≡ true)
+migrated_prints ms shallow =
+    let (small, plain) = migrated_printable ms shallow in
+    (small, members_dates (migrated ms) plain)
 
 -- ---- its raw description
 

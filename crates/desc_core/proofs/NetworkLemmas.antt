@@ -5,7 +5,7 @@ use Rattle.std.specs.Prelude.{if◌then◌else◌}
 use Rattle.desc_core.proofs.KnownLaws.{asked_is, bad_is, invariants_are, names_known, self_is, twice_is}
 use Rattle.desc_core.proofs.ServicesLemmas.{services_are}
 use Rattle.desc_core.specs.Description.{ok_unless_refused}
-use Rattle.desc_core.proofs.DescriptionLaws.{first_of-append}
+use Rattle.desc_core.proofs.DescriptionLaws.{first_of-append, passed, told_by}
 use Rattle.desc_core.proofs.NetworkLaws.{IsNetwork-network_of}
 use Rattle.desc_core.specs.inner.Parts.{bad_known, ends_of, name_conditions, narrowed_among, network_by_uses, network_or, self_found, services_found, templates_found, twice_found}
 use Rattle.desc_core.specs.TemplateConditions.{bad_template, not_lawful}
@@ -28,6 +28,7 @@ use Rattle.inv_any.specs.declared.any_inv.AnyInv.{AnyInv}
 use Rattle.net_core.specs.inner.Fitting.{IsNetwork}
 use Rattle.net_core.specs.Network.{Network}
 use Rattle.table_core.specs.Listing.{each}
+use Rattle.text_core.proofs.FirstsLaws.{neither}
 use Rattle.text_core.specs.FirstMatch.{first_of}
 
 -- All names are known: the resolved invariants and flows.
@@ -108,28 +109,17 @@ pub refused_templates : (w : RawDescription) (hosts : List Host) (ks : List Know
     → twice_found es ≡ None → services_found w.flows ≡ None → templates_found w ≡ Some r → network_by_uses w ≡ Err r
 refused_templates w hosts ks es r all before once last is = told w r (uses_are w hosts ks es all ∙ rw (before, once, last, is) refl)
 
--- The parts of the last refusal.
-pub none_before : (c d e : Option Refusal) → option_or c (option_or d e) ≡ None → (d ≡ None) × (e ≡ None)
-none_before None None None none = (refl, refl)
-none_before None None (Some r) none = cc
-none_before None (Some r) e none = cc
-none_before (Some r) d e none = cc
+-- If conditions 17, 18 and 19 do not apply, no flow is from a host to itself.
+pub none_to_itself : (w : RawDescription) (hosts : List Host) (ks : List Known) (es : List Flow) → before_last w hosts ks es ≡ None → self_found es ≡ None
+none_to_itself w hosts ks es none = (neither (bad_known hosts ks) _ (neither (duplicate_assign w) _ none).1).1
 
 -- The requested flows, as they are built.
 abbrev pub made_set : RawDescription → ℕ → List Flow → SetOfFlows
 made_set w n es = record { size = n; flows = if w.given then set_of es else every_flow n }
 
-told_twice : {A : Type 0} (o : Option Refusal) (x : A) (r : Refusal) → ok_unless_refused o x ≡ Err r → o ≡ Some r
-told_twice None x r said = cc
-told_twice (Some s) x r said = cc
-
-none_twice : {A : Type 0} (o : Option Refusal) (x y : A) → ok_unless_refused o x ≡ Ok y → (o ≡ None) × (x ≡ y)
-none_twice None x y said = (refl, cc)
-none_twice (Some s) x y said = cc
-
 asked_refused : (w : RawDescription) (hosts : List Host) (ks : List Known) (es : List Flow) (n : ℕ) (r : Refusal) → AreKnown w hosts ks es → before_last w hosts ks es ≡ None
     → ok_unless_refused (twice_found es) (made_set w n es) ≡ Err r → network_by_uses w ≡ Err r
-asked_refused w hosts ks es n r all before said = refused_twice w hosts ks es r all before (told_twice (twice_found es) (made_set w n es) r said)
+asked_refused w hosts ks es n r all before said = refused_twice w hosts ks es r all before (told_by (twice_found es) (made_set w n es) r said)
 
 pub asked_fails : (w : RawDescription) (hosts : List Host) (ks : List Known) (es : List Flow) (n : ℕ) (fault : DescFault) → AreKnown w hosts ks es → before_last w hosts ks es ≡ None
     → Reads {A = SetOfFlows} (Err fault) (ok_unless_refused (twice_found es) (made_set w n es)) → Reads {A = Network} (Err fault) (network_by_uses w)
@@ -139,9 +129,9 @@ asked_fails w hosts ks es n Memory all before said = tt
 pub asked_made : (w : RawDescription) (hosts : List Host) (ks : List Known) (es : List Flow) (n : ℕ) (asked : SetOfFlows) → AreKnown w hosts ks es → before_last w hosts ks es ≡ None → n ≡ length hosts
     → ok_unless_refused (twice_found es) (made_set w n es) ≡ Ok asked → (twice_found es ≡ None) × (asked ≡ record { size = length w.hosts; flows = asked_of w })
 asked_made w hosts ks es n asked all before count said =
-    let (none, made) = none_twice (twice_found es) (made_set w n es) asked said in
+    let (none, made) = passed (twice_found es) (made_set w n es) asked said in
     let size : n ≡ length w.hosts = count ∙ ap length all.same ∙ length-network_hosts w in
-    let flows : asked_of w ≡ (if w.given then set_of es else every_flow (length w.hosts)) = asked_is w es (found_here w hosts ks es all) (none_before (duplicate_assign w) _ _ before).1 in
+    let flows : asked_of w ≡ (if w.given then set_of es else every_flow (length w.hosts)) = asked_is w es (found_here w hosts ks es all) (none_to_itself w hosts ks es before) in
     (none, sym made ∙ ap (λ k. made_set w k es) size ∙ (λ j. record { size = length w.hosts; flows = sym flows j }))
 
 -- The network, part by part.
@@ -150,7 +140,7 @@ network_is : (w : RawDescription) (hosts : List Host) (ks : List Known) (es : Li
     → network_of w ≡ record { hosts = hosts; asked = asked; services = services; given = w.given; answers = w.answers; invariants = invariants }
 unfolding network_of
 network_is w hosts ks es asked services invariants all before set narrowed made =
-    let said : services_in w ≡ services = services_are w es (found_here w hosts ks es all) (none_before (duplicate_assign w) _ _ before).1 ∙ sym narrowed in
+    let said : services_in w ≡ services = services_are w es (found_here w hosts ks es all) (none_to_itself w hosts ks es before) ∙ sym narrowed in
     let read : invariants_of w ≡ invariants = invariants_are w ks (known_here w hosts ks es all) ∙ ap (λ hs. map (made_of hs) ks) (sym all.same) ∙ sym made in
     λ i. record { hosts = sym all.same i; asked = sym set i; services = said i; given = w.given; answers = w.answers; invariants = read i }
 

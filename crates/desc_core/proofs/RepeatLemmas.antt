@@ -1,5 +1,6 @@
 -- Flows that are inserted into a set one by one: the first that is present already, and the first that is equal to it.
-use Rattle.std.proofs.Common.{◌≡◌, ℕ, suc, ◌+◌, ◌<◌, Bool, true, false, cond, not, ◌||◌, List, [], ◌∷◌, ◌++◌, drop, drop-cons, add-one, get_or, take, length, Option, Some, None, option_map, Err, refl, sym, ap, ◌∙◌, arith}
+use Rattle.std.proofs.Common.{◌≡◌, ℕ, suc, ◌+◌, ◌<◌, Bool, true, false, cond, not, ◌||◌, List, [], ◌∷◌, ◌++◌, drop, get_or, take, length, Option, Some, None, option_map, Err, refl, sym, ap, ◌∙◌, arith}
+use Rattle.std.proofs.lemmas.Bool.{not-false, not-true}
 use Rattle.std.proofs.lemmas.List.{length-take-le, take_more}
 use Rattle.std.specs.List.{find, fold}
 use Rattle.std.specs.Option.{option_or}
@@ -8,6 +9,7 @@ use Rattle.flow_set.specs.laws.FlowLaws.{same_flow_sym}
 use Rattle.flow_set.specs.FlowSet.{SetOfFlows, has, with_flow, set_of}
 use Rattle.flow_set.proofs.ListedLaws.{has-set_of}
 use Rattle.flow_set.specs.declared.flow.Flow.{Flow}
+use Rattle.desc_core.proofs.ListingLaws.{next}
 use Rattle.desc_core.specs.Description.{ok_unless_refused}
 use Rattle.desc_core.specs.inner.Parts.{twice_found}
 use Rattle.desc_form.specs.Refusals.{refused_by}
@@ -53,9 +55,6 @@ set_push fs f = fold_push [] fs
 next_taken : (fs : List Flow) (i : ℕ) (f d : Flow) → i < length fs → f ≡ get_or fs i d → take (i + 1) fs ≡ take i fs ++ f ∷ []
 next_taken fs i f d within here = take_more fs i d within ∙ ap (λ (g : Flow). take i fs ++ g ∷ []) (sym here)
 
-next_left : (fs : List Flow) (i : ℕ) (f d : Flow) → i < length fs → f ≡ get_or fs i d → drop i fs ≡ f ∷ drop (i + 1) fs
-next_left fs i f d within here = drop-cons fs i d within ∙ (λ j. sym here j ∷ drop (sym (add-one i) j) fs)
-
 next_numbered : (fs : List Flow) (i : ℕ) (f d : Flow) → i < length fs → f ≡ get_or fs i d → numbered (take (i + 1) fs) ≡ numbered (take i fs) ++ nth (i + 1) f ∷ []
 next_numbered fs i f d within here =
     let taken : length (take i fs) ≡ i = length-take-le i fs (omega (arith, within)) in
@@ -74,7 +73,7 @@ with_later i f o = option_map (λ (g : Numbered Flow). record { later = nth (i +
 
 here_is : (fs : List Flow) (i : ℕ) (f d : Flow) → i < length fs → f ≡ get_or fs i d → from_here fs i ≡ option_or (with_later i f (earlier_than fs i f)) (from_here fs (i + 1))
 here_is fs i f d within here =
-    ap (λ gs. first_conflict_after same_as (numbered (take i fs)) (numbered_from (i + 1) gs)) (next_left fs i f d within here)
+    ap (λ gs. first_conflict_after same_as (numbered (take i fs)) (numbered_from (i + 1) gs)) (next fs i f d within here)
     ∙ ap (λ before. option_or (with_later i f (earlier_than fs i f)) (first_conflict_after same_as before (numbered_from (i + 1 + 1) (drop (i + 1) fs))))
     (sym (next_numbered fs i f d within here))
 
@@ -84,25 +83,17 @@ set_until n fs i = record { size = n; flows = set_of (take i fs) }
 in_set : (fs : List Flow) (i : ℕ) (f : Flow) (n : ℕ) (s : SetOfFlows) → s ≡ set_until n fs i → has s.flows f ≡ has (take i fs) f
 in_set fs i f n s made = ap (λ (t : SetOfFlows). has t.flows f) made ∙ has-set_of (take i fs) f
 
-not_false : (b : Bool) → false ≡ not b → b ≡ true
-not_false true is = refl
-not_false false is = cc
-
-not_true : (b : Bool) → true ≡ not b → b ≡ false
-not_true true is = cc
-not_true false is = refl
-
 -- A flow that does not change the set is equal to an earlier one.
 pub was_there : (fs : List Flow) (i : ℕ) (f : Flow) (n : ℕ) (s : SetOfFlows) (changed : Bool) → s ≡ set_until n fs i → changed ≡ not (has s.flows f) → changed ≡ false
     → has (take i fs) f ≡ true
-was_there fs i f n s changed made is same = sym (in_set fs i f n s made) ∙ not_false (has s.flows f) (sym same ∙ is)
+was_there fs i f n s changed made is same = sym (in_set fs i f n s made) ∙ not-false (has s.flows f) (sym is ∙ same)
 
 -- A flow that changes the set differs from each of them.
 pub one_more : (fs : List Flow) (i : ℕ) (f d : Flow) (n : ℕ) (s t : SetOfFlows) (changed : Bool) (whole : Option (Conflict (Numbered Flow))) → i < length fs → f ≡ get_or fs i d → s ≡ set_until n fs i
     → from_here fs i ≡ whole → t ≡ record { size = s.size; flows = with_flow s.flows f } → changed ≡ not (has s.flows f) → changed ≡ true
     → (t ≡ set_until n fs (i + 1)) × (from_here fs (i + 1) ≡ whole)
 one_more fs i f d n s t changed whole within here made so_far grown is differs =
-    let absent : has (take i fs) f ≡ false = sym (in_set fs i f n s made) ∙ not_true (has s.flows f) (sym differs ∙ is) in
+    let absent : has (take i fs) f ≡ false = sym (in_set fs i f n s made) ∙ not-true (has s.flows f) (sym is ∙ differs) in
     let more : with_flow (set_of (take i fs)) f ≡ set_of (take (i + 1) fs) = sym (set_push (take i fs) f) ∙ ap set_of (sym (next_taken fs i f d within here)) in (
       grown ∙ ap (λ (u : SetOfFlows). record { size = u.size; flows = with_flow u.flows f }) made ∙ ap (λ gs. record { size = n; flows = gs }) more,
       sym (here_is fs i f d within here ∙ ap (λ o. option_or (with_later i f o) (from_here fs (i + 1))) (absent_from 1 (take i fs) f absent)) ∙ so_far,

@@ -1,12 +1,12 @@
 -- The services of flows, added one by one: each flow with services is appended to those before it.
-use Rattle.std.proofs.Common.{◌≡◌, ℕ, Bool, true, not, ◌&&◌, List, [], ◌∷◌, ◌++◌, append-nil, append_assoc, length, Option, Some, None, option_and_then, refl, sym, ap, ◌∙◌, arith}
+use Rattle.std.proofs.Common.{◌≡◌, Bool, true, not, ◌&&◌, List, [], ◌∷◌, ◌++◌, append-nil, append_assoc, length, Option, Some, None, option_and_then, refl, sym, ap, ◌∙◌, ℕ, ◌+◌, ◌<◌, map, drop, get_or}
 use Rattle.std.proofs.lemmas.Bool.{and_from, and_parts, not-true}
-use Rattle.std.proofs.lemmas.Bool.Decides.{nat_tests}
 use Rattle.std.proofs.lemmas.List.Folds.{list_all-append}
+use Rattle.std.proofs.lemmas.Slice.Zip.{AllZip-long}
 use Rattle.std.specs.List.{AllZip, cons_option, filter_map, list_all}
 use Rattle.std.specs.Prelude.{◌==◌}
 use Rattle.desc_core.proofs.KnownLaws.{all_apart, each_zip, flow_is}
-use Rattle.desc_core.proofs.ListingLaws.{zip_length}
+use Rattle.desc_core.proofs.ListingLaws.{next}
 use Rattle.desc_core.specs.inner.Parts.{ends_of, many_found, narrowed_among, self_found, twice_found, with_services}
 use Rattle.desc_core.specs.inner.Flows.{has_many_services}
 use Rattle.desc_core.specs.RawNetwork.{narrowed_of, narrowed_to, services_in, declared_services}
@@ -16,6 +16,7 @@ use Rattle.desc_form.specs.RawHosts.{network_hosts}
 use Rattle.flow_set.specs.Flow.{same_flow}
 use Rattle.flow_set.specs.declared.flow.Flow.{Flow}
 use Rattle.host_net.specs.Host.{Host}
+use Rattle.host_net.proofs.ServicesLaws.{own_ends}
 use Rattle.host_net.specs.Services.{RestrictedFlow, is_between, services_of}
 use Rattle.host_net.specs.inner.Services.{with_service}
 use Rattle.host_net.specs.declared.service.Service.{Service}
@@ -23,6 +24,9 @@ use Rattle.table_core.specs.Listing.{each}
 use Rattle.text_core.proofs.FirstsLaws.{all_numbered, no_pair_numbered, none_barred, none_found, none_mapped}
 use Rattle.text_core.specs.FirstMatch.{numbered}
 use Rattle.text_core.specs.inner.Pairs.{no_pair}
+use Rattle.std.proofs.lemmas.List.{length-map}
+use Rattle.desc_form.specs.inner.RawView.{flow_view}
+use Rattle.desc_form.specs.declared.raw.RawFlow as code
 
 abbrev narrowed : Flow → List Service → RestrictedFlow
 narrowed e ss = record { from = e.from; to = e.to; services = ss }
@@ -36,9 +40,6 @@ none_yet [] e new = refl
 none_yet (n ∷ ns) e new =
     let (here, behind) = and_parts (not (is_between e.from e.to n)) _ new in
     rw (not-true (is_between e.from e.to n) here) (none_yet ns e behind)
-
-own_ends : (from to : ℕ) → ((from == from) && (to == to)) ≡ true
-own_ends from to = grind (arith, nat_tests)
 
 -- One more service of a flow that is the last, or that is not restricted yet.
 last_grows : (ns : List RestrictedFlow) (e : Flow) (ss : List Service) (s : Service) → is_new ns e ≡ true
@@ -119,7 +120,7 @@ all_different es none =
     sym (no_pair_numbered same_flow 1 es) ∙ none_barred (λ f g. same_flow f.what g.what) (numbered es) (none_mapped _ _ none)
 
 pub as_many : (hosts : List Host) (ws : List RawFlow) (es : List Flow) → each (ends_of hosts) ws ≡ Some es → length es ≡ length ws
-as_many hosts ws es found = zip_length (λ w e. ends_of hosts w ≡ Some e) ws es (each_zip (ends_of hosts) ws es found)
+as_many hosts ws es found = AllZip-long (λ w e. ends_of hosts w ≡ Some e) ws es (each_zip (ends_of hosts) ws es found)
 
 narrowed_zip : (hosts : List Host) (ws : List RawFlow) (es : List Flow) → AllZip (λ w e. ends_of hosts w ≡ Some e) ws es → list_all (λ (e : Flow). not (e.from == e.to)) es ≡ true
     → filter_map (narrowed_of hosts) ws ≡ narrowed_among es ws
@@ -136,3 +137,35 @@ services_are w es found none = narrowed_zip (network_hosts w) w.flows es (each_z
 
 pub all_few : (ws : List RawFlow) → many_found ws ≡ None → list_all (λ f. not (has_many_services f)) ws ≡ true
 all_few ws none = sym (all_numbered (λ f. not (has_many_services f)) 1 ws) ∙ none_found (λ f. has_many_services f.what) (numbered ws) (none_mapped _ _ none)
+
+-- ---- the flows in order: the restricted flows so far, and the remaining ones
+
+-- The current flow, and those after it.
+left_here : (ns whole : List RestrictedFlow) (es : List Flow) (ws : List code.RawFlow) (i : ℕ) (e d : Flow) (w v : code.RawFlow) → i < length es → i < length ws → e ≡ get_or es i d → w ≡ get_or ws i v
+    → AreLeft ns (drop i es) (map flow_view (drop i ws)) whole → AreLeft ns (e ∷ drop (i + 1) es) (flow_view w ∷ map flow_view (drop (i + 1) ws)) whole
+left_here ns whole es ws i e d w v within_es within_ws is_e is_w left = rw (next es i e d within_es is_e, next ws i w v within_ws is_w) at left
+
+-- It has no services yet.
+pub none_here : (ns whole : List RestrictedFlow) (es : List Flow) (ws : List code.RawFlow) (i : ℕ) (e d : Flow) (w v : code.RawFlow) → i < length es → i < length ws → e ≡ get_or es i d → w ≡ get_or ws i v
+    → AreLeft ns (drop i es) (map flow_view (drop i ws)) whole → services_of ns e.from e.to ≡ []
+none_here ns whole es ws i e d w v within_es within_ws is_e is_w left =
+    let here = left_here ns whole es ws i e d w v within_es within_ws is_e is_w left in
+    none_yet ns e (and_parts (is_new ns e) _ here.new).0
+
+-- Afterwards it has them.
+pub left_behind : (ns ms whole : List RestrictedFlow) (es : List Flow) (ws : List code.RawFlow) (i : ℕ) (e d : Flow) (w v : code.RawFlow) → i < length es → i < length ws → e ≡ get_or es i d → w ≡ get_or ws i v
+    → ms ≡ with_services ns e (declared_services (flow_view w)) → AreLeft ns (drop i es) (map flow_view (drop i ws)) whole
+    → AreLeft ms (drop (i + 1) es) (map flow_view (drop (i + 1) ws)) whole
+left_behind ns ms whole es ws i e d w v within_es within_ws is_e is_w grown left =
+    rw grown (one_added ns e (drop (i + 1) es) (flow_view w) (map flow_view (drop (i + 1) ws)) whole (left_here ns whole es ws i e d w v within_es within_ws is_e is_w left))
+
+-- The flows after it are within the limit.
+pub few_behind : (ws : List code.RawFlow) (i : ℕ) (w v : code.RawFlow) → i < length ws → w ≡ get_or ws i v → list_all (λ f. not (has_many_services f)) (map flow_view (drop i ws)) ≡ true
+    → list_all (λ f. not (has_many_services f)) (map flow_view (drop (i + 1) ws)) ≡ true
+few_behind ws i w v within is few =
+    let here : list_all (λ f. not (has_many_services f)) (flow_view w ∷ map flow_view (drop (i + 1) ws)) ≡ true = rw (next ws i w v within is) at few in
+    (and_parts (not (has_many_services (flow_view w))) _ here).1
+
+-- The number of resolved flows is the number of raw flows.
+pub as_many_written : (hosts : List Host) (ws : List code.RawFlow) (es : List Flow) → each (ends_of hosts) (map flow_view ws) ≡ Some es → length es ≡ length ws
+as_many_written hosts ws es found = as_many hosts (map flow_view ws) es found ∙ length-map ws flow_view

@@ -119,7 +119,7 @@ pub record AreTemplates (earlier ts : List RawTemplate) : Type 0 where
   pub apart : no_pair same_name ts ≡ true
   pub free : list_all (is_free earlier) ts ≡ true
 
-good_by : (b : Bool) (later : Option ℕ) (k : ℕ) → (if b then later else Some k) ≡ None → (b ≡ true) × (later ≡ None)
+pub good_by : (b : Bool) (later : Option ℕ) (k : ℕ) → (if b then later else Some k) ≡ None → (b ≡ true) × (later ≡ None)
 good_by true later k none = (refl, none)
 good_by false later k none = cc
 

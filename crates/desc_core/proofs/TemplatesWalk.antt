@@ -1,11 +1,9 @@
 -- Iteration over the templates: each is checked after those before it.
-use Rattle.std.proofs.Common.{◌≡◌, ℕ, ◌+◌, ◌<◌, Bool, true, false, List, [], ◌∷◌, ◌++◌, map, take, drop, drop-cons, add-one, get_or, length, Option, Some, None, is_some, sym, ap, ◌∙◌}
+use Rattle.std.proofs.Common.{◌≡◌, ℕ, ◌+◌, ◌<◌, Bool, true, false, List, [], ◌∷◌, ◌++◌, map, take, drop, get_or, length, Option, Some, sym, ap, ◌∙◌}
 use Rattle.std.proofs.lemmas.List.{map-append, take_more}
 use Rattle.std.specs.Prelude.{if◌then◌else◌}
-use Rattle.std.specs.Option.{option_or}
-use Rattle.desc_core.specs.TemplateConditions.{first_bad, is_well_formed, unlawful_at}
-use Rattle.desc_form.specs.declared.refusal.Refusal.{Refusal}
-use Rattle.text_core.specs.FirstMatch.{first_found, numbered_from}
+use Rattle.desc_core.proofs.ListingLaws.{next}
+use Rattle.desc_core.specs.TemplateConditions.{first_bad, is_well_formed}
 use Rattle.desc_form.specs.inner.RawView.{template_view}
 use Rattle.desc_form.specs.declared.raw.RawTemplate.{RawTemplate}
 
@@ -16,9 +14,6 @@ good_by false later k whole good is = cc
 bad_by : (b : Bool) (later : Option ℕ) (k : ℕ) (whole : Option ℕ) → b ≡ false → (if b then later else Some k) ≡ whole → Some k ≡ whole
 bad_by true later k whole bad is = cc
 bad_by false later k whole bad is = is
-
-next : (ts : List RawTemplate) (i : ℕ) (t : RawTemplate) → i < length ts → t ≡ get_or ts i t → drop i ts ≡ t ∷ drop (i + 1) ts
-next ts i t within here = drop-cons ts i t within ∙ (λ j. sym here j ∷ drop (sym (add-one i) j) ts)
 
 front : (ts : List RawTemplate) (i : ℕ) (t : RawTemplate) → i < length ts → t ≡ get_or ts i t
     → map template_view (take (i + 1) ts) ≡ map template_view (take i ts) ++ template_view t ∷ []
@@ -33,24 +28,11 @@ pub good_more : (ts : List RawTemplate) (i : ℕ) (t : RawTemplate) (whole : Opt
 good_more ts i t whole within here good so_far =
     ap (λ earlier. first_bad earlier (i + 1 + 1) (map template_view (drop (i + 1) ts))) (front ts i t within here)
     ∙ good_by (is_well_formed (map template_view (take i ts)) (template_view t)) _ (i + 1) whole good
-    (sym (ap (λ us. first_bad (map template_view (take i ts)) (i + 1) (map template_view us)) (next ts i t within here)) ∙ so_far)
+    (sym (ap (λ us. first_bad (map template_view (take i ts)) (i + 1) (map template_view us)) (next ts i t t within here)) ∙ so_far)
 
 pub bad_here : (ts : List RawTemplate) (i : ℕ) (t : RawTemplate) (whole : Option ℕ) → i < length ts → t ≡ get_or ts i t
     → is_well_formed (map template_view (take i ts)) (template_view t) ≡ false
     → first_bad (map template_view (take i ts)) (i + 1) (map template_view (drop i ts)) ≡ whole → Some (i + 1) ≡ whole
 bad_here ts i t whole within here bad so_far =
     bad_by (is_well_formed (map template_view (take i ts)) (template_view t)) _ (i + 1) whole bad
-    (sym (ap (λ us. first_bad (map template_view (take i ts)) (i + 1) (map template_view us)) (next ts i t within here)) ∙ so_far)
-
-some_first : (o rest whole : Option Refusal) → is_some o ≡ true → option_or o rest ≡ whole → o ≡ whole
-some_first None rest whole there is = cc
-some_first (Some r) rest whole there is = is
-
-pub unlawful_here : (ts : List RawTemplate) (i : ℕ) (t : RawTemplate) (found whole : Option Refusal) → i < length ts → t ≡ get_or ts i t
-    → found ≡ unlawful_at (record { number = i + 1; what = template_view t }) → is_some found ≡ true
-    → first_found unlawful_at (numbered_from (i + 1) (map template_view (drop i ts))) ≡ whole → found ≡ whole
-unlawful_here ts i t found whole within here said there so_far =
-    said
-    ∙ some_first (unlawful_at (record { number = i + 1; what = template_view t })) (first_found unlawful_at (numbered_from (i + 1 + 1) (map template_view (drop (i + 1) ts)))) whole
-    (ap is_some (sym said) ∙ there)
-    (sym (ap (λ us. first_found unlawful_at (numbered_from (i + 1) (map template_view us))) (next ts i t within here)) ∙ so_far)
+    (sym (ap (λ us. first_bad (map template_view (take i ts)) (i + 1) (map template_view us)) (next ts i t t within here)) ∙ so_far)

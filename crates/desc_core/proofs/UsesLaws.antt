@@ -1,49 +1,61 @@
--- Each flow of a sound description is between two of its hosts.
-use Rattle.std.proofs.Common.{◌≡◌, ℕ, ◌==◌, Bool, true, false, not, ◌&&◌, Option, Some, None, option_and_then, is_some, refl, sym, ap, ◌∙◌, arith}
+-- The flows of a description that passes conditions 15 to 24: each is between two of its hosts, and none is listed twice.
+use Rattle.std.proofs.Common.{◌≡◌, ◌==◌, true, not, List, [], ◌∷◌, length, Option, Some, None, is_some, refl, sym, ◌∙◌}
 use Rattle.std.proofs.lemmas.Bool.{and_parts}
-use Rattle.std.proofs.lemmas.Bool.Decides.{nat_tests}
-use Rattle.std.proofs.lemmas.Slice.Eq.{bytes_eq-Decides}
-use Rattle.std.specs.List.{list_all}
+use Rattle.std.specs.List.{AllZip, list_all}
 use Rattle.std.specs.Prelude.{if◌then◌else◌}
-use Rattle.std.specs.Str.{bytes_eq}
-use Rattle.desc_core.proofs.KnownLaws.{is_host}
-use Rattle.desc_core.proofs.ListingLaws.{all_both}
+use Rattle.desc_core.proofs.KnownLaws.{all_apart, asked_is, each_is, each_zip, ends_tests, flow_is, self_is, twice_is}
+use Rattle.desc_core.proofs.ServicesLemmas.{all_different}
+use Rattle.desc_core.proofs.UseFactsLaws.{PassesUses, ends_differ, flows_differ}
 use Rattle.desc_core.specs.Flows.{flow_of_names}
-use Rattle.desc_core.proofs.UseFactsLaws.{PassesUses}
-use Rattle.desc_core.specs.UseConditions.{is_declared}
+use Rattle.desc_core.specs.RawNetwork.{asked_of}
+use Rattle.desc_core.specs.inner.Parts.{ends_of, self_found, twice_found}
 use Rattle.desc_form.specs.RawDescription.{RawDescription}
 use Rattle.desc_form.specs.RawFlow.{RawFlow}
 use Rattle.desc_form.specs.RawHosts.{network_hosts}
+use Rattle.flow_set.proofs.ListedLaws.{absent_from}
+use Rattle.flow_set.specs.EveryFlow.{every_flow}
+use Rattle.flow_set.specs.Flow.{same_flow}
+use Rattle.flow_set.specs.FlowSet.{set_of}
 use Rattle.flow_set.specs.declared.flow.Flow.{Flow}
-use Rattle.host_net.specs.Host.{host_named}
-use Rattle.host_net.proofs.NamedLaws.{one_name}
+use Rattle.flow_set.specs.inner.Different.{AreDifferent}
+use Rattle.host_net.specs.Host.{Host}
+use Rattle.table_core.specs.Listing.{each}
+use Rattle.text_core.specs.inner.Pairs.{no_pair}
 
--- Each pair of names is that of two hosts.
-same_number : (a b : ℕ) → (a == b) ≡ true → a ≡ b
-same_number a b h = grind (arith, nat_tests)
+-- The flows between the hosts.
+pub record AreListed (w : RawDescription) : Type 0 where
+  pub flows : List Flow
+  pub named : AllZip (λ f e. flow_of_names (network_hosts w) f ≡ Some e) w.flows flows
+  pub asked : asked_of w ≡ (if w.given then set_of flows else every_flow (length w.hosts))
+  pub different : AreDifferent flows
 
-abbrev flow_from_to : ℕ → ℕ → Flow
-flow_from_to from to = record { from = from; to = to }
+named_zip : (hosts : List Host) (ws : List RawFlow) (es : List Flow) → AllZip (λ w e. ends_of hosts w ≡ Some e) ws es → list_all (λ (e : Flow). not (e.from == e.to)) es ≡ true
+    → AllZip (λ w e. flow_of_names hosts w ≡ Some e) ws es
+named_zip hosts [] [] zipped apart = tt
+named_zip hosts [] (e ∷ es) zipped apart = absurd zipped
+named_zip hosts (w ∷ ws) [] zipped apart = absurd zipped
+named_zip hosts (w ∷ ws) (e ∷ es) zipped apart =
+    let (here, behind) = and_parts (not (e.from == e.to)) _ apart in
+    (flow_is hosts w e zipped.0 here, named_zip hosts ws es zipped.1 behind)
 
-two_by : (b : Bool) (from to : ℕ) → (from == to) ≡ b → (from ≡ to → ⊥) → is_some (if b then None else Some (flow_from_to from to)) ≡ true
-two_by true from to is differ = absurd (differ (same_number from to is))
-two_by false from to is differ = refl
+are_different : (es : List Flow) → no_pair same_flow es ≡ true → AreDifferent es
+are_different [] once = tt
+are_different (e ∷ es) once =
+    let (first, rest) = and_parts (list_all (λ f. not (same_flow f e)) es) _ once in
+    (absent_from e es first, are_different es rest)
 
-two_hosts : (from to : Option ℕ) → is_some from ≡ true → is_some to ≡ true → ((k : ℕ) → from ≡ Some k → to ≡ Some k → ⊥)
-    → is_some (option_and_then (λ i. option_and_then (λ j. if i == j then None else Some (flow_from_to i j)) to) from) ≡ true
-two_hosts None to starts ends differ = cc
-two_hosts (Some i) None starts ends differ = cc
-two_hosts (Some i) (Some j) starts ends differ = two_by (i == j) i j refl (λ same. differ i refl (ap Some (sym same)))
+listed_by : (w : RawDescription) (o : Option (List Flow)) → PassesUses w → each (ends_of (network_hosts w)) w.flows ≡ o → is_some o ≡ true → AreListed w
+listed_by w None sound found there = cc
+listed_by w (Some es) sound found there =
+    let apart : self_found es ≡ None = sym (self_is w es found) ∙ (ends_differ w).1 sound.apart in
+    let once : twice_found es ≡ None = sym (twice_is w es found) ∙ (flows_differ w).1 sound.different in
+    record {
+      flows = es;
+      named = named_zip (network_hosts w) w.flows es (each_zip (ends_of (network_hosts w)) w.flows es found) (all_apart es apart);
+      asked = asked_is w es found apart;
+      different = are_different es (all_different es once);
+    }
 
-is_between : (w : RawDescription) (f : RawFlow) → (is_declared w f.from && is_declared w f.to) ≡ true → not (bytes_eq f.from f.to) ≡ true → is_some (flow_of_names (network_hosts w) f) ≡ true
-is_between w f declared differ =
-    let (from, to) = and_parts (is_declared w f.from) _ declared in
-    two_hosts (host_named (network_hosts w) f.from) (host_named (network_hosts w) f.to) (is_host w f.from ∙ from) (is_host w f.to ∙ to) (λ k starts ends.
-    let same : bytes_eq f.from f.to ≡ true = (bytes_eq-Decides f.from f.to).1 (one_name (network_hosts w) f.from f.to k starts ends) in
-    let never : not true ≡ true = sym (ap not same) ∙ differ in
-    cc)
-
-pub all_between : (w : RawDescription) → PassesUses w → list_all (λ f. is_some (flow_of_names (network_hosts w) f)) w.flows ≡ true
-all_between w sound =
-    all_both (λ (f : RawFlow). is_declared w f.from && is_declared w f.to) (λ (f : RawFlow). not (bytes_eq f.from f.to)) (λ f. is_some (flow_of_names (network_hosts w) f)) (is_between w) w.flows
-    sound.joined sound.apart
+pub are_listed : (w : RawDescription) → PassesUses w → AreListed w
+are_listed w sound =
+    listed_by w (each (ends_of (network_hosts w)) w.flows) sound refl (each_is (ends_of (network_hosts w)) w.flows ∙ ends_tests w ∙ sound.joined)

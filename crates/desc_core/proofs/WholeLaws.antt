@@ -1,10 +1,12 @@
 -- If no condition refuses a description, its network contains everything of it.
-use Rattle.std.proofs.Common.{◌≡◌, ℕ, suc, ◌==◌, true, false, nat_lt, List, [], ◌∷◌, map, length, Option, Some, None, option_map, option_and_then, is_some, Ok, refl, sym, ap, ◌∙◌, subst, arith}
+use Rattle.std.proofs.Common.{◌≡◌, ℕ, suc, ◌==◌, Bool, true, false, nat_lt, List, [], ◌∷◌, map, length, Option, Some, None, option_map, option_and_then, is_some, Ok, refl, sym, ap, ◌∙◌, subst, arith}
 use Rattle.std.proofs.lemmas.Bool.{and_parts}
 use Rattle.std.proofs.lemmas.Bool.Decides.{nat_tests}
 use Rattle.std.proofs.lemmas.List.Folds.{list_all-append}
+use Rattle.std.proofs.lemmas.Slice.Zip.{AllZip-long}
 use Rattle.std.specs.List.{AllByRecursion, AllZip, cons_option, filter, filter_map, list_all}
 use Rattle.std.specs.Option.{option_map_or}
+use Rattle.std.specs.Prelude.{if◌then◌else◌}
 use Rattle.toml.specs.Data.{Members}
 use Rattle.desc_core.specs.Description.{described, described_by_table}
 use Rattle.desc_core.proofs.DescriptionLaws.{accepted, table_of_bytes}
@@ -12,14 +14,13 @@ use Rattle.flow_set.proofs.EveryFlowLaws.{IsFull-every_flow}
 use Rattle.desc_core.specs.Flows.{flow_of_names}
 use Rattle.flow_set.specs.FlowSet.{set_of}
 use Rattle.flow_set.proofs.ListedLaws.{has-set_of, length-set_of}
-use Rattle.desc_core.proofs.ListingLaws.{all_weaker, zip_length, zip_some, zip_weaker}
+use Rattle.desc_core.proofs.ListingLaws.{all_weaker, zip_some, zip_there, zip_weaker}
 use Rattle.net_core.specs.Network.{Network}
 use Rattle.desc_core.specs.RawNetwork.{Known, asked_of, given_by, invariant_of, invariants_of, known_of, made_of, narrowed_of, narrowed_to, network_of, services_in, declared_services}
 use Rattle.flow_set.specs.EveryFlow.{every_flow}
-use Rattle.desc_core.proofs.SetLaws.{flows_once}
 use Rattle.desc_core.specs.UseConditions.{use_conditions}
-use Rattle.desc_core.proofs.UsesLaws.{all_between}
-use Rattle.desc_core.proofs.KnownLaws.{all_known}
+use Rattle.desc_core.proofs.UsesLaws.{AreListed, are_listed}
+use Rattle.desc_core.proofs.KnownLaws.{all_known, known}
 use Rattle.desc_core.proofs.MakeableLaws.{all_lawful}
 use Rattle.desc_core.specs.inner.UseFacts.{SaysAttributes}
 use Rattle.desc_core.proofs.UseFactsLaws.{PassesUses, PassesUses-uses, services_test}
@@ -44,9 +45,8 @@ use Rattle.host_net.specs.declared.service.Service.{Service}
 use Rattle.host_net.specs.declared.prefix.Prefix.{Prefix}
 use Rattle.inv_any.specs.declared.any_inv.AnyInv.{AnyInv}
 use Rattle.std.proofs.lemmas.Option.{option_and_then_some}
-use Rattle.attr_core.specs.Assigns.{Given}
 use Rattle.desc_core.proofs.ChoiceLaws.{bad_by_form, made_by_form}
-use Rattle.desc_core.specs.Choices.{Choice, bad_of, chosen}
+use Rattle.desc_core.specs.Choices.{bad_of, chosen}
 use Rattle.desc_form.specs.RawTemplate.{RawTemplate}
 use Rattle.host_net.specs.Host.{Host}
 use Rattle.table_core.specs.Listing.{each}
@@ -72,9 +72,6 @@ hosts_whole (h ∷ hs) all =
     )
 
 -- Each invariant is made of its assigns.
-abbrev known : Choice → List Given → Known
-known template assigns = record { template = template; assigns = assigns }
-
 is_invariant_of : (ts : List RawTemplate) (hosts : List Host) (i : RawInvariant) (k : Known) → known_of ts hosts i ≡ Some k → SaysAttributes ts hosts i → IsInvariantOf ts hosts i (made_of hosts k)
 unfolding known_of
 is_invariant_of ts hosts i k is says =
@@ -137,38 +134,33 @@ narrowed_whole hosts (w ∷ ws) between said =
     (narrowed_whole hosts ws behind later)
 
 -- Each flow is between two hosts, and none is listed twice.
-listed_by : (w : RawDescription) (asked : List Flow) → PassesUses w → asked ≡ set_of (filter_map (flow_of_names (network_hosts w)) w.flows) → IsSetOf (network_hosts w) w.flows asked
-listed_by w asked sound is =
-    let flows = filter_map (flow_of_names (network_hosts w)) w.flows in
-    let zipped = zip_some (flow_of_names (network_hosts w)) w.flows (all_between w sound) in
+asked_by : (w : RawDescription) (all : AreListed w) (given : Bool) → w.given ≡ given → asked_of w ≡ (if given then set_of all.flows else every_flow (length w.hosts))
+asked_by w all given is = all.asked ∙ ap (λ b. if b then set_of all.flows else every_flow (length w.hosts)) is
+
+set_of_listed : (w : RawDescription) (all : AreListed w) → w.given ≡ true → IsSetOf (network_hosts w) w.flows (asked_of w)
+set_of_listed w all given =
+    let asked : asked_of w ≡ set_of all.flows = asked_by w all true given in
     record {
-      flows = flows;
-      each = zipped;
-      same = λ f. rw is (has-set_of flows f);
-      count = rw is (length-set_of flows (flows_once (network_hosts w) w.flows sound.different) ∙ zip_length (λ names flow. flow_of_names (network_hosts w) names ≡ Some flow) w.flows flows zipped);
+      flows = all.flows;
+      each = all.named;
+      same = λ f. rw asked (has-set_of all.flows f);
+      count = rw asked (length-set_of all.flows all.different ∙ AllZip-long (λ names flow. flow_of_names (network_hosts w) names ≡ Some flow) w.flows all.flows all.named);
     }
-
-asked_listed : (w : RawDescription) → w.given ≡ true → asked_of w ≡ set_of (filter_map (flow_of_names (network_hosts w)) w.flows)
-unfolding asked_of
-asked_listed w given = rw given refl
-
-asked_every : (w : RawDescription) → w.given ≡ false → asked_of w ≡ every_flow (length w.hosts)
-unfolding asked_of
-asked_every w given = rw given refl
 
 pub IsWhole-network_of : (w : RawDescription) → first_of (host_conditions w) ≡ None → first_of (use_conditions w) ≡ None → IsWhole w (network_of w)
 unfolding network_of network_hosts services_in
 IsWhole-network_of w no_host no_use =
     let sound = PassesUses-uses w no_use in
+    let all = are_listed w sound in
     record {
       hosts = hosts_whole w.hosts (all_prefixes w no_host);
       invariants = invariants_whole w sound;
       given = refl;
       answers = refl;
       sized = sym (length-network_hosts w);
-      listed = λ given. listed_by w (asked_of w) sound (asked_listed w given);
-      every = λ given. rw (asked_every w given, length-network_hosts w) (IsFull-every_flow (length w.hosts));
-      services = narrowed_whole (network_hosts w) w.flows (all_between w sound) sound.services;
+      listed = λ given. set_of_listed w all given;
+      every = λ given. rw (asked_by w all false given, length-network_hosts w) (IsFull-every_flow (length w.hosts));
+      services = narrowed_whole (network_hosts w) w.flows (zip_there (flow_of_names (network_hosts w)) w.flows all.flows all.named) sound.services;
       lawful = all_lawful w sound.declared sound.lawful;
     }
 

@@ -3,12 +3,9 @@ use Rattle.std.proofs.lemmas.Result.{err_from_is_err_and}
 use Rattle.std.specs.Prelude.{All}
 use Rattle.desc_core.proofs.KnownLaws.{are_flows}
 use Rattle.desc_core.proofs.MakeableLaws.{known_makeable}
-use Rattle.desc_core.proofs.NetworkLemmas.{asked_fails, asked_made, network_read, none_before, refused_before, refused_services, refused_templates}
-use Rattle.desc_core.proofs.ServicesLemmas.{all_different, all_few}
-use Rattle.desc_core.proofs.ServicesWalk.{as_many_written}
+use Rattle.desc_core.proofs.NetworkLemmas.{asked_fails, asked_made, network_read, none_to_itself, refused_before, refused_services, refused_templates}
+use Rattle.desc_core.proofs.ServicesLemmas.{all_different, all_few, as_many_written}
 use Rattle.desc_core.specs.inner.KnownView.{known_view}
-use Rattle.desc_core.specs.inner.Parts.{bad_known, self_found}
-use Rattle.desc_core.specs.UseConditions.{duplicate_assign}
 use Rattle.desc_form.specs.inner.RawView.{raw_view}
 use Rattle.flow_set.specs.Flow.{IsFlow}
 use Rattle.text_core.proofs.FirstsLaws.{neither}
@@ -22,8 +19,8 @@ returns-in-Some c =
 pub asked_flows-requires-clause-flows : goal.asked_flows-requires-clause-flows
 asked_flows-requires-clause-flows c =
     let w = raw_view c.args.written.now in
-    let parts = none_before (duplicate_assign w) (bad_known c.args.hosts (map known_view c.args.invariants.now)) (self_found c.args.flows.now) (sym c.in_ok-refusal.ensures ∙ c.in_default.is) in
-    subst (λ (n : ℕ). All (IsFlow n) c.args.flows.now) (sym c.count.ensures.value) (are_flows c.args.hosts w.flows c.args.flows.now c.requires.found parts.1)
+    let apart = none_to_itself w c.args.hosts (map known_view c.args.invariants.now) c.args.flows.now (sym c.in_ok-refusal.ensures ∙ c.in_default.is) in
+    subst (λ (n : ℕ). All (IsFlow n) c.args.flows.now) (sym c.count.ensures.value) (are_flows c.args.hosts w.flows c.args.flows.now c.requires.found apart)
 
 pub returns-in_err-asked : goal.returns-in_err-asked
 returns-in_err-asked c =

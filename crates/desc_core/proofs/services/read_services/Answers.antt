@@ -1,6 +1,5 @@
 use Rattle.std.proofs.Common.{get_or, map, refl, arith}
-use Rattle.desc_core.proofs.ServicesLemmas.{at_first}
-use Rattle.desc_core.proofs.ServicesWalk.{few_behind, left_behind, none_here}
+use Rattle.desc_core.proofs.ServicesLemmas.{at_first, few_behind, left_behind, none_here}
 use Rattle.desc_core.specs.inner.Parts.{narrowed_among}
 use Rattle.desc_form.specs.inner.RawView.{flow_view}
 use Rattle.flow_set.specs.declared.flow.Flow.{Flow}
