@@ -48,7 +48,7 @@ Came s shelf out err file outcomes = CameFrom s shelf out err (reads Description
 -- The status of a description that stops a run.
 stop_of : (seen : ShelfChange) (file : List ℕ) (P : Status → Type 0) (given : Reply) → P status.ReadFault → P status.Memory → P status.BadDescription
     → StopsRunAt seen Description file given → P given.status
-stop_of seen file P given unread memory refused (NoMemory begins is) = subst (λ (r : Reply). P r.status) (sym is) memory
+stop_of seen file P given unread memory refused (NoMemory began is) = subst (λ (r : Reply). P r.status) (sym is) memory
 stop_of seen file P given unread memory refused (Stopped None last is) = subst (λ (r : Reply). P r.status) (sym is) unread
 stop_of seen file P given unread memory refused (Stopped (Some bytes) last is) = subst (λ (r : Reply). P r.status) (sym is.replied) refused
 
@@ -111,7 +111,7 @@ module _ (s : Status) (shelf : ShelfChange) (out err : SinkChange) (second : Kin
     held = on.held;
     said = on.said;
     read = on.read;
-    so = other_read on.said on.after on.took.told on.next;
+    so = other_read on.said on.after on.took.began.told on.next;
   }
 
 compare_done : (out err : SinkChange) (d : Described) (rules : Rules) → HoldsAtOutcome status.Done out err (compare_outcomes d rules)

@@ -12,6 +12,7 @@ use Rattle.topos_top.specs.declared.status.Status.{Status}
 use Rattle.topos_top.specs.declared.status.Status.TheVariants as status
 use Rattle.topos_top.specs.declared.status.Stream.{Stream}
 use Rattle.topos_top.specs.declared.status.Stream.TheVariants.{Output, Errors}
+use Rattle.topos_top.proofs.CommandPlanLaws.{FilesStay, files_stay, unchanged}
 use Rattle.topos_top.proofs.OutcomesLaws.{from_one, is_end}
 use Rattle.topos_top.proofs.RunLaws.{ends_in_error, stop_status}
 use Rattle.query_top.specs.Command.{Command, ParseAsNothing}
@@ -37,7 +38,7 @@ no_usage out err outcomes owed gave =
 
 -- A file that stops a run has its reply on the error stream.
 stop_stream : (seen : ShelfChange) (kind : Kind) (file : List ℕ) (given : Reply) → StopsRunAt seen kind file given → given.stream ≡ Errors
-stop_stream seen kind file given (NoMemory begins is) = ap (λ (r : Reply). r.stream) is
+stop_stream seen kind file given (NoMemory began is) = ap (λ (r : Reply). r.stream) is
 stop_stream seen kind file given (Stopped None last is) = ap (λ (r : Reply). r.stream) is
 stop_stream seen kind file given (Stopped (Some bytes) last is) = ap (λ (r : Reply). r.stream) is.replied
 
@@ -57,6 +58,13 @@ no_fault s (inl done) cut = cc (done, cut)
 no_fault s (inr violated) cut = cc (violated, cut)
 
 module _ (words : List (List ℕ)) (shelf : ShelfChange) (out err : SinkChange) (s : Status) (gave : DeliversReply words shelf out err s) where
+  -- The files are unchanged, and the count of faults did not decrease.
+  pub shelf_stays : FilesStay shelf.before shelf.after
+  shelf_stays = elim gave.allowed [
+    | inl nothing ↦ unchanged shelf.before shelf.after nothing.2
+    | inr asks ↦ files_stay shelf.only_failures true (plan_of asks.0) shelf.before shelf.after gave.reply asks.2
+  ]
+
   in_error : (ended : Status) (line : List ℕ) → gave.reply ≡ error ended line → (s ≡ ended) × (out.held_after ≡ out.held_before) × IsWrittenUpToFault err line
   in_error ended line is = ends_in_error out err s gave.reply ended line is gave.given
 

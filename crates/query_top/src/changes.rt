@@ -1,6 +1,6 @@
 //! `changes OLD NEW`: the packets that the policies of two descriptions treat differently.
 
-ghost use Rattle.std.specs.Prelude.{◌≡◌, ◌≤◌, Bool, IfOk, length, not, true, if◌then◌else◌};
+ghost use Rattle.std.specs.Prelude.{◌≡◌, Bool, IfOk, length, not, true, if◌then◌else◌};
 ghost use Rattle.net_core.specs.Policies.{IsPolicyOf};
 ghost use Rattle.query_core.specs.Json.{is_nothing};
 ghost use Rattle.query_core.specs.Weakening.{IsWeakening};
@@ -31,9 +31,7 @@ pub fn reply<'a, H: Shelf>(
     new: &'a str,
     shelf: &mut H,
 ) -> Result<Answer<'a>, Answer<'a>>
-    ensures files_unchanged { H.files shelf.new ≡ H.files shelf.old }
-    ensures faults_monotone { H.faults shelf.old ≤ H.faults shelf.new }
-    ensures reply { IsPossibleReply true (plan_of (Changes old.now new.now))
+    ensures { IsPossibleReply true (plan_of (Changes old.now new.now))
         (shelf_change H.Shelf shelf.old shelf.new) (reply_in result) }
 {
     let description = read_description(alloc, old, shelf)?;
@@ -47,9 +45,7 @@ fn reply_from<'a, H: Shelf>(
     new: &'a str,
     shelf: &mut H,
 ) -> Result<Answer<'a>, Answer<'a>>
-    ensures files_unchanged { H.files shelf.new ≡ H.files shelf.old }
-    ensures faults_monotone { H.faults shelf.old ≤ H.faults shelf.new }
-    ensures reply { IsPossibleReply true (reads kind.Description new.now (λ d. ends (changes_outcomes old.now d)))
+    ensures { IsPossibleReply true (reads kind.Description new.now (λ d. ends (changes_outcomes old.now d)))
         (shelf_change H.Shelf shelf.old shelf.new) (reply_in result) }
 {
     let description = read_description(alloc, new, shelf)?;

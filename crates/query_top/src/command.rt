@@ -1,11 +1,12 @@
 //! The question of a command line.
 
 ghost use Rattle.std.specs.Prelude.{◌≡◌, map, string_bytes, option_map};
-ghost use Rattle.topos_top.specs.inner.Command.{two_words};
-ghost use Rattle.query_top.specs.inner.Command.{among, command_of, forms};
+ghost use Rattle.topos_top.specs.inner.Forms.{among};
+ghost use Rattle.query_top.specs.Command.{usage_text};
+ghost use Rattle.query_top.specs.inner.Command.{command_of, forms};
 ghost use Rattle.query_top.specs.inner.Views.{command_view};
 
-use topos_top::{Dialect, one_word, three_words};
+use topos_top::{Dialect, one_word, three_words, two_words};
 
 /// A question: a variant for each form, with all its words.
 #[derive(Clone, Copy)]
@@ -20,6 +21,18 @@ pub enum Command<'a> {
     Compare(Dialect, &'a str, &'a str),
     /// `changes OLD NEW`: the packets that the policies of two descriptions treat differently.
     Changes(&'a str, &'a str),
+}
+
+/// Returns the forms of the command line.
+#[tactic(auto, unfolding(crate::specs::Command::usage_text))]
+pub fn usage() -> &'static [u8]
+    ensures { result.now ≡ usage_text }
+{
+    b"usage: topos-query why FILE FROM TO\n\
+    \x20      topos-query network FILE\n\
+    \x20      topos-query flows iptables|openflow FILE RULES\n\
+    \x20      topos-query compare iptables|openflow FILE RULES\n\
+    \x20      topos-query changes OLD NEW\n"
 }
 
 /// Returns the question of the words, or `None` if they are no form.
@@ -56,15 +69,5 @@ fn parse_after_verb<'a>(verb: &str, rest: &'a [String]) -> Option<Command<'a>>
             Some(Command::Changes(old, new))
         }
         _ => None,
-    }
-}
-
-// Returns the two words, if there are exactly two.
-fn two_words(words: &[String]) -> Option<(&str, &str)>
-    ensures { option_map (λ pair. (pair.0.now, pair.1.now)) result ≡ two_words (map string_bytes words.now) }
-{
-    match words {
-        [first, second] => Some((first.as_str(), second.as_str())),
-        [] | [_] | [_, _, _, ..] => None,
     }
 }

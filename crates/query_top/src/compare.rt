@@ -1,9 +1,7 @@
 //! `compare iptables|openflow FILE RULES`: whether rules do what the policy of a network says, for each pair of owners.
 
-ghost use Rattle.std.specs.Prelude.{◌≡◌, ◌≤◌, All, IfOk, true};
-ghost use Rattle.audit_core.specs.Rules.{filter_of};
+ghost use Rattle.std.specs.Prelude.{◌≡◌, All, IfOk, true};
 ghost use Rattle.audit_core.specs.RulesView.{rules_of};
-ghost use Rattle.audit_core.specs.Verdicts.{GivesOne};
 ghost use Rattle.query_core.specs.inner.Fitting.{FitsDifference};
 ghost use Rattle.topos_top.specs.Audit.{rules_in};
 ghost use Rattle.topos_top.specs.CommandPlan.{reads, ends};
@@ -17,7 +15,6 @@ ghost use Rattle.query_top.specs.Commands.{plan_of};
 ghost use Rattle.query_top.specs.Compare.{compare_outcomes};
 ghost use Rattle.query_top.specs.inner.Replies.{differences_reply};
 
-use crate::rules::text_of;
 use audit_core::{Difference, compare_pairs};
 use desc_core::Description;
 use edge_io::Shelf;
@@ -35,9 +32,7 @@ pub fn reply<'a, H: Shelf>(
     rules: &'a str,
     shelf: &mut H,
 ) -> Result<Answer<'a>, Answer<'a>>
-    ensures files_unchanged { H.files shelf.new ≡ H.files shelf.old }
-    ensures faults_monotone { H.faults shelf.old ≤ H.faults shelf.new }
-    ensures reply { IsPossibleReply true (plan_of (Compare dialect file.now rules.now))
+    ensures { IsPossibleReply true (plan_of (Compare dialect file.now rules.now))
         (shelf_change H.Shelf shelf.old shelf.new) (reply_in result) }
 {
     let description = read_description(alloc, file, shelf)?;
@@ -52,25 +47,22 @@ fn reply_for<'a, H: Shelf>(
     rules: &'a str,
     shelf: &mut H,
 ) -> Result<Answer<'a>, Answer<'a>>
-    ensures files_unchanged { H.files shelf.new ≡ H.files shelf.old }
-    ensures faults_monotone { H.faults shelf.old ≤ H.faults shelf.new }
-    ensures reply { IsPossibleReply true (reads (kind.Rules dialect) rules.now (λ said. ends (compare_outcomes description.now (rules_in dialect said))))
+    ensures { IsPossibleReply true (reads (kind.Rules dialect) rules.now (λ said. ends (compare_outcomes description.now (rules_in dialect said))))
         (shelf_change H.Shelf shelf.old shelf.new) (reply_in result) }
 {
     let rules = read_rules(alloc, dialect, rules, shelf)?;
     Answer::of_outcomes(answer(alloc, description, &rules))
 }
 
-// Returns the answer for the rules. They have one verdict for every packet in each state.
+// Returns the answer for the rules.
 fn answer<'a>(
     alloc: Global,
     description: &Description,
     rules: &Rules,
 ) -> Result<Answer<'a>, AllocError>
-    requires { GivesOne (filter_of (rules_view rules.now)) }
     ensures { IfOk result (λ answer. Answers true (compare_outcomes description.now (rules_view rules.now)) (reply_view answer)) }
 {
-    comparison(alloc, description, text_of(rules))
+    comparison(alloc, description, rules.audited())
 }
 
 fn comparison<'a>(
@@ -78,9 +70,10 @@ fn comparison<'a>(
     description: &Description,
     rules: audit_core::Text<'_>,
 ) -> Result<Answer<'a>, AllocError>
-    requires { GivesOne (filter_of (rules_of rules)) }
     ensures { IfOk result (λ answer. Answers true (compare_outcomes description.now (rules_of rules.entry)) (reply_view answer)) }
 {
+    // The call establishes that the rules have one verdict for each packet in each state.
+    let _ = rules.rules();
     let policy = policy_of(alloc, description)?;
     let differences = compare_pairs(alloc, &policy_between(description, &policy), &rules)?;
     differences_answer(alloc, description.hosts(), &differences)

@@ -1,6 +1,6 @@
 //! `flows iptables|openflow FILE RULES`: what rules let pass between the hosts of a network.
 
-ghost use Rattle.std.specs.Prelude.{◌≡◌, ◌≤◌, IfOk, true};
+ghost use Rattle.std.specs.Prelude.{IfOk, true};
 ghost use Rattle.audit_core.specs.RulesView.{rules_of};
 ghost use Rattle.topos_top.specs.Audit.{rules_in};
 ghost use Rattle.topos_top.specs.CommandPlan.{reads, ends};
@@ -13,7 +13,6 @@ ghost use Rattle.query_top.specs.Command.{Flows};
 ghost use Rattle.query_top.specs.Commands.{plan_of};
 ghost use Rattle.query_top.specs.Flows.{IsFlowsAnswer, flows_outcomes};
 
-use crate::rules::text_of;
 use decide_core::{dead_places, flows_by_pairs};
 use edge_io::Shelf;
 use host_net::Hosts;
@@ -29,9 +28,7 @@ pub fn reply<'a, H: Shelf>(
     rules: &'a str,
     shelf: &mut H,
 ) -> Result<Answer<'a>, Answer<'a>>
-    ensures files_unchanged { H.files shelf.new ≡ H.files shelf.old }
-    ensures faults_monotone { H.faults shelf.old ≤ H.faults shelf.new }
-    ensures reply { IsPossibleReply true (plan_of (Flows dialect file.now rules.now))
+    ensures { IsPossibleReply true (plan_of (Flows dialect file.now rules.now))
         (shelf_change H.Shelf shelf.old shelf.new) (reply_in result) }
 {
     let description = read_description(alloc, file, shelf)?;
@@ -46,9 +43,7 @@ fn reply_for<'a, H: Shelf>(
     rules: &'a str,
     shelf: &mut H,
 ) -> Result<Answer<'a>, Answer<'a>>
-    ensures files_unchanged { H.files shelf.new ≡ H.files shelf.old }
-    ensures faults_monotone { H.faults shelf.old ≤ H.faults shelf.new }
-    ensures reply { IsPossibleReply true (reads (kind.Rules dialect) rules.now (λ said. ends (flows_outcomes hosts.now (rules_in dialect said))))
+    ensures { IsPossibleReply true (reads (kind.Rules dialect) rules.now (λ said. ends (flows_outcomes hosts.now (rules_in dialect said))))
         (shelf_change H.Shelf shelf.old shelf.new) (reply_in result) }
 {
     let rules = read_rules(alloc, dialect, rules, shelf)?;
@@ -58,7 +53,7 @@ fn reply_for<'a, H: Shelf>(
 fn answer<'a>(alloc: Global, hosts: &Hosts, rules: &Rules) -> Result<Answer<'a>, AllocError>
     ensures { IfOk result (λ answer. Answers true (flows_outcomes hosts.now (rules_view rules.now)) (reply_view answer)) }
 {
-    let text = flows_text(alloc, hosts, text_of(rules))?;
+    let text = flows_text(alloc, hosts, rules.audited())?;
     Ok(Answer::done(Text::Bytes(text)))
 }
 

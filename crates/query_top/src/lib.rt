@@ -11,11 +11,9 @@ mod changes;
 mod command;
 mod commands;
 mod compare;
-mod ending;
 mod flows;
 mod network;
 mod program;
-mod rules;
 mod why;
 
 pub use program::run;

@@ -1,6 +1,6 @@
 //! `network FILE`: all that the description and its policy say of hosts, invariants and flows.
 
-ghost use Rattle.std.specs.Prelude.{◌≡◌, ◌≤◌, IfOk, true};
+ghost use Rattle.std.specs.Prelude.{IfOk, true};
 ghost use Rattle.topos_top.specs.Outcomes.{Answers};
 ghost use Rattle.topos_top.specs.Replies.{IsPossibleReply};
 ghost use Rattle.topos_top.specs.Shelf.{shelf_change};
@@ -22,9 +22,7 @@ pub fn reply<'a, H: Shelf>(
     file: &'a str,
     shelf: &mut H,
 ) -> Result<Answer<'a>, Answer<'a>>
-    ensures files_unchanged { H.files shelf.new ≡ H.files shelf.old }
-    ensures faults_monotone { H.faults shelf.old ≤ H.faults shelf.new }
-    ensures reply { IsPossibleReply true (plan_of (Network file.now))
+    ensures { IsPossibleReply true (plan_of (Network file.now))
         (shelf_change H.Shelf shelf.old shelf.new) (reply_in result) }
 {
     let description = read_description(alloc, file, shelf)?;

@@ -1,20 +1,20 @@
 //! The whole program, over any shelf of files and any two sinks.
 
 ghost use Rattle.std.specs.Prelude.{◌≡◌, ◌≢◌, ◌≤◌, ◌↔◌, ◌⊎◌, None, map, string_bytes};
+ghost use Rattle.topos_top.specs.Promises.{HasCauses};
 ghost use Rattle.topos_top.specs.Shelf.{shelf_change};
 ghost use Rattle.topos_top.specs.SinkChanges.{sink_change};
+ghost use Rattle.topos_top.specs.inner.Views.{reply_view};
 ghost use Rattle.query_top.specs.Command.{Command, ParseAs, ParseAsNothing};
 ghost use Rattle.query_top.specs.Promises.{DeliversReply, HasCause, HasRules, IsComplete, AnswersQuestion, OutputsDifferences};
 ghost use Rattle.query_top.specs.inner.Command.{command_of};
 ghost use Rattle.query_top.specs.inner.Replies.{AllowsReplyTo};
-ghost use Rattle.query_top.specs.inner.Views.{ending_view};
 
-use crate::command::parse_command;
+use crate::command::{parse_command, usage};
 use crate::commands::reply;
-use crate::ending::{Ending, deliver};
 use edge_io::{Shelf, Sink};
 use std::alloc::Global;
-use topos_top::Status;
+use topos_top::{Answer, Status, Text, deliver};
 
 /// Answers the question of the words: reads its files off the shelf, and writes the answer to `out`, or to `err` the
 /// line that says why there is none. All memory is taken before the first byte is written.
@@ -38,31 +38,9 @@ pub fn run<H: Shelf, O: Sink, E: Sink>(
     ensures usage_opens_no_file { result ≡ Status.Usage → shelf.new ≡ shelf.old }
 
     // Each other status has its cause.
-    ensures read_fault { result ≡ Status.ReadFault → HasCause Status.ReadFault (map string_bytes words.now)
+    ensures causes { HasCauses (λ status. HasCause status (map string_bytes words.now)
         (shelf_change H.Shelf shelf.old shelf.new)
-        (sink_change O.Sink out.old out.new) (sink_change E.Sink err.old err.new) }
-    ensures bad_description { result ≡ Status.BadDescription → HasCause Status.BadDescription (map string_bytes words.now)
-        (shelf_change H.Shelf shelf.old shelf.new)
-        (sink_change O.Sink out.old out.new) (sink_change E.Sink err.old err.new) }
-    ensures not_emittable { result ≡ Status.NotEmittable → HasCause Status.NotEmittable (map string_bytes words.now)
-        (shelf_change H.Shelf shelf.old shelf.new)
-        (sink_change O.Sink out.old out.new) (sink_change E.Sink err.old err.new) }
-    ensures write_fault { result ≡ Status.WriteFault → HasCause Status.WriteFault (map string_bytes words.now)
-        (shelf_change H.Shelf shelf.old shelf.new)
-        (sink_change O.Sink out.old out.new) (sink_change E.Sink err.old err.new) }
-    ensures memory { result ≡ Status.Memory → HasCause Status.Memory (map string_bytes words.now)
-        (shelf_change H.Shelf shelf.old shelf.new)
-        (sink_change O.Sink out.old out.new) (sink_change E.Sink err.old err.new) }
-    ensures done { result ≡ Status.Done → HasCause Status.Done (map string_bytes words.now)
-        (shelf_change H.Shelf shelf.old shelf.new)
-        (sink_change O.Sink out.old out.new) (sink_change E.Sink err.old err.new) }
-
-    ensures violated { result ≡ Status.Violated → HasCause Status.Violated (map string_bytes words.now)
-        (shelf_change H.Shelf shelf.old shelf.new)
-        (sink_change O.Sink out.old out.new) (sink_change E.Sink err.old err.new) }
-    ensures bad_text { result ≡ Status.BadText → HasCause Status.BadText (map string_bytes words.now)
-        (shelf_change H.Shelf shelf.old shelf.new)
-        (sink_change O.Sink out.old out.new) (sink_change E.Sink err.old err.new) }
+        (sink_change O.Sink out.old out.new) (sink_change E.Sink err.old err.new)) result }
 
     // An answer on the output is the one to the question, for the network that the file describes.
     ensures answered { result ≡ Status.Done → (command : Command) → ParseAs (map string_bytes words.now) command
@@ -84,23 +62,21 @@ pub fn run<H: Shelf, O: Sink, E: Sink>(
     ensures complete { IsComplete (map string_bytes words.now) (shelf_change H.Shelf shelf.old shelf.new)
         (sink_change O.Sink out.old out.new) (sink_change E.Sink err.old err.new) result }
 {
-    let ending = ending_for(alloc, words, shelf);
-    deliver(&ending, out, err)
+    let answer = answer_to(alloc, words, shelf);
+    deliver(&answer, out, err)
 }
 
-// Returns how the run ends for the words, with their files taken off the shelf.
-fn ending_for<'a, H: Shelf>(alloc: Global, words: &'a [String], shelf: &mut H) -> Ending<'a>
-    ensures files_unchanged { H.files shelf.new ≡ H.files shelf.old }
-    ensures faults_monotone { H.faults shelf.old ≤ H.faults shelf.new }
+// Returns the reply to the words, with their files taken off the shelf.
+fn answer_to<'a, H: Shelf>(alloc: Global, words: &'a [String], shelf: &mut H) -> Answer<'a>
     ensures reply { AllowsReplyTo (command_of (map string_bytes words.now))
-        (shelf_change H.Shelf shelf.old shelf.new) (ending_view result) }
+        (shelf_change H.Shelf shelf.old shelf.new) (reply_view result) }
     ensures opens_no_file { command_of (map string_bytes words.now) ≡ None → shelf.new ≡ shelf.old }
 {
     match parse_command(words) {
-        None => Ending::Usage,
+        None => Answer::error(Status::Usage, Text::Fixed(usage())),
         Some(command) => match reply(alloc, command, shelf) {
-            Ok(answer) => Ending::Answer(answer),
-            Err(answer) => Ending::Answer(answer),
+            Ok(answer) => answer,
+            Err(answer) => answer,
         },
     }
 }

@@ -1,6 +1,6 @@
 //! `why FILE FROM TO`: why a flow is permitted, denied or without answers.
 
-ghost use Rattle.std.specs.Prelude.{◌≡◌, ◌≤◌, IfOk, length, true};
+ghost use Rattle.std.specs.Prelude.{◌≡◌, IfOk, length, true};
 ghost use Rattle.flow_set.specs.Flow.{IsFlow};
 ghost use Rattle.topos_top.specs.Outcomes.{Answers};
 ghost use Rattle.topos_top.specs.Replies.{IsPossibleReply};
@@ -26,9 +26,7 @@ pub fn reply<'a, H: Shelf>(
     to: &str,
     shelf: &mut H,
 ) -> Result<Answer<'a>, Answer<'a>>
-    ensures files_unchanged { H.files shelf.new ≡ H.files shelf.old }
-    ensures faults_monotone { H.faults shelf.old ≤ H.faults shelf.new }
-    ensures reply { IsPossibleReply true (plan_of (Why file.now from.now to.now))
+    ensures { IsPossibleReply true (plan_of (Why file.now from.now to.now))
         (shelf_change H.Shelf shelf.old shelf.new) (reply_in result) }
 {
     let description = read_description(alloc, file, shelf)?;

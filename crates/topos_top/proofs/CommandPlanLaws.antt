@@ -9,9 +9,9 @@ use Rattle.topos_top.specs.CommandPlan.{CommandPlan, reads, ends, HoldsAtStop}
 use Rattle.topos_top.specs.Outcomes.{Outcomes, Answers, AnswersFirst}
 use Rattle.topos_top.specs.FileFormats.{format_of}
 use Rattle.topos_top.specs.inner.Reads.{MayRead}
-use Rattle.topos_top.specs.Replies.{Stops, NoMemory, Stopped, IsPossibleReply}
+use Rattle.topos_top.specs.Replies.{Stops, StopsRunAt, NoMemory, Stopped, IsPossibleReply}
 use Rattle.topos_top.specs.Reply.{Reply, no_memory}
-use Rattle.topos_top.specs.Shelf.{Shelf, ShelfChange, ObservesFile, ConsumesBytes, taken_of}
+use Rattle.topos_top.specs.Shelf.{Shelf, ShelfChange, ObservesFile, BeganOne, ConsumesBytes, taken_of}
 use Rattle.topos_top.specs.inner.OutcomesReplies.{outcomes_reply}
 use Rattle.topos_top.specs.inner.Views.{reply_view}
 use Rattle.topos_top.specs.declared.answer.Answer.{Answer}
@@ -82,6 +82,29 @@ holds_at_stop only (reads kind file next) shelf HoldsAtFile HoldsAtFile' HoldsAt
 })
 holds_at_stop only (ends outcomes) shelf HoldsAtFile HoldsAtFile' HoldsAtOutcome HoldsAtOutcome' owed f j here = j outcomes shelf owed here
 
+-- ---- what never changes
+
+-- A file that stopped the run was opened.
+pub began_at : (seen : ShelfChange) (kind : Kind) (file : List ℕ) (given : Reply) → StopsRunAt seen kind file given → BeganOne seen.before seen.after
+began_at seen kind file given (NoMemory began is) = began
+began_at seen kind file given (Stopped saw last is) = last.began
+
+-- The files are unchanged, and the count of errors did not decrease.
+abbrev pub FilesStay : (before after : Shelf) → Type 0
+FilesStay before after = (after.told ≡ before.told) × (before.faults ≤ after.faults)
+
+pub unchanged : (before after : Shelf) → after ≡ before → FilesStay before after
+unchanged before after same = subst (λ (shelf : Shelf). FilesStay before shelf) (sym same) (refl, omega arith)
+
+pub files_stay : (only : Type 0) (on : Bool) (plan : CommandPlan) (before after : Shelf) (given : Reply) → IsPossibleReply on plan (between only before after) given → FilesStay before after
+files_stay only on (reads kind file next) before after given (inl stops) =
+    let began = began_at (between only before after) kind file given stops in
+    (began.told, began.faults_monotone)
+files_stay only on (reads kind file next) before after given (inr go) =
+    let rest = files_stay only on (next go.said) go.after after given go.next in
+    (rest.0 ∙ go.took.began.told, omega (arith, go.took.began.faults_monotone, rest.1))
+files_stay only on (ends outcomes) before after given here = unchanged before after here.0
+
 -- ---- if the files are observable
 
 -- A count that did not increase from an earlier moment did not increase from a later one.
@@ -106,19 +129,19 @@ abbrev after_file : Kind → List ℕ → Shelf → Shelf
 after_file kind bytes shelf = record { told = shelf.told; faults = shelf.faults; begins = more shelf.begins 1; taken = taken_of kind bytes }
 
 took_it : {only : Type 0} (kind : Kind) (bytes : List ℕ) (shelf : Shelf) → ConsumesBytes only kind bytes shelf (after_file kind bytes shelf)
-took_it kind bytes shelf = record { told = refl; faults_monotone = omega arith; no_fault = λ only. refl; begins = refl; taken = refl }
+took_it kind bytes shelf = record { began = record { told = refl; faults_monotone = omega arith; begins = refl }; no_fault = λ only. refl; taken = refl }
 
 -- The reply is an allocation failure, or the reply for the observable files.
 pub given_as_told : (only : Type 0) (on : Bool) (plan : CommandPlan) (before after other : Shelf) (files : Files) (given : Reply) → IsOwedAlong plan
     → before.told ≡ Some files → other.told ≡ Some files → (Rose before.faults after.faults → ⊥)
     → IsPossibleReply on plan (between only before after) given
     → (given ≡ no_memory) ⊎ HoldsAtStop (Unit {0}) plan other (λ kind file at. Stops kind file (get files file) given) (λ outcomes at. Answers on outcomes given × AnswersFirst outcomes given)
-given_as_told only on (reads kind file next) before after other files given owed told also no_fault (inl (NoMemory begins is)) = inl is
+given_as_told only on (reads kind file next) before after other files given owed told also no_fault (inl (NoMemory began is)) = inl is
 given_as_told only on (reads kind file next) before after other files given owed told also no_fault (inl (Stopped saw last stops)) =
     inr (inl (subst (λ (seen : Option (List ℕ)). Stops kind file seen given) (sym (seen_is_told (between only before after) files told no_fault file saw last.held)) stops))
 given_as_told only on (reads kind file next) before after other files given owed told also no_fault (inr go) =
     elim (given_as_told only on (next go.said) go.after after (after_file kind go.bytes other) files given
-    (owed go.said (IsSound-Reads kind go.bytes go.said go.read)) (go.took.told ∙ told) also (not_since before.faults go.after.faults after.faults go.took.faults_monotone no_fault) go.next) [
+    (owed go.said (IsSound-Reads kind go.bytes go.said go.read)) (go.took.began.told ∙ told) also (not_since before.faults go.after.faults after.faults go.took.began.faults_monotone no_fault) go.next) [
       | inl memory ↦ inl memory
       | inr rest ↦ inr (inr (record {
         bytes = go.bytes;
@@ -164,6 +187,6 @@ told_once on (reads kind file next) shelf other files r s owed told also (inr p)
     let b : get files file ≡ Some q.bytes = subst (λ (t : Option Files). IfSome t (λ fs. get fs file ≡ Some q.bytes)) also q.held in
     let bytes : q.bytes ≡ p.bytes = cc (a, b) in
     let said : q.said ≡ p.said = reads_once kind p.bytes q.said p.said (subst (λ (bs : List ℕ). (format_of kind).Reads bs q.said) bytes q.read) p.read in
-    told_once on (next p.said) p.after q.after files r s (owed p.said (IsSound-Reads kind p.bytes p.said p.read)) (p.took.told ∙ told) (q.took.told ∙ also) p.next
+    told_once on (next p.said) p.after q.after files r s (owed p.said (IsSound-Reads kind p.bytes p.said p.read)) (p.took.began.told ∙ told) (q.took.began.told ∙ also) p.next
     (subst (λ (x : (format_of kind).Said). HoldsAtStop (Unit {0}) (next x) q.after (λ kind file at. Stops kind file (get files file) s) (λ outcomes at. Answers on outcomes s × AnswersFirst outcomes s)) said q.next)
 told_once on (ends outcomes) shelf other files r s owed told also p q = answers_once on outcomes owed r s p q

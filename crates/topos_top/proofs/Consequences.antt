@@ -12,7 +12,7 @@ use Rattle.topos_top.specs.CommandPlan.{CommandPlan, reads, ends, HoldsAtStop}
 use Rattle.topos_top.specs.Outcomes.{Outcomes, Answers, AnswersFirst}
 use Rattle.topos_top.specs.FileFormats.{format_of}
 use Rattle.topos_top.specs.Promises.{HoldsAtFile, HoldsAtOutcome, HasCause, IsComplete}
-use Rattle.topos_top.specs.Replies.{Replies, RepliesTo, NoMemory, Stopped, Stops, StopsRunAt, observable_shelf}
+use Rattle.topos_top.specs.Replies.{Replies, RepliesTo, Stops, observable_shelf}
 use Rattle.topos_top.specs.Reply.{Reply}
 use Rattle.topos_top.specs.Shelf.{Shelf, ShelfChange, since}
 use Rattle.topos_top.specs.SinkChanges.{SinkChange, IsWrittenTo, IsDelivered}
@@ -20,7 +20,7 @@ use Rattle.topos_top.specs.declared.kind.Kind.{Kind}
 use Rattle.topos_top.specs.declared.status.Status.{Status}
 use Rattle.topos_top.specs.declared.status.Status.TheVariants as status
 use Rattle.topos_top.proofs.ParseLaws.{one_ask}
-use Rattle.topos_top.proofs.CommandPlanLaws.{between, stops_once, stops_or_read}
+use Rattle.topos_top.proofs.CommandPlanLaws.{began_at, between, stops_once, stops_or_read}
 use Rattle.topos_top.proofs.KindLaws.{reads_once}
 
 -- ---- streams without errors
@@ -107,7 +107,7 @@ ends_by : (on : Bool) (plan : CommandPlan) (told : Files) (reply : Reply) (at : 
 ends_by on (ends outcomes) told reply at guarantees answers = (Ok [], refl, ends_as outcomes reply answers.1)
 ends_by on (reads kind file next) told reply at guarantees (inl stops) = (Err reply, inl (reply, stops, refl), refl)
 ends_by on (reads kind file next) told reply at guarantees (inr go) =
-    let rest = ends_by on (next go.said) told reply go.after (go.took.told ∙ guarantees) go.next in
+    let rest = ends_by on (next go.said) told reply go.after (go.took.began.told ∙ guarantees) go.next in
     let held = subst (λ (t : Option Files). IfSome t (λ files. get files file ≡ Some go.bytes)) guarantees go.held in (
       with_reading kind go.said rest.0,
       inr (record { bytes = go.bytes; held = held; said = go.said; reads = go.read; rest = rest.0; follow = rest.1; is = refl }),
@@ -168,11 +168,6 @@ begun_more b (suc n) = twice b n (2 ^ 64 - 1)
     twice : (b n most : ℕ) → min (min (b + 1) most + suc n) most ≡ min (b + suc (suc n)) most
     twice b n most = omega arith
 
--- A file that stopped the run was opened.
-began_at : (seen : ShelfChange) (kind : Kind) (file : List ℕ) (given : Reply) → StopsRunAt seen kind file given → seen.after.begins ≡ more seen.before.begins 1
-began_at seen kind file given (NoMemory begins is) = begins
-began_at seen kind file given (Stopped saw last is) = last.begins
-
 began_along : (only : Type 0) (plan : CommandPlan) (files : List (Kind × List ℕ)) (before after : Shelf) (Here : Kind → List ℕ → Shelf → Type 0) (There : Outcomes → Shelf → Type 0)
     → ((kind : Kind) (file : List ℕ) (at : Shelf) → Here kind file at → after.begins ≡ more at.begins 1) → HasFiles files plan
     → HoldsAtStop only plan before Here (λ outcomes at. (after ≡ at) × There outcomes at) → BeganSome (between only before after) files
@@ -180,7 +175,7 @@ began_along only (reads kind file next) (named ∷ files) before after Here Ther
     record { count = 1; some = omega arith; most = omega arith; begins = began kind file before here }
 began_along only (reads kind file next) (named ∷ files) before after Here There began has (inr on) =
     let rest = began_along only (next on.said) files on.after after Here There began (has.1 on.said) on.next in
-    record { count = suc rest.count; some = omega arith; most = omega arith; begins = rest.begins ∙ ap (λ (n : ℕ). begun n rest.count) on.took.begins ∙ begun_more before.begins rest.count }
+    record { count = suc rest.count; some = omega arith; most = omega arith; begins = rest.begins ∙ ap (λ (n : ℕ). begun n rest.count) on.took.began.begins ∙ begun_more before.begins rest.count }
 began_along only (ends outcomes) [] before after Here There began has here = record { count = 0; some = omega arith; most = omega arith; begins = ap (λ (shelf : Shelf). shelf.begins) here.0 }
 began_along only (reads kind file next) [] before after Here There began has came = absurd has
 began_along only (ends outcomes) (named ∷ files) before after Here There began has came = absurd has
@@ -190,4 +185,4 @@ pub began_some : (ended : Status) (words : List (List ℕ)) (shelf : ShelfChange
     → (files : List (Kind × List ℕ)) → HasFiles files (plan_of cause.command) → BeganSome shelf files
 began_some ended words shelf out err cause files has =
     began_along shelf.only_failures (plan_of cause.command) files shelf.before shelf.after (λ kind file at. HoldsAtFile ended err (since at shelf) kind file) (λ outcomes at. HoldsAtOutcome ended out err cause.command outcomes)
-    (λ kind file at here. began_at (since at shelf) kind file here.0 here.1) has cause.along
+    (λ kind file at here. (began_at (since at shelf) kind file here.0 here.1).begins) has cause.along

@@ -1,7 +1,7 @@
 -- The result of edits is unique, and their two outcomes are mutually exclusive.
-use Rattle.std.proofs.Common.{◌≡◌, ℕ, ◌+◌, List, [], ◌∷◌, ◌++◌, Ok, Err, inl, inr, false, refl, sym, subst, ◌∙◌, ap, append_assoc, append-nil}
+use Rattle.std.proofs.Common.{◌≡◌, ℕ, ◌+◌, List, [], ◌∷◌, ◌++◌, Ok, Err, inl, false, refl, sym, subst, ◌∙◌, ap, append_assoc, append-nil}
 use Rattle.desc_core.proofs.NetworkLaws.{IsNetwork-table}
-use Rattle.edit_core.specs.Runs.{AreSummaries, after_edits}
+use Rattle.edit_core.specs.Runs.{after_edits}
 use Rattle.edit_core.proofs.SummaryLaws.{summaries_are_one}
 use Rattle.edit_core.specs.declared.fault.EditWhy.{EditWhy}
 use Rattle.edit_core.specs.declared.summary.Summary.{Summary}
@@ -15,10 +15,8 @@ use Rattle.toml.specs.Data.{Members}
 use Rattle.topos_top.specs.Edit.{ReportsEdits, ReportsRefusal, ReportsTable, edit_outcomes, summary_line, summary_lines}
 use Rattle.topos_top.specs.Outcomes.{Answers}
 use Rattle.topos_top.specs.Reply.{Reply, error}
-use Rattle.topos_top.specs.inner.Views.{reply_on}
 use Rattle.topos_top.specs.TextFault.{edit_fault_line}
-use Rattle.topos_top.specs.declared.status.Status.TheVariants.{BadText, Done}
-use Rattle.topos_top.specs.declared.status.Stream.TheVariants.{Output}
+use Rattle.topos_top.specs.declared.status.Status.TheVariants.{BadText}
 
 -- ---- of one table
 
@@ -73,20 +71,12 @@ module _ (table : Members) (edits : List Edit) where
       let last = accepted.1 in
       cc (why, last)
 
-  -- ---- the result of the code
-
+  -- The reply of the code to a refused edit.
   pub ends_refused : (reply : Reply) (line : ℕ) (why : EditWhy) → after_edits edits table ≡ Err (line, why)
       → reply ≡ error BadText (edit_fault_line line why) → Answers false (edit_outcomes table edits) reply
   ends_refused reply line why refused is =
       let says : ReportsRefusal table edits (edit_fault_line line why) = record { number = line; why = why; refused = refused; told = refl } in
       subst (λ (r : Reply). Answers false (edit_outcomes table edits) r) (sym is) (refl, inl (refl, (tt, edit_fault_line line why, says), says))
-
-  pub ends_accepted : (reply : Reply) (last : Members) (summaries : List Summary) (text : List ℕ) → after_edits edits table ≡ Ok last
-      → AreSummaries edits table summaries → ReportsTable IsPolicyReport last summaries text → reply ≡ reply_on Done Output text
-      → Answers false (edit_outcomes table edits) reply
-  ends_accepted reply last summaries text accepted told says is =
-      let all : ReportsEdits IsPolicyReport table edits text = record { last = last; accepted = accepted; summaries = summaries; told = told; says = says } in
-      subst (λ (r : Reply). Answers false (edit_outcomes table edits) r) (sym is) (refl, inr (inl (refl, (last, accepted), all)))
 
 -- ---- lines, in sequence
 

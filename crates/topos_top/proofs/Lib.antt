@@ -5,6 +5,7 @@ pub mod LocalLaws
 pub mod AuditLaws
 pub mod EditLaws
 pub mod OutcomesLaws
+pub mod FormLaws
 pub mod ParseLaws
 pub mod CommandLaws
 pub mod CommandPlanLaws

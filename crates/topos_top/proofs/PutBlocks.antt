@@ -28,10 +28,6 @@ pub record IsSofar (old now : Option (List ℕ)) (lines : List (List ℕ)) (i : 
   pub put : now ≡ append_known old front
   pub all : concat (take i lines) ≡ front ++ waiting
 
--- Initially nothing.
-pub sofar_none : (old : Option (List ℕ)) (lines : List (List ℕ)) → old ≡ append_known old [] → IsSofar old old lines 0 []
-sofar_none old lines same = record { front = []; put = same; all = refl }
-
 -- The block is written.
 pub sofar_put : (old now new : Option (List ℕ)) (lines : List (List ℕ)) (i : ℕ) (waiting : List ℕ) → IsSofar old now lines i waiting → new ≡ append_known now waiting
     → IsSofar old new lines i []

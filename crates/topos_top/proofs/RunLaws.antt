@@ -4,7 +4,7 @@ use Rattle.std.specs.Prelude.{◌↔◌}
 use Rattle.topos_top.specs.Command.{Command, ParseAsNothing, ReportsViolationsOnOutput, reports_on_output}
 use Rattle.topos_top.specs.Commands.{plan_of}
 use Rattle.topos_top.specs.Outcomes.{Outcomes, Answers, AnyOutcome, EndsWithGuarantee, stream_of}
-use Rattle.topos_top.specs.Promises.{HoldsAtFile, HoldsAtOutcome, DeliversReply, HasCause}
+use Rattle.topos_top.specs.Promises.{HoldsAtFile, HoldsAtOutcome, DeliversReply, HasCause, HasCauses}
 use Rattle.topos_top.specs.Replies.{StopsRunAt, NoMemory, Stopped, IsPossibleReply}
 use Rattle.topos_top.specs.Reply.{Reply, error, no_memory, usage}
 use Rattle.topos_top.specs.Shelf.{Shelf, ShelfChange, since}
@@ -16,7 +16,7 @@ use Rattle.topos_top.specs.declared.status.Stream.{Stream}
 use Rattle.topos_top.specs.declared.status.Stream.TheVariants.{Output, Errors}
 use Rattle.topos_top.proofs.ParseLaws.{one_ask}
 use Rattle.topos_top.proofs.CommandLaws.{settled}
-use Rattle.topos_top.proofs.CommandPlanLaws.{wherever, holds_at_stop}
+use Rattle.topos_top.proofs.CommandPlanLaws.{FilesStay, holds_at_stop, files_stay, unchanged, wherever}
 use Rattle.topos_top.proofs.OutcomesLaws.{is_end, IsOwed, IsSettled, from_one, told_of, end_status}
 use Rattle.topos_top.proofs.KindLaws.{of_refused}
 
@@ -57,19 +57,39 @@ to_errors on s not_done not_reported = refl
 -- A file that stops a run has a reply with one of four statuses, for the error stream.
 pub stop_status : (seen : ShelfChange) (kind : Kind) (file : List ℕ) (P : Status → Type 0) (given : Reply) → P status.ReadFault → P status.Memory → P status.BadDescription → P status.BadText
     → StopsRunAt seen kind file given → P given.status
-stop_status seen kind file P given unread memory description text (NoMemory begins is) = subst (λ (r : Reply). P r.status) (sym is) memory
+stop_status seen kind file P given unread memory description text (NoMemory began is) = subst (λ (r : Reply). P r.status) (sym is) memory
 stop_status seen kind file P given unread memory description text (Stopped None last is) = subst (λ (r : Reply). P r.status) (sym is) unread
 stop_status seen kind file P given unread memory description text (Stopped (Some bytes) last is) =
     subst (λ (r : Reply). P r.status) (sym is.replied) (of_refused P description text kind)
 
 stop_stream : (seen : ShelfChange) (kind : Kind) (file : List ℕ) (given : Reply) → StopsRunAt seen kind file given → given.stream ≡ Errors
-stop_stream seen kind file given (NoMemory begins is) = ap (λ (r : Reply). r.stream) is
+stop_stream seen kind file given (NoMemory began is) = ap (λ (r : Reply). r.stream) is
 stop_stream seen kind file given (Stopped None last is) = ap (λ (r : Reply). r.stream) is
 stop_stream seen kind file given (Stopped (Some bytes) last is) = ap (λ (r : Reply). r.stream) is.replied
+
+-- A cause for each status except usage, one by one.
+pub each_cause : (Cause : Status → Type 0) (ended : Status) → ((t : Status) → (t ≡ status.Usage → ⊥) → ended ≡ t → Cause t) → HasCauses Cause ended
+each_cause Cause ended caused = record {
+  read_fault = caused status.ReadFault (λ e. cc e);
+  bad_description = caused status.BadDescription (λ e. cc e);
+  bad_text = caused status.BadText (λ e. cc e);
+  violated = caused status.Violated (λ e. cc e);
+  not_emittable = caused status.NotEmittable (λ e. cc e);
+  write_fault = caused status.WriteFault (λ e. cc e);
+  memory = caused status.Memory (λ e. cc e);
+  done = caused status.Done (λ e. cc e);
+}
 
 -- ---- the clauses
 
 module _ (words : List (List ℕ)) (shelf : ShelfChange) (out err : SinkChange) (s : Status) (gave : DeliversReply words shelf out err s) where
+  -- The files are unchanged, and the count of errors did not decrease.
+  pub shelf_stays : FilesStay shelf.before shelf.after
+  shelf_stays = elim gave.allowed [
+    | inl nothing ↦ unchanged shelf.before shelf.after nothing.2
+    | inr asks ↦ files_stay shelf.only_failures (reports_on_output asks.0) (plan_of asks.0) shelf.before shelf.after gave.reply asks.2
+  ]
+
   in_error : (ended : Status) (line : List ℕ) → gave.reply ≡ error ended line → (s ≡ ended) × (out.held_after ≡ out.held_before) × IsWrittenUpToFault err line
   in_error ended line is = ends_in_error out err s gave.reply ended line is gave.given
 

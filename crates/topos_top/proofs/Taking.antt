@@ -7,7 +7,6 @@ use Rattle.desc_core.specs.Description.{described}
 use Rattle.desc_core.specs.declared.fault.DescFault.{DescFault}
 use Rattle.desc_core.specs.declared.fault.DescFault.TheVariants as desc
 use Rattle.desc_form.specs.declared.refusal.Refusal.{Refusal}
-use Rattle.edge_io.specs.Counts.{more}
 use Rattle.edge_io.specs.Observable.{Files}
 use Rattle.report_core.specs.RefusalLine.{refusal_text}
 use Rattle.topos_top.specs.FileFormats.{format_of, IsNoDescription, IsRefused}
@@ -15,22 +14,20 @@ use Rattle.topos_top.specs.inner.Reads.{ConsumesFile}
 use Rattle.topos_top.specs.inner.Views.{description_reply}
 use Rattle.topos_top.specs.Replies.{StopsRunAt, NoMemory, Stopped}
 use Rattle.topos_top.specs.Reply.{Reply, error}
-use Rattle.topos_top.specs.Shelf.{ShelfChange, Holds}
+use Rattle.topos_top.specs.Shelf.{BeganOne, ShelfChange, Holds}
 use Rattle.topos_top.specs.declared.kind.Kind.{Kind}
 use Rattle.topos_top.specs.declared.status.Status.{Status}
 use Rattle.topos_top.specs.declared.status.Status.TheVariants.{BadDescription}
 
 -- A file that was read completely.
-pub took_whole : {E : Type 0} (kind : Kind) (file bytes : List ℕ) (shelf : ShelfChange) → Holds shelf.before file bytes → shelf.after.told ≡ shelf.before.told
-    → shelf.before.faults ≤ shelf.after.faults → (shelf.only_failures → E ⊎ (shelf.after.faults ≡ shelf.before.faults)) → (E → ⊥)
-    → shelf.after.begins ≡ more shelf.before.begins 1 → length bytes ≡ shelf.after.taken → length bytes ≤ (format_of kind).most → ConsumesFile shelf kind file bytes
-took_whole kind file bytes shelf held told faults_monotone fault none begins taken within = record {
+pub took_whole : {E : Type 0} (kind : Kind) (file bytes : List ℕ) (shelf : ShelfChange) → Holds shelf.before file bytes → BeganOne shelf.before shelf.after
+    → (shelf.only_failures → E ⊎ (shelf.after.faults ≡ shelf.before.faults)) → (E → ⊥)
+    → length bytes ≡ shelf.after.taken → length bytes ≤ (format_of kind).most → ConsumesFile shelf kind file bytes
+took_whole kind file bytes shelf held began fault none taken within = record {
   held = held;
   took = record {
-    told = told;
-    faults_monotone = faults_monotone;
+    began = began;
     no_fault = λ only. elim (fault only) [ inl e ↦ absurd (none e) | inr same ↦ same ];
-    begins = begins;
     taken = omega (arith, taken, within);
   };
 }
@@ -55,11 +52,11 @@ too_long_seen limit file (Some files) longer = told_longer limit (get files file
 -- A file of which one byte beyond the limit was read: an observable file is longer than the limit, and an unobservable one may be any file
 -- that is.
 pub took_too_much : (kind : Kind) (file : List ℕ) (shelf : ShelfChange) (given : Reply) → IfSome shelf.before.told (λ files. IsSomeAnd (get files file) (λ bytes. (format_of kind).most < length bytes))
-    → shelf.after.begins ≡ more shelf.before.begins 1 → shelf.after.taken ≡ (format_of kind).most + 1 → ((bytes : List ℕ) → (format_of kind).most < length bytes → IsRefused kind bytes given)
+    → BeganOne shelf.before shelf.after → shelf.after.taken ≡ (format_of kind).most + 1 → ((bytes : List ℕ) → (format_of kind).most < length bytes → IsRefused kind bytes given)
     → StopsRunAt shelf kind file given
-took_too_much kind file shelf given longer begins taken refused =
+took_too_much kind file shelf given longer began taken refused =
     let seen = too_long_seen (format_of kind).most file shelf.before.told longer in
-    Stopped (Some seen.0) (record { begins = begins; held = seen.1; taken = counted seen.0 seen.2 }) (refused seen.0 seen.2)
+    Stopped (Some seen.0) (record { began = began; held = seen.1; taken = counted seen.0 seen.2 }) (refused seen.0 seen.2)
   where
     counted : (bytes : List ℕ) → (format_of kind).most < length bytes → shelf.after.taken ≡ min (length bytes) ((format_of kind).most + 1)
     counted bytes longer = omega (arith, longer, taken)
@@ -67,7 +64,7 @@ took_too_much kind file shelf given longer begins taken refused =
 -- Bytes that are rejected.
 pub refused_whole : (kind : Kind) (file bytes : List ℕ) (shelf : ShelfChange) (given : Reply) → ConsumesFile shelf kind file bytes → IsRefused kind bytes given → StopsRunAt shelf kind file given
 refused_whole kind file bytes shelf given took refused =
-    Stopped (Some bytes) (record { begins = took.took.begins; held = took.held; taken = took.took.taken }) refused
+    Stopped (Some bytes) (record { began = took.took.began; held = took.held; taken = took.took.taken }) refused
 
 -- A description that is refused, or for which memory runs out.
 pub description_refused : (kind : Kind) → ((bytes line : List ℕ) → IsNoDescription bytes line → (format_of kind).Refuses bytes line) → (format_of kind).refused_as ≡ BadDescription
@@ -79,4 +76,4 @@ description_refused kind refuses status shelf file bytes (desc.Refused why) give
       refuses = refuses bytes (refusal_text why) (why, cause why refl, refl);
       replied = is ∙ ap (λ (ended : Status). error ended (refusal_text why)) (sym status);
     })
-description_refused kind refuses status shelf file bytes desc.Memory given took cause is = NoMemory took.took.begins is
+description_refused kind refuses status shelf file bytes desc.Memory given took cause is = NoMemory took.took.began is

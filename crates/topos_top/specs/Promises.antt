@@ -54,6 +54,17 @@ pub record HasCause (ended : Status) (words : List (List ℕ)) (shelf : ShelfCha
       (λ kind file before. HoldsAtFile ended err (since before shelf) kind file)
       (λ outcomes before. (shelf.after ≡ before) × HoldsAtOutcome ended out err command outcomes)
 
+-- Each status except usage has its cause.
+pub record HasCauses (Cause : Status → Type 0) (ended : Status) : Type 0 where
+  pub read_fault : ended ≡ status.ReadFault → Cause status.ReadFault
+  pub bad_description : ended ≡ status.BadDescription → Cause status.BadDescription
+  pub bad_text : ended ≡ status.BadText → Cause status.BadText
+  pub violated : ended ≡ status.Violated → Cause status.Violated
+  pub not_emittable : ended ≡ status.NotEmittable → Cause status.NotEmittable
+  pub write_fault : ended ≡ status.WriteFault → Cause status.WriteFault
+  pub memory : ended ≡ status.Memory → Cause status.Memory
+  pub done : ended ≡ status.Done → Cause status.Done
+
 -- ---- what commands write
 
 -- The file, as observed by the call, parses to a value for which `IsSo` holds.

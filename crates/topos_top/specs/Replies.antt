@@ -1,7 +1,6 @@
 -- The replies that a run may give, by its observations of its files; and the only reply if the files are observable.
 use Rattle.std.specs.Prelude.{◌≡◌, ℕ, ◌⊎◌, List, Option, None, Some, Bool, IfSome}
 use Rattle.std.specs.FinMap.{get}
-use Rattle.edge_io.specs.Counts.{more}
 use Rattle.edge_io.specs.Observable.{Files}
 use Rattle.topos_top.specs.Command.{Command, ParseAs, ParseAsNothing, reports_on_output}
 use Rattle.topos_top.specs.Commands.{plan_of}
@@ -9,7 +8,7 @@ use Rattle.topos_top.specs.CommandPlan.{CommandPlan, HoldsAtStop}
 use Rattle.topos_top.specs.Outcomes.{Answers, AnswersFirst}
 use Rattle.topos_top.specs.FileFormats.{IsRefused}
 use Rattle.topos_top.specs.Reply.{Reply, usage, cannot_read, no_memory}
-use Rattle.topos_top.specs.Shelf.{Shelf, ShelfChange, ObservesFile, since, taken_of}
+use Rattle.topos_top.specs.Shelf.{Shelf, ShelfChange, ObservesFile, BeganOne, since, taken_of}
 use Rattle.topos_top.specs.declared.kind.Kind.{Kind}
 
 -- A file ends the run with this reply, by the observation of it: its bytes, or `None` if it could not be read.
@@ -19,14 +18,14 @@ Stops kind file (Some bytes) given = IsRefused kind bytes given
 
 -- A file was opened, and none after it, and this was observed of it.
 pub record OpensLast (shelf : ShelfChange) (kind : Kind) (file : List ℕ) (saw : Option (List ℕ)) : Type 0 where
-  pub begins : shelf.after.begins ≡ more shelf.before.begins 1
+  pub began : BeganOne shelf.before shelf.after
   pub held : ObservesFile shelf file saw
   pub taken : IfSome saw (λ bytes. shelf.after.taken ≡ taken_of kind bytes)
 
 -- The reason why a file ends the run with this reply: memory for it ran out, or the reply follows from the observation
 -- of it.
 pub data StopsRunAt (shelf : ShelfChange) (kind : Kind) (file : List ℕ) (given : Reply) : Type 0 where
-  NoMemory : shelf.after.begins ≡ more shelf.before.begins 1 → given ≡ no_memory → StopsRunAt shelf kind file given
+  NoMemory : BeganOne shelf.before shelf.after → given ≡ no_memory → StopsRunAt shelf kind file given
   Stopped : (saw : Option (List ℕ)) → OpensLast shelf kind file saw → Stops kind file saw given → StopsRunAt shelf kind file given
 
 -- The reason why a command may give a reply: a file of its plan stopped it, or it reached its outcomes, for which no file is read. Memory

@@ -47,11 +47,15 @@ ObservesFile shelf name (Some bytes) = Holds shelf.before name bytes
 abbrev pub taken_of : Kind → List ℕ → ℕ
 taken_of kind bytes = min (length bytes) ((format_of kind).most + 1)
 
+-- One file was opened. The files are unchanged, and the count of errors did not decrease.
+pub record BeganOne (before after : Shelf) : Type 0 where
+  pub told : after.told ≡ before.told
+  pub faults_monotone : before.faults ≤ after.faults
+  pub begins : after.begins ≡ more before.begins 1
+
 -- A file with these bytes was read. No error was counted if the shelf counts only calls that fail; otherwise the call may have recovered
 -- from some errors.
 pub record ConsumesBytes (only_failures : Type 0) (kind : Kind) (bytes : List ℕ) (before after : Shelf) : Type 0 where
-  pub told : after.told ≡ before.told
-  pub faults_monotone : before.faults ≤ after.faults
+  pub began : BeganOne before after
   pub no_fault : only_failures → after.faults ≡ before.faults
-  pub begins : after.begins ≡ more before.begins 1
   pub taken : after.taken ≡ taken_of kind bytes

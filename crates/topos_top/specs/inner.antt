@@ -1,4 +1,5 @@
 pub mod Command
+pub mod Forms
 pub mod Blocks
 pub mod OutcomesReplies
 pub mod Local

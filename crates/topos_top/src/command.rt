@@ -2,7 +2,9 @@
 
 ghost use Rattle.std.specs.Prelude.{◌≡◌, ◌≤◌, map, string_bytes, option_map, IfSome};
 ghost use Rattle.host_net.specs.Limits.{host_limit};
-ghost use Rattle.topos_top.specs.inner.Command.{command_of, parse_host_count, among, forms, one_word, two_words, three_words};
+ghost use Rattle.topos_top.specs.Command.{usage_text};
+ghost use Rattle.topos_top.specs.inner.Command.{command_of, parse_host_count, forms};
+ghost use Rattle.topos_top.specs.inner.Forms.{among, one_word, two_words, three_words};
 ghost use Rattle.topos_top.specs.inner.Views.{command_view, IsWithinHosts};
 
 use crate::dialect::Dialect;
@@ -33,6 +35,23 @@ pub enum Command<'a> {
     Edit(&'a str, &'a str),
     /// `local FILE HOST`: the rules for the machines of one host.
     Local(&'a str, &'a str),
+}
+
+/// Returns the usage text, which lists the command forms.
+#[tactic(auto, unfolding(crate::specs::Command::usage_text))]
+pub fn usage() -> &'static [u8]
+    ensures { result.now ≡ usage_text }
+{
+    b"usage: topos check FILE\n\
+    \x20      topos policy FILE\n\
+    \x20      topos rules iptables|openflow FILE\n\
+    \x20      topos repair iptables|openflow FILE\n\
+    \x20      topos trace iptables|openflow RULES EVENTS\n\
+    \x20      topos sample N\n\
+    \x20      topos migrate FILE\n\
+    \x20      topos audit iptables|openflow FILE RULES\n\
+    \x20      topos edit FILE EDITS\n\
+    \x20      topos local FILE HOST\n"
 }
 
 /// Parses a command, if the arguments form one.
@@ -95,7 +114,8 @@ pub fn one_word(words: &[String]) -> Option<&str>
     }
 }
 
-fn two_words(words: &[String]) -> Option<(&str, &str)>
+/// Returns the two arguments, if there are exactly two.
+pub fn two_words(words: &[String]) -> Option<(&str, &str)>
     ensures { option_map (λ pair. (pair.0.now, pair.1.now)) result ≡ two_words (map string_bytes words.now) }
 {
     match words {
@@ -104,6 +124,7 @@ fn two_words(words: &[String]) -> Option<(&str, &str)>
     }
 }
 
+/// Returns the three arguments, if there are exactly three.
 pub fn three_words(words: &[String]) -> Option<(&str, &str, &str)>
     ensures { option_map (λ all. (all.0.now, all.1.now, all.2.now)) result ≡ three_words (map string_bytes words.now) }
 {

@@ -1,6 +1,6 @@
 //! The table of commands.
 
-ghost use Rattle.std.specs.Prelude.{◌≡◌, ◌≤◌};
+ghost use Rattle.std.specs.Prelude.{◌≡◌};
 ghost use Rattle.topos_top.specs.Command.{reports_on_output};
 ghost use Rattle.topos_top.specs.Commands.{plan_of};
 ghost use Rattle.topos_top.specs.CommandPlan.{ReadsNothing};
@@ -21,8 +21,6 @@ pub fn reply<'a, H: Shelf>(
     shelf: &mut H,
 ) -> Result<Answer<'a>, Answer<'a>>
     requires { IsWithinHosts (command_view command) }
-    ensures files_unchanged { H.files shelf.new ≡ H.files shelf.old }
-    ensures faults_monotone { H.faults shelf.old ≤ H.faults shelf.new }
     ensures reply { IsPossibleReply (reports_on_output (command_view command.entry)) (plan_of (command_view command.entry))
         (shelf_change H.Shelf shelf.old shelf.new) (reply_in result) }
     ensures no_files { ReadsNothing (plan_of (command_view command.entry)) → shelf.new ≡ shelf.old }

@@ -1,8 +1,11 @@
 //! The dialects of rules.
 
 ghost use Rattle.std.specs.Prelude.{◌≡◌};
-ghost use Rattle.topos_top.specs.inner.Command.{dialect_named};
+ghost use Rattle.audit_core.specs.RulesView.{rules_of};
+ghost use Rattle.topos_top.specs.inner.Forms.{dialect_named};
+ghost use Rattle.topos_top.specs.inner.Views.{rules_view};
 
+use audit_core::Text;
 use ipt_rules::Ruleset;
 use ofp_rules::Table;
 
@@ -35,4 +38,16 @@ pub enum Rules {
     Chains(Ruleset),
     /// A flow table of OpenFlow.
     Table(Table),
+}
+
+impl Rules {
+    /// Returns the rules in the form of an audit.
+    pub fn audited(&self) -> Text<'_>
+        ensures { rules_of result ≡ rules_view self.now }
+    {
+        match self {
+            Rules::Chains(chains) => Text::Ipt(chains),
+            Rules::Table(table) => Text::Ofp(table),
+        }
+    }
 }

@@ -1,7 +1,7 @@
 //! `edit FILE EDITS`: the development of a network while its description is edited, and its final
 //! policy.
 
-ghost use Rattle.std.specs.Prelude.{◌≡◌, ◌≤◌, ◌++◌, OnOk, IfOk, false, map};
+ghost use Rattle.std.specs.Prelude.{◌≡◌, ◌++◌, OnOk, IfOk, false, map};
 ghost use Rattle.edit_core.specs.inner.Kept.{table_of};
 ghost use Rattle.edit_core.specs.inner.EditView.{edit_view};
 ghost use Rattle.report_core.specs.PolicyReport.{IsPolicyReport};
@@ -31,9 +31,7 @@ pub fn reply<'a, H: Shelf>(
     edits: &'a str,
     shelf: &mut H,
 ) -> Result<Answer<'a>, Answer<'a>>
-    ensures files_unchanged { H.files shelf.new ≡ H.files shelf.old }
-    ensures faults_monotone { H.faults shelf.old ≤ H.faults shelf.new }
-    ensures reply { IsPossibleReply false (plan_of (Edit file.now edits.now))
+    ensures { IsPossibleReply false (plan_of (Edit file.now edits.now))
         (shelf_change H.Shelf shelf.old shelf.new) (reply_in result) }
 {
     let mut session = read_session(alloc, file, shelf)?;
@@ -47,9 +45,7 @@ fn reply_for<'a, H: Shelf>(
     edits: &'a str,
     shelf: &mut H,
 ) -> Result<Answer<'a>, Answer<'a>>
-    ensures files_unchanged { H.files shelf.new ≡ H.files shelf.old }
-    ensures faults_monotone { H.faults shelf.old ≤ H.faults shelf.new }
-    ensures reply { IsPossibleReply false (reads Kind.Edits edits.now (λ es. ends (edit_outcomes (table_of session.old) es)))
+    ensures { IsPossibleReply false (reads Kind.Edits edits.now (λ es. ends (edit_outcomes (table_of session.old) es)))
         (shelf_change H.Shelf shelf.old shelf.new) (reply_in result) }
 {
     let edits = read_edits(alloc, edits, shelf)?;

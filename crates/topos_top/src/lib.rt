@@ -34,7 +34,7 @@ mod text_fault;
 mod trace;
 
 pub use answer::Answer;
-pub use command::{one_word, three_words};
+pub use command::{one_word, three_words, two_words};
 pub use dialect::{Dialect, Rules};
 pub use ending::deliver;
 pub use flow_policy::policy_between;

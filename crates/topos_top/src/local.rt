@@ -1,7 +1,7 @@
 //! `local FILE HOST`: the rules for the machines of one host, unless the policy was listed and
 //! violates an invariant.
 
-ghost use Rattle.std.specs.Prelude.{◌≡◌, ◌≤◌, ◌<◌, IfOk, IsTrue, Some, false};
+ghost use Rattle.std.specs.Prelude.{◌≡◌, ◌<◌, IfOk, IsTrue, Some, false};
 ghost use Rattle.host_emit.specs.LocalLayout.{is_specific};
 ghost use Rattle.host_net.specs.Host.{host_named};
 ghost use Rattle.topos_top.specs.Command.{Local};
@@ -32,9 +32,7 @@ pub fn reply<'a, H: Shelf>(
     host: &str,
     shelf: &mut H,
 ) -> Result<Answer<'a>, Answer<'a>>
-    ensures files_unchanged { H.files shelf.new ≡ H.files shelf.old }
-    ensures faults_monotone { H.faults shelf.old ≤ H.faults shelf.new }
-    ensures reply { IsPossibleReply false (plan_of (Local file.now host.now))
+    ensures { IsPossibleReply false (plan_of (Local file.now host.now))
         (shelf_change H.Shelf shelf.old shelf.new) (reply_in result) }
 {
     let description = read_description(alloc, file, shelf)?;

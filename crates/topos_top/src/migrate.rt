@@ -1,6 +1,6 @@
 //! `migrate FILE`: the description in version 2.
 
-ghost use Rattle.std.specs.Prelude.{◌≡◌, ◌≤◌, false};
+ghost use Rattle.std.specs.Prelude.{false};
 ghost use Rattle.topos_top.specs.Command.{Migrate};
 ghost use Rattle.topos_top.specs.Commands.{plan_of};
 ghost use Rattle.topos_top.specs.Replies.{IsPossibleReply};
@@ -19,9 +19,7 @@ pub fn reply<'a, H: Shelf>(
     file: &'a str,
     shelf: &mut H,
 ) -> Result<Answer<'a>, Answer<'a>>
-    ensures files_unchanged { H.files shelf.new ≡ H.files shelf.old }
-    ensures faults_monotone { H.faults shelf.old ≤ H.faults shelf.new }
-    ensures reply { IsPossibleReply false (plan_of (Migrate file.now))
+    ensures { IsPossibleReply false (plan_of (Migrate file.now))
         (shelf_change H.Shelf shelf.old shelf.new) (reply_in result) }
 {
     let text = read_document(alloc, file, shelf)?;

@@ -1,6 +1,6 @@
 //! `policy FILE`: the status of each flow, and the reason.
 
-ghost use Rattle.std.specs.Prelude.{◌≡◌, ◌≤◌, IfOk, false};
+ghost use Rattle.std.specs.Prelude.{IfOk, false};
 ghost use Rattle.topos_top.specs.Command.{Policy};
 ghost use Rattle.topos_top.specs.Commands.{plan_of};
 ghost use Rattle.topos_top.specs.Outcomes.{Answers};
@@ -23,9 +23,7 @@ pub fn reply<'a, H: Shelf>(
     file: &'a str,
     shelf: &mut H,
 ) -> Result<Answer<'a>, Answer<'a>>
-    ensures files_unchanged { H.files shelf.new ≡ H.files shelf.old }
-    ensures faults_monotone { H.faults shelf.old ≤ H.faults shelf.new }
-    ensures reply { IsPossibleReply false (plan_of (Policy file.now))
+    ensures { IsPossibleReply false (plan_of (Policy file.now))
         (shelf_change H.Shelf shelf.old shelf.new) (reply_in result) }
 {
     let description = read_description(alloc, file, shelf)?;

@@ -3,7 +3,7 @@
 ghost use Rattle.std.specs.Prelude.{◌≡◌, ◌≢◌, ℕ, ◌≤◌, ◌↔◌, ◌⊎◌, map, string_bytes};
 ghost use Rattle.topos_top.specs.Command.{Command, Sample, ParseAs, ParseAsNothing, ReportsViolationsOnOutput};
 ghost use Rattle.topos_top.specs.Commands.{NamesNoFile};
-ghost use Rattle.topos_top.specs.Promises.{DeliversReply, HasCause, MeetsHeadline, EndsAsSample, IsComplete};
+ghost use Rattle.topos_top.specs.Promises.{DeliversReply, HasCause, HasCauses, MeetsHeadline, EndsAsSample, IsComplete};
 ghost use Rattle.topos_top.specs.Shelf.{shelf_change};
 ghost use Rattle.topos_top.specs.SinkChanges.{sink_change};
 ghost use Rattle.topos_top.specs.inner.Command.{command_of};
@@ -11,7 +11,7 @@ ghost use Rattle.topos_top.specs.inner.Replies.{AllowsReplyTo, NamesNothing};
 ghost use Rattle.topos_top.specs.inner.Views.{reply_view};
 
 use crate::answer::Answer;
-use crate::command::parse_command;
+use crate::command::{parse_command, usage};
 use crate::commands::reply;
 use crate::ending::deliver;
 use crate::status::Status;
@@ -43,38 +43,13 @@ pub fn run<H: Shelf, O: Sink, E: Sink>(
     ensures opens_no_file { NamesNoFile (map string_bytes words.now) → shelf.new ≡ shelf.old }
 
     // Every other status has its cause.
-    ensures read_fault { result ≡ Status.ReadFault → HasCause Status.ReadFault (map string_bytes words.now)
+    ensures causes { HasCauses (λ status. HasCause status (map string_bytes words.now)
         (shelf_change H.Shelf shelf.old shelf.new)
-        (sink_change O.Sink out.old out.new) (sink_change E.Sink err.old err.new) }
-    ensures bad_description { result ≡ Status.BadDescription → HasCause Status.BadDescription (map string_bytes words.now)
-        (shelf_change H.Shelf shelf.old shelf.new)
-        (sink_change O.Sink out.old out.new) (sink_change E.Sink err.old err.new) }
-    ensures bad_text { result ≡ Status.BadText → HasCause Status.BadText (map string_bytes words.now)
-        (shelf_change H.Shelf shelf.old shelf.new)
-        (sink_change O.Sink out.old out.new) (sink_change E.Sink err.old err.new) }
-    ensures violated { result ≡ Status.Violated → HasCause Status.Violated (map string_bytes words.now)
-        (shelf_change H.Shelf shelf.old shelf.new)
-        (sink_change O.Sink out.old out.new) (sink_change E.Sink err.old err.new) }
-    ensures not_emittable { result ≡ Status.NotEmittable → HasCause Status.NotEmittable (map string_bytes words.now)
-        (shelf_change H.Shelf shelf.old shelf.new)
-        (sink_change O.Sink out.old out.new) (sink_change E.Sink err.old err.new) }
-    ensures write_fault { result ≡ Status.WriteFault → HasCause Status.WriteFault (map string_bytes words.now)
-        (shelf_change H.Shelf shelf.old shelf.new)
-        (sink_change O.Sink out.old out.new) (sink_change E.Sink err.old err.new) }
-    ensures memory { result ≡ Status.Memory → HasCause Status.Memory (map string_bytes words.now)
-        (shelf_change H.Shelf shelf.old shelf.new)
-        (sink_change O.Sink out.old out.new) (sink_change E.Sink err.old err.new) }
-    ensures done { result ≡ Status.Done → HasCause Status.Done (map string_bytes words.now)
-        (shelf_change H.Shelf shelf.old shelf.new)
-        (sink_change O.Sink out.old out.new) (sink_change E.Sink err.old err.new) }
+        (sink_change O.Sink out.old out.new) (sink_change E.Sink err.old err.new)) result }
 
-    // The headline. For every list of packets and forget events, the generated rules forward
-    // exactly what the policy expects, also when their text is parsed again. The policy satisfies
-    // every invariant and is the first that does. OpenFlow flows achieve this without connection
-    // state: they are written only if no answer needs it. `migrate` writes a document of the
-    // description's own table, in version 2. `audit` reports `equal` only if the rules forward what
-    // the policy expects. If the machines of every specific host have their rules, a packet passes
-    // between hosts iff the policy expects it.
+    // The headline: rules forward exactly what the policy of the network expects, for every list of
+    // packets and forget events; `migrate` writes the description's own table; `audit` reports
+    // `equal` only if the rules forward what the policy expects.
     ensures headline { result ≡ Status.Done → (command : Command) → ParseAs (map string_bytes words.now) command
         → MeetsHeadline command (shelf_change H.Shelf shelf.old shelf.new) (sink_change O.Sink out.old out.new) }
 
@@ -101,14 +76,12 @@ pub fn run<H: Shelf, O: Sink, E: Sink>(
 
 /// Computes the reply to `words`, reading files from `shelf` as needed. Writes nothing.
 fn answer_to<'a, H: Shelf>(alloc: Global, words: &'a [String], shelf: &mut H) -> Answer<'a>
-    ensures files_unchanged { H.files shelf.new ≡ H.files shelf.old }
-    ensures faults_monotone { H.faults shelf.old ≤ H.faults shelf.new }
     ensures reply { AllowsReplyTo (command_of (map string_bytes words.now))
         (shelf_change H.Shelf shelf.old shelf.new) (reply_view result) }
     ensures opens_no_file { NamesNothing (command_of (map string_bytes words.now)) → shelf.new ≡ shelf.old }
 {
     match parse_command(words) {
-        None => Answer::error(Status::Usage, Text::Usage),
+        None => Answer::error(Status::Usage, Text::Fixed(usage())),
         Some(command) => match reply(alloc, command, shelf) {
             Ok(answer) => answer,
             Err(answer) => answer,

@@ -1,12 +1,9 @@
 //! Reading and parsing a file of each kind. A file that is not accepted ends the run with its
 //! reply.
 
-ghost use Rattle.std.specs.Prelude.{◌≡◌, ◌≤◌, IfOk};
-ghost use Rattle.audit_core.specs.Rules.{filter_of};
-ghost use Rattle.audit_core.specs.Verdicts.{GivesOne};
 ghost use Rattle.topos_top.specs.inner.Reads.{MayTake, MayRead, MayReadRules};
 ghost use Rattle.topos_top.specs.Shelf.{shelf_change};
-ghost use Rattle.topos_top.specs.inner.Views.{outcome_view, items_view, rules_view, rules_outcome, session_view, edits_view};
+ghost use Rattle.topos_top.specs.inner.Views.{outcome_view, items_view, rules_outcome, session_view, edits_view};
 
 use crate::answer::Answer;
 use crate::dialect::{Dialect, Rules};
@@ -28,26 +25,21 @@ pub fn read_description<'a, H: Shelf>(
     name: &'a str,
     shelf: &mut H,
 ) -> Result<Description, Answer<'a>>
-    ensures files_unchanged { H.files shelf.new ≡ H.files shelf.old }
-    ensures faults_monotone { H.faults shelf.old ≤ H.faults shelf.new }
-    ensures reading { MayRead Kind.Description name.now
+    ensures { MayRead Kind.Description name.now
         (shelf_change H.Shelf shelf.old shelf.new) (outcome_view result) }
 {
     let bytes = take(alloc, Kind::Description, name, shelf)?;
     Ok(describe(alloc, &bytes)?)
 }
 
-/// Reads the rules of a file. They have one verdict for every packet in each state.
+/// Reads the rules of a file.
 pub fn read_rules<'a, H: Shelf>(
     alloc: Global,
     dialect: Dialect,
     name: &'a str,
     shelf: &mut H,
 ) -> Result<Rules, Answer<'a>>
-    ensures files_unchanged { H.files shelf.new ≡ H.files shelf.old }
-    ensures faults_monotone { H.faults shelf.old ≤ H.faults shelf.new }
-    ensures reading { MayReadRules dialect name.now (shelf_change H.Shelf shelf.old shelf.new) (rules_outcome result) }
-    ensures one_verdict { IfOk result (λ rules. GivesOne (filter_of (rules_view rules))) }
+    ensures { MayReadRules dialect name.now (shelf_change H.Shelf shelf.old shelf.new) (rules_outcome result) }
 {
     let bytes = take(alloc, Kind::Rules(dialect), name, shelf)?;
     match dialect {
@@ -78,9 +70,7 @@ pub fn read_events<'a, H: Shelf>(
     name: &'a str,
     shelf: &mut H,
 ) -> Result<Vec<Event>, Answer<'a>>
-    ensures files_unchanged { H.files shelf.new ≡ H.files shelf.old }
-    ensures faults_monotone { H.faults shelf.old ≤ H.faults shelf.new }
-    ensures reading { MayRead Kind.Events name.now (shelf_change H.Shelf shelf.old shelf.new) (items_view result) }
+    ensures { MayRead Kind.Events name.now (shelf_change H.Shelf shelf.old shelf.new) (items_view result) }
 {
     let bytes = take(alloc, Kind::Events, name, shelf)?;
     match pkt_core::read_events(alloc, &bytes) {
@@ -100,9 +90,7 @@ pub fn read_document<'a, H: Shelf>(
     name: &'a str,
     shelf: &mut H,
 ) -> Result<Vec<u8>, Answer<'a>>
-    ensures files_unchanged { H.files shelf.new ≡ H.files shelf.old }
-    ensures faults_monotone { H.faults shelf.old ≤ H.faults shelf.new }
-    ensures reading { MayRead Kind.Document name.now (shelf_change H.Shelf shelf.old shelf.new) (items_view result) }
+    ensures { MayRead Kind.Document name.now (shelf_change H.Shelf shelf.old shelf.new) (items_view result) }
 {
     let bytes = take(alloc, Kind::Document, name, shelf)?;
     Ok(migrate(alloc, &bytes)?)
@@ -114,9 +102,7 @@ pub fn read_session<'a, H: Shelf>(
     name: &'a str,
     shelf: &mut H,
 ) -> Result<Session, Answer<'a>>
-    ensures files_unchanged { H.files shelf.new ≡ H.files shelf.old }
-    ensures faults_monotone { H.faults shelf.old ≤ H.faults shelf.new }
-    ensures reading { MayRead Kind.Edited name.now (shelf_change H.Shelf shelf.old shelf.new) (session_view result) }
+    ensures { MayRead Kind.Edited name.now (shelf_change H.Shelf shelf.old shelf.new) (session_view result) }
 {
     let bytes = take(alloc, Kind::Edited, name, shelf)?;
     Ok(Session::start(alloc, &bytes)?)
@@ -128,9 +114,7 @@ pub fn read_edits<'a, H: Shelf>(
     name: &'a str,
     shelf: &mut H,
 ) -> Result<Vec<Edit>, Answer<'a>>
-    ensures files_unchanged { H.files shelf.new ≡ H.files shelf.old }
-    ensures faults_monotone { H.faults shelf.old ≤ H.faults shelf.new }
-    ensures reading { MayRead Kind.Edits name.now (shelf_change H.Shelf shelf.old shelf.new) (edits_view result) }
+    ensures { MayRead Kind.Edits name.now (shelf_change H.Shelf shelf.old shelf.new) (edits_view result) }
 {
     let bytes = take(alloc, Kind::Edits, name, shelf)?;
     match edit_core::read_edits(alloc, &bytes) {
@@ -151,9 +135,7 @@ fn take<'a, H: Shelf>(
     name: &'a str,
     shelf: &mut H,
 ) -> Result<Vec<u8>, Answer<'a>>
-    ensures files_unchanged { H.files shelf.new ≡ H.files shelf.old }
-    ensures faults_monotone { H.faults shelf.old ≤ H.faults shelf.new }
-    ensures taken { MayTake kind name.now (shelf_change H.Shelf shelf.old shelf.new) (items_view result) }
+    ensures { MayTake kind name.now (shelf_change H.Shelf shelf.old shelf.new) (items_view result) }
 {
     match take_all(alloc, shelf, name, kind.most()) {
         Ok(bytes) => Ok(bytes),

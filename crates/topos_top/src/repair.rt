@@ -1,7 +1,7 @@
 //! `repair iptables|openflow FILE`: the rules of the permitted policy, whether or not a policy was
 //! listed.
 
-ghost use Rattle.std.specs.Prelude.{◌≡◌, ◌≤◌, false};
+ghost use Rattle.std.specs.Prelude.{false};
 ghost use Rattle.topos_top.specs.Command.{Repair};
 ghost use Rattle.topos_top.specs.Commands.{plan_of};
 ghost use Rattle.topos_top.specs.Replies.{IsPossibleReply};
@@ -23,9 +23,7 @@ pub fn reply<'a, H: Shelf>(
     file: &'a str,
     shelf: &mut H,
 ) -> Result<Answer<'a>, Answer<'a>>
-    ensures files_unchanged { H.files shelf.new ≡ H.files shelf.old }
-    ensures faults_monotone { H.faults shelf.old ≤ H.faults shelf.new }
-    ensures reply { IsPossibleReply false (plan_of (Repair dialect file.now))
+    ensures { IsPossibleReply false (plan_of (Repair dialect file.now))
         (shelf_change H.Shelf shelf.old shelf.new) (reply_in result) }
 {
     let description = read_description(alloc, file, shelf)?;

@@ -5,7 +5,6 @@ ghost use Rattle.std.specs.Io.KnownBytes.{append_known};
 ghost use Rattle.edge_io.specs.Counts.{Rose};
 ghost use Rattle.edge_io.specs.Observable.{AppendsPrefixOf};
 ghost use Rattle.report_core.specs.RefusalLine.{refusal_text};
-ghost use Rattle.topos_top.specs.Command.{usage_text};
 ghost use Rattle.topos_top.specs.TextFault.{fault_line, edit_fault_line};
 ghost use Rattle.topos_top.specs.inner.Views.{text_view};
 
@@ -21,8 +20,6 @@ use report_core::{Report, refusal_line};
 /// The text for a stream.
 #[derive(Drop)]
 pub enum Text<'a> {
-    /// The usage text.
-    Usage,
     /// The line for a file that cannot be read.
     CannotRead(&'a str),
     /// The line for a refused description.
@@ -32,10 +29,10 @@ pub enum Text<'a> {
     Fault(&'static [u8], u32, &'static [u8]),
     /// The line for a refused edit: the number of its line, and the reason.
     RefusedEdit(u32, EditWhy),
-    /// The line for an allocation failure.
-    NoMemory,
     /// A report.
     Report(Report),
+    /// A fixed text.
+    Fixed(&'static [u8]),
     /// A text that is already formatted.
     Bytes(Vec<u8>),
     /// The chains of iptables, which are formatted line by line.
@@ -54,45 +51,19 @@ impl<'a> Text<'a> {
         ensures fault { OnErr result (Rose (O.faults sink.old) (O.faults sink.new)) }
     {
         match self {
-            Text::Usage => put_usage(sink),
+            Text::Fixed(text) => put_all(sink, text),
             Text::CannotRead(name) => {
                 put_pieces(sink, &[b"topos: cannot read ", name.as_bytes(), b"\n"])
             }
             Text::Refusal(why) => put_refusal(sink, why),
             Text::Fault(text, line, reason) => put_fault(sink, text, *line, reason),
             Text::RefusedEdit(line, why) => put_fault(sink, b"edits", *line, edit_reason(why)),
-            Text::NoMemory => put_all(sink, b"topos: out of memory\n"),
             Text::Report(report) => put_all(sink, report.bytes()),
             Text::Bytes(bytes) => put_all(sink, bytes),
             Text::Rules(rules) => put_lines(sink, rules),
             Text::Table(table) => put_lines(sink, table),
         }
     }
-}
-
-/// Writes the usage text.
-#[tactic(auto, unfolding(crate::specs::Command::usage_text))]
-fn put_usage<O: Sink>(sink: &mut O) -> Result<(), WriteFault>
-    ensures prefix { AppendsPrefixOf (O.held sink.old) (O.held sink.new) usage_text }
-    ensures whole { OnOk result (O.held sink.new ≡ append_known (O.held sink.old) usage_text) }
-    ensures faults_monotone { O.faults sink.old ≤ O.faults sink.new }
-    ensures fault { OnErr result (Rose (O.faults sink.old) (O.faults sink.new)) }
-{
-    put_pieces(
-        sink,
-        &[
-            b"usage: topos check FILE\n",
-            b"       topos policy FILE\n",
-            b"       topos rules iptables|openflow FILE\n",
-            b"       topos repair iptables|openflow FILE\n",
-            b"       topos trace iptables|openflow RULES EVENTS\n",
-            b"       topos sample N\n",
-            b"       topos migrate FILE\n",
-            b"       topos audit iptables|openflow FILE RULES\n",
-            b"       topos edit FILE EDITS\n",
-            b"       topos local FILE HOST\n",
-        ],
-    )
 }
 
 /// Writes the line for a refused description.

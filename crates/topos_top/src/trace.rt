@@ -1,6 +1,6 @@
 //! `trace iptables|openflow RULES EVENTS`: the result of each event.
 
-ghost use Rattle.std.specs.Prelude.{◌≡◌, ◌≤◌, IfOk, false};
+ghost use Rattle.std.specs.Prelude.{IfOk, false};
 ghost use Rattle.audit_core.specs.Rules.{filter_of};
 ghost use Rattle.report_core.specs.Trace.{IsTrace};
 ghost use Rattle.topos_top.specs.Command.{Trace};
@@ -30,9 +30,7 @@ pub fn reply<'a, H: Shelf>(
     events: &'a str,
     shelf: &mut H,
 ) -> Result<Answer<'a>, Answer<'a>>
-    ensures files_unchanged { H.files shelf.new ≡ H.files shelf.old }
-    ensures faults_monotone { H.faults shelf.old ≤ H.faults shelf.new }
-    ensures reply { IsPossibleReply false (plan_of (Trace dialect rules.now events.now))
+    ensures { IsPossibleReply false (plan_of (Trace dialect rules.now events.now))
         (shelf_change H.Shelf shelf.old shelf.new) (reply_in result) }
 {
     let rules = read_rules(alloc, dialect, rules, shelf)?;
@@ -46,9 +44,7 @@ fn reply_for<'a, H: Shelf>(
     events: &'a str,
     shelf: &mut H,
 ) -> Result<Answer<'a>, Answer<'a>>
-    ensures files_unchanged { H.files shelf.new ≡ H.files shelf.old }
-    ensures faults_monotone { H.faults shelf.old ≤ H.faults shelf.new }
-    ensures reply { IsPossibleReply false (reads Kind.Events events.now (λ es. ends (trace_outcomes (filter_of (rules_view rules.now)) es)))
+    ensures { IsPossibleReply false (reads Kind.Events events.now (λ es. ends (trace_outcomes (filter_of (rules_view rules.now)) es)))
         (shelf_change H.Shelf shelf.old shelf.new) (reply_in result) }
 {
     let events = read_events(alloc, events, shelf)?;

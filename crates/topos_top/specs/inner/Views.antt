@@ -16,7 +16,7 @@ use Rattle.ofp_rules.specs.Text.{text as table_text}
 use Rattle.report_core.specs.RefusalLine.{refusal_text}
 use Rattle.toml.specs.Data.{Members}
 use Rattle.toml.specs.declared.value.Value.{Value}
-use Rattle.topos_top.specs.Command.{Command, Check, Policy, Rules, Repair, Trace, Sample, Migrate, Audit, Edit, Local, usage_text}
+use Rattle.topos_top.specs.Command.{Command, Check, Policy, Rules, Repair, Trace, Sample, Migrate, Audit, Edit, Local}
 use Rattle.topos_top.specs.Reply.{Reply, cannot_read, error, no_memory}
 use Rattle.topos_top.specs.TextFault.{fault_line, edit_fault_line}
 use Rattle.topos_top.specs.declared.answer.Answer.{Answer}
@@ -49,12 +49,11 @@ IsWithinHosts _ = Unit {0}
 
 -- The bytes of a text.
 abbrev pub text_view : Text → List ℕ
-text_view text.Usage = usage_text
+text_view (text.Fixed bytes) = bytes.now
 text_view (text.CannotRead file) = (cannot_read file.now).text
 text_view (text.Refusal why) = refusal_text why
 text_view (text.Fault of line reason) = fault_line of.now line reason.now
 text_view (text.RefusedEdit line why) = edit_fault_line line why
-text_view text.NoMemory = no_memory.text
 text_view (text.Report report) = report
 text_view (text.Bytes bytes) = bytes.items
 text_view (text.Rules rules) = rules_text rules

@@ -6,9 +6,6 @@ use Rattle.topos_top.specs.Outcomes.{Answers}
 use Rattle.topos_top.specs.inner.Views.{reply_view}
 use Rattle.query_top.proofs.compare.answer.Goals as goal
 
-pub comparison-requires : goal.comparison-requires
-comparison-requires c = rw c.text_of.ensures c.requires
-
 pub returns : goal.returns
 returns c =
-    subst (λ (rules : Rules). IfOk c.comparison.result (λ answer. Answers true (compare_outcomes c.args.description.now rules) (reply_view answer))) c.text_of.ensures c.comparison.ensures
+    subst (λ (rules : Rules). IfOk c.comparison.result (λ answer. Answers true (compare_outcomes c.args.description.now rules) (reply_view answer))) c.audited.ensures c.comparison.ensures

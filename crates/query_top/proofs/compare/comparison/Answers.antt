@@ -19,6 +19,6 @@ returns c =
     let exact = rw c.policy_between.ensures at c.in_ok-differences.ensures.exact in
     let told = rw (c.hosts.ensures.value, c.deref.ensures.value) at c.differences_answer.ensures in
     IfOk-weaker c.differences_answer.result _ _
-    (λ answer is. ends_compared c.args.description.now (rules_of c.args.rules) c.in_ok-policy.policy c.in_ok-policy.ensures.policy c.requires (reply_view answer)
+    (λ answer is. ends_compared c.args.description.now (rules_of c.args.rules) c.in_ok-policy.policy c.in_ok-policy.ensures.policy c.rules.ensures.gives (reply_view answer)
     c.in_ok-differences.differences.items are complete exact is)
     told

@@ -8,12 +8,12 @@ use Rattle.topos_top.specs.declared.kind.Kind.TheVariants.{Description, Rules}
 use Rattle.topos_top.proofs.CommandPlanLaws.{went_on}
 use Rattle.query_top.proofs.compare.reply.Goals as goal
 
-pub returns-in_err-description-clause-reply : goal.returns-in_err-description-clause-reply
-returns-in_err-description-clause-reply g c =
+pub returns-in_err-description : goal.returns-in_err-description
+returns-in_err-description g c =
     let p = err_from_is_err_and c.from_residual.result c.from_residual.ensures.1 in
-    rw (p.1, p.2) (inl c.in_err-description.ensures.reading)
+    rw (p.1, p.2) (inl c.in_err-description.ensures)
 
-pub returns-clause-reply : goal.returns-clause-reply
-returns-clause-reply g c =
+pub returns : goal.returns
+returns g c =
     went_on true Description c.args.file.now (λ x. reads (Rules c.args.dialect) c.args.rules.now (λ said. ends (compare_outcomes x (rules_in c.args.dialect said)))) _ _ _
-    c.in_ok-description.description (reply_in c.reply_for.result) c.in_ok-description.ensures.reading c.reply_for.ensures.reply
+    c.in_ok-description.description (reply_in c.reply_for.result) c.in_ok-description.ensures c.reply_for.ensures

@@ -18,4 +18,4 @@ answers_flows hosts rules text given answer is =
 pub returns : goal.returns
 returns c =
     answers_flows c.args.hosts.now (rules_view c.args.rules.now) c.in_ok-text.text.items (reply_view c.done.result)
-    (subst (λ (rules : Rules). IsFlowsAnswer c.args.hosts.now rules c.in_ok-text.text.items) c.text_of.ensures c.in_ok-text.ensures) c.done.ensures
+    (subst (λ (rules : Rules). IsFlowsAnswer c.args.hosts.now rules c.in_ok-text.text.items) c.audited.ensures c.in_ok-text.ensures) c.done.ensures

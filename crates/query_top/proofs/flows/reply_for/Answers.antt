@@ -10,14 +10,14 @@ use Rattle.topos_top.specs.declared.kind.Kind.TheVariants.{Rules}
 use Rattle.topos_top.proofs.CommandPlanLaws.{went_to_outcomes}
 use Rattle.query_top.proofs.flows.reply_for.Goals as goal
 
-pub returns-in_err-rules-clause-reply : goal.returns-in_err-rules-clause-reply
-returns-in_err-rules-clause-reply g c =
+pub returns-in_err-rules : goal.returns-in_err-rules
+returns-in_err-rules g c =
     let p = err_from_is_err_and c.from_residual.result c.from_residual.ensures.1 in
-    rw (p.1, p.2) (inl c.in_err-rules.ensures.reading)
+    rw (p.1, p.2) (inl c.in_err-rules.ensures)
 
-pub returns-clause-reply : goal.returns-clause-reply
-returns-clause-reply g c =
+pub returns : goal.returns
+returns g c =
     let hosts = c.args.hosts.now in
-    let rules = c.in_ok-rules.ensures.reading in
+    let rules = c.in_ok-rules.ensures in
     went_to_outcomes true (Rules c.args.dialect) c.args.rules.now (λ said. flows_outcomes hosts (rules_in c.args.dialect said)) _ _ rules.said c.answer.result (reply_in c.of_outcomes.result) rules.read
     (subst (λ (audited : AuditedRules). IfOk c.answer.result (λ answer. Answers true (flows_outcomes hosts audited) (reply_view answer))) rules.told c.answer.ensures) c.of_outcomes.ensures

@@ -8,5 +8,5 @@ returns-in-Ok c =
     let few = rw c.policy_between.ensures at c.in-Ok.ensures.few in
     let found = rw c.policy_between.ensures at c.in-Ok.ensures.found in
     IfOk-weaker c.told.result _ _
-    (λ answer is. ends_found c.args.description.now (rules_of c.args.rules) c.in_ok-policy.policy c.in_ok-policy.ensures.policy _ c.in-Ok.finding c.requires few found is)
+    (λ answer is. ends_found c.args.description.now (rules_of c.args.rules) c.in_ok-policy.policy c.in_ok-policy.ensures.policy _ c.in-Ok.finding c.rules.ensures.gives few found is)
     c.told.ensures

@@ -8,12 +8,12 @@ use Rattle.topos_top.specs.declared.kind.Kind.TheVariants.{Edited, Edits}
 use Rattle.topos_top.proofs.CommandPlanLaws.{went_on}
 use Rattle.topos_top.proofs.edit.reply.Goals as goal
 
-pub returns-in_err-session-clause-reply : goal.returns-in_err-session-clause-reply
-returns-in_err-session-clause-reply g c =
+pub returns-in_err-session : goal.returns-in_err-session
+returns-in_err-session g c =
     let p = err_from_is_err_and c.from_residual.result c.from_residual.ensures.1 in
-    rw (p.1, p.2) (inl c.in_err-session.ensures.reading)
+    rw (p.1, p.2) (inl c.in_err-session.ensures)
 
-pub returns-clause-reply : goal.returns-clause-reply
-returns-clause-reply g c =
+pub returns : goal.returns
+returns g c =
     went_on false Edited c.args.file.now (λ t. reads Edits c.args.edits.now (λ es. ends (edit_outcomes t es))) _ _ _
-    (table_of c.in_ok-session.session) (reply_in c.reply_for.result) c.in_ok-session.ensures.reading c.reply_for.ensures.reply
+    (table_of c.in_ok-session.session) (reply_in c.reply_for.result) c.in_ok-session.ensures c.reply_for.ensures

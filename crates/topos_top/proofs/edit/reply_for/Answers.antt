@@ -8,12 +8,12 @@ use Rattle.topos_top.specs.declared.kind.Kind.TheVariants.{Edits}
 use Rattle.topos_top.proofs.CommandPlanLaws.{went_to_outcomes}
 use Rattle.topos_top.proofs.edit.reply_for.Goals as goal
 
-pub returns-in_err-edits-clause-reply : goal.returns-in_err-edits-clause-reply
-returns-in_err-edits-clause-reply g c =
+pub returns-in_err-edits : goal.returns-in_err-edits
+returns-in_err-edits g c =
     let p = err_from_is_err_and c.from_residual.result c.from_residual.ensures.1 in
-    rw (p.1, p.2) (inl c.in_err-edits.ensures.reading)
+    rw (p.1, p.2) (inl c.in_err-edits.ensures)
 
-pub returns-clause-reply : goal.returns-clause-reply
-returns-clause-reply g c =
+pub returns : goal.returns
+returns g c =
     went_to_outcomes false Edits c.args.edits.now (edit_outcomes (table_of c.args.session.now)) _ _ (map edit_view c.in_ok-edits.edits.items) c.answer.result (reply_in c.of_outcomes.result)
-    c.in_ok-edits.ensures.reading (rw c.deref.ensures.value at c.answer.ensures) c.of_outcomes.ensures
+    c.in_ok-edits.ensures (rw c.deref.ensures.value at c.answer.ensures) c.of_outcomes.ensures

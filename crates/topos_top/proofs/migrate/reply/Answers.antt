@@ -2,7 +2,7 @@ use Rattle.std.proofs.Common.{inl}
 use Rattle.std.proofs.lemmas.Result.{err_from_is_err_and}
 use Rattle.topos_top.proofs.migrate.reply.Goals as goal
 
-pub returns-in_err-text-clause-reply : goal.returns-in_err-text-clause-reply
-returns-in_err-text-clause-reply g c =
+pub returns-in_err-text : goal.returns-in_err-text
+returns-in_err-text g c =
     let p = err_from_is_err_and c.from_residual.result c.from_residual.ensures.1 in
-    rw (p.1, p.2) (inl c.in_err-text.ensures.reading)
+    rw (p.1, p.2) (inl c.in_err-text.ensures)

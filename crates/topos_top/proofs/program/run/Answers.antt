@@ -6,7 +6,7 @@ use Rattle.topos_top.specs.inner.Views.{reply_view}
 use Rattle.topos_top.specs.declared.status.Status.TheVariants as status
 use Rattle.topos_top.proofs.ParseLaws.{is_asked, may_give}
 use Rattle.topos_top.proofs.HeadlineLaw.{headline_law}
-use Rattle.topos_top.proofs.RunLaws.{usage_law, caused, no_fault, nothing_to_write, something_to_write}
+use Rattle.topos_top.proofs.RunLaws.{usage_law, caused, each_cause, shelf_stays, no_fault, nothing_to_write, something_to_write}
 use Rattle.topos_top.proofs.SampleLaw.{sample_law, sample_names_no_file}
 use Rattle.topos_top.proofs.ToldLaws.{complete_law}
 use Rattle.topos_top.proofs.program.run.Given as given
@@ -35,29 +35,14 @@ returns-clause-usage_opens_no_file g c = λ is.
 pub returns-clause-opens_no_file : goal.returns-clause-opens_no_file
 returns-clause-opens_no_file g c = λ none. c.answer_to-answer.ensures.opens_no_file (λ command read. none command (is_asked _ command read))
 
-pub returns-clause-read_fault : goal.returns-clause-read_fault
-returns-clause-read_fault g c = caused _ _ _ _ _ (gave g c) status.ReadFault (λ e. cc e)
+pub returns-clause-files_unchanged : goal.returns-clause-files_unchanged
+returns-clause-files_unchanged g c = (shelf_stays _ _ _ _ _ (gave g c)).0
 
-pub returns-clause-bad_description : goal.returns-clause-bad_description
-returns-clause-bad_description g c = caused _ _ _ _ _ (gave g c) status.BadDescription (λ e. cc e)
+pub returns-clause-faults_monotone : goal.returns-clause-faults_monotone
+returns-clause-faults_monotone g c = ((shelf_stays _ _ _ _ _ (gave g c)).1, c.deliver.ensures.out_faults_stay, c.deliver.ensures.err_faults_stay)
 
-pub returns-clause-bad_text : goal.returns-clause-bad_text
-returns-clause-bad_text g c = caused _ _ _ _ _ (gave g c) status.BadText (λ e. cc e)
-
-pub returns-clause-violated : goal.returns-clause-violated
-returns-clause-violated g c = caused _ _ _ _ _ (gave g c) status.Violated (λ e. cc e)
-
-pub returns-clause-not_emittable : goal.returns-clause-not_emittable
-returns-clause-not_emittable g c = caused _ _ _ _ _ (gave g c) status.NotEmittable (λ e. cc e)
-
-pub returns-clause-write_fault : goal.returns-clause-write_fault
-returns-clause-write_fault g c = caused _ _ _ _ _ (gave g c) status.WriteFault (λ e. cc e)
-
-pub returns-clause-memory : goal.returns-clause-memory
-returns-clause-memory g c = caused _ _ _ _ _ (gave g c) status.Memory (λ e. cc e)
-
-pub returns-clause-done : goal.returns-clause-done
-returns-clause-done g c = caused _ _ _ _ _ (gave g c) status.Done (λ e. cc e)
+pub returns-clause-causes : goal.returns-clause-causes
+returns-clause-causes g c = each_cause _ _ (caused _ _ _ _ _ (gave g c))
 
 pub returns-clause-headline : goal.returns-clause-headline
 returns-clause-headline g c = λ is.

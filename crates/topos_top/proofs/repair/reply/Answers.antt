@@ -6,11 +6,11 @@ use Rattle.topos_top.specs.declared.kind.Kind.TheVariants.{Description}
 use Rattle.topos_top.proofs.CommandPlanLaws.{went_to_outcomes}
 use Rattle.topos_top.proofs.repair.reply.Goals as goal
 
-pub returns-in_err-description-clause-reply : goal.returns-in_err-description-clause-reply
-returns-in_err-description-clause-reply g c =
+pub returns-in_err-description : goal.returns-in_err-description
+returns-in_err-description g c =
     let p = err_from_is_err_and c.from_residual.result c.from_residual.ensures.1 in
-    rw (p.1, p.2) (inl c.in_err-description.ensures.reading)
+    rw (p.1, p.2) (inl c.in_err-description.ensures)
 
-pub returns-clause-reply : goal.returns-clause-reply
-returns-clause-reply g c =
-    went_to_outcomes false Description c.args.file.now (repair_outcomes c.args.dialect) _ _ c.in_ok-description.description c.policy_rules.result (reply_in c.of_outcomes.result) c.in_ok-description.ensures.reading c.policy_rules.ensures c.of_outcomes.ensures
+pub returns : goal.returns
+returns g c =
+    went_to_outcomes false Description c.args.file.now (repair_outcomes c.args.dialect) _ _ c.in_ok-description.description c.policy_rules.result (reply_in c.of_outcomes.result) c.in_ok-description.ensures c.policy_rules.ensures c.of_outcomes.ensures

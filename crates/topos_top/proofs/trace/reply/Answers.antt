@@ -18,14 +18,14 @@ by_filter : (f g : Filter) (file : List ℕ) (shelf : ShelfChange) (given : Repl
     → IsPossibleReply false (reads Events file (λ es. ends (trace_outcomes g es))) shelf given
 by_filter f g file shelf given is = subst (λ (h : Filter). IsPossibleReply false (reads Events file (λ es. ends (trace_outcomes h es))) shelf given) is
 
-pub returns-in_err-rules-clause-reply : goal.returns-in_err-rules-clause-reply
-returns-in_err-rules-clause-reply g c =
+pub returns-in_err-rules : goal.returns-in_err-rules
+returns-in_err-rules g c =
     let p = err_from_is_err_and c.from_residual.result c.from_residual.ensures.1 in
-    rw (p.1, p.2) (inl c.in_err-rules.ensures.reading)
+    rw (p.1, p.2) (inl c.in_err-rules.ensures)
 
-pub returns-clause-reply : goal.returns-clause-reply
-returns-clause-reply g c =
-    let rules = c.in_ok-rules.ensures.reading in
+pub returns : goal.returns
+returns g c =
+    let rules = c.in_ok-rules.ensures in
     went_on false (Rules c.args.dialect) c.args.rules.now (λ said. reads Events c.args.events.now (λ es. ends (trace_outcomes ((rule_dialect_of c.args.dialect).filter said) es))) _ _ _
     rules.said (reply_in c.reply_for.result) rules.read
-    (by_filter _ _ _ _ _ (ap filter_of rules.told ∙ filter_in c.args.dialect rules.said) c.reply_for.ensures.reply)
+    (by_filter _ _ _ _ _ (ap filter_of rules.told ∙ filter_in c.args.dialect rules.said) c.reply_for.ensures)

@@ -7,12 +7,12 @@ use Rattle.topos_top.specs.declared.kind.Kind.TheVariants.{Events}
 use Rattle.topos_top.proofs.CommandPlanLaws.{went_to_outcomes}
 use Rattle.topos_top.proofs.trace.reply_for.Goals as goal
 
-pub returns-in_err-events-clause-reply : goal.returns-in_err-events-clause-reply
-returns-in_err-events-clause-reply g c =
+pub returns-in_err-events : goal.returns-in_err-events
+returns-in_err-events g c =
     let p = err_from_is_err_and c.from_residual.result c.from_residual.ensures.1 in
-    rw (p.1, p.2) (inl c.in_err-events.ensures.reading)
+    rw (p.1, p.2) (inl c.in_err-events.ensures)
 
-pub returns-clause-reply : goal.returns-clause-reply
-returns-clause-reply g c =
+pub returns : goal.returns
+returns g c =
     went_to_outcomes false Events c.args.events.now (trace_outcomes (filter_of (rules_view c.args.rules.now))) _ _ c.in_ok-events.events.items c.answer.result (reply_in c.of_outcomes.result)
-    c.in_ok-events.ensures.reading (rw c.deref.ensures.value at c.answer.ensures) c.of_outcomes.ensures
+    c.in_ok-events.ensures (rw c.deref.ensures.value at c.answer.ensures) c.of_outcomes.ensures

@@ -4,8 +4,8 @@ use Rattle.topos_top.proofs.text.Text.put.Goals as goal
 pub returns-in-CannotRead-clause-whole : goal.returns-in-CannotRead-clause-whole
 returns-in-CannotRead-clause-whole g c = rw c.in-CannotRead.is (rw c.as_bytes.ensures.value at c.put_pieces.ensures.whole)
 
-pub returns-in-NoMemory-clause-whole : goal.returns-in-NoMemory-clause-whole
-returns-in-NoMemory-clause-whole g c = rw c.in-NoMemory.is c.put_all.ensures.whole
+pub returns-in-Fixed-clause-whole : goal.returns-in-Fixed-clause-whole
+returns-in-Fixed-clause-whole g c = rw c.in-Fixed.is c.put_all.ensures.whole
 
 pub returns-in-RefusedEdit-clause-whole : goal.returns-in-RefusedEdit-clause-whole
 unfolding edit_fault_line
