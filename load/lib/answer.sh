@@ -1,47 +1,52 @@
 # shellcheck shell=bash disable=SC2034,SC2154
-# --confirm and --back: the answer to a load that is waiting, or the end of one that was interrupted.
+# --confirm and --back: the decision about a load that has not ended.
 
-# Decides how the load that is waiting ends, or ends one that was interrupted.
+# Decides how the load ends, waits for its end, and prints it. Before a load has asked, it can be rolled back, but not
+# confirmed.
 answer_pending() {
-  local waits=''
-  if find_waiting; then waits=yes; fi
+  find_pending
+  if [ "$1" = kept ]; then refuse_unasked; fi
   if [ "$1" = kept ] && [ -e "$state/connections" ]; then
     need ss find
     refuse_old_login
   fi
   decide "$1"
-  if [ -z "$waits" ]; then end_found; fi
+  exec 9>"$state/lock"
   tell_end
 }
 
-# Finds the load that is waiting in this namespace, in either back end unless one is named; else one that was interrupted,
-# with status 1.
-find_waiting() {
-  local each found='' broken=''
+# Finds the load that has not ended in this namespace, in either back end unless one is named. One whose processes are gone
+# counts only if there is no other.
+find_pending() {
+  local each held='' broken=''
   need flock
   for each in ${backend:-nft legacy}; do
-    if is_waiting "$(folder_of "$each")"; then found+=" $each"
-    elif is_broken "$(folder_of "$each")"; then broken+=" $each"; fi
+    if ! is_pending "$(folder_of "$each")"; then continue; fi
+    if is_held "$(folder_of "$each")"; then held+=" $each"; else broken+=" $each"; fi
   done
-  if [ -z "$found" ]; then found=$broken; else broken=''; fi
-  case $found in
+  case ${held:-$broken} in
     '') refuse 'no load is awaiting confirmation in this network namespace' ;;
     ' nft legacy') refuse 'a load is awaiting confirmation in each back end: select one with --backend' ;;
+    *) backend=${held:-$broken} ;;
   esac
-  backend=${found# } state=$(folder_of "${found# }")
-  [ -z "$broken" ]
+  backend=${backend# }
+  state=$(folder_of "$backend")
 }
 
-# Whether a load is waiting for its confirmation.
-is_waiting() { [ -e "$1/asked" ] && [ ! -L "$1/decision" ] && ! flock -n "$1/lock" true; }
+# Refuses to confirm a load that has not asked.
+refuse_unasked() {
+  if [ -e "$state/asked" ]; then return; fi
+  if is_held "$state"; then refuse 'the load in progress has not asked for confirmation yet: nothing is decided'; fi
+  refuse 'the load was interrupted before it asked for confirmation: topos-load --back ends it'
+}
 
-# Ends the load that was interrupted, in its back end, on a firewall or on the machine of a host.
-end_found() {
+# Ends the load in its back end, on a firewall or on the machine of a host. This process has the lock.
+end_in_place() {
+  if [ -L "$state/result" ]; then return; fi # ended before the lock was free
   local=$(cat "$state/local")
   if [ -n "$local" ]; then change_machine; else change_box; fi
   find_tools
-  exec 9>"$state/lock"
-  if ! { flock -n 9 && open_changing; }; then refuse 'another load is in progress: nothing is changed'; fi
+  open_changing || refuse "cannot write $state: nothing is changed"
   end_broken_load
   if ! [ -L "$state/result" ]; then refuse 'nothing is changed'; fi
   exit "$(result_status)"

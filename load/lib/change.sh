@@ -168,18 +168,25 @@ tell_end() {
   exit "$(result_status)"
 }
 
-# Waits until the load has ended. If the guard of this load is gone, this process ends the load in its place.
+# Waits until the load has ended. This process ends the load if its guard is gone, or, with --confirm and --back, if the
+# lock is free: then all processes of the load are gone, and the tools that they started.
 is_told() {
   local tries=0
   until [ -L "$state/result" ]; do
     tries=$((tries + 1))
     if [ "$tries" -gt 600 ]; then return 1; fi
-    if [ -n "$guard" ] && ! kill -0 "$guard" 2>/dev/null && [ ! -L "$state/result" ]; then
-      guard=''
-      end_as_decided
-    fi
+    case $action in
+      confirm | back) if flock -n 9; then end_in_place; fi ;;
+      *) if [ -n "$guard" ] && ! kill -0 "$guard" 2>/dev/null; then end_unguarded; fi ;;
+    esac
     sleep 0.1
   done
+}
+
+# Ends the load in place of its guard.
+end_unguarded() {
+  guard=''
+  if ! [ -L "$state/result" ]; then end_as_decided; fi
 }
 
 part=change # a truncated file lacks this line

@@ -11,7 +11,7 @@ check_rules() {
   save_filter "$folder/saved"
   without_logs "$folder/saved" >"$folder/now"
   if ! [ -s "$folder/now" ]; then refuse "cannot write $folder: nothing is compared"; fi
-  if is_broken "$state"; then say 'a load was interrupted before its confirmation: topos-load --back ends it'; fi
+  tell_pending
   found=$(out_of_force)
   tell_surroundings
   if is_same "$folder/now" "$folder/rules" && [ -z "$found" ]; then
@@ -22,6 +22,14 @@ check_rules() {
   tell_differences | sed "s/^-/missing on the $wall:/; s/^+/only on the $wall:   /; s/^~/moved on the $wall:  /"
   tell_verdict "$found"
   exit 1
+}
+
+# Prints that a load has not ended and does not await its confirmation.
+tell_pending() {
+  if ! is_pending "$state"; then return; fi
+  if ! is_held "$state"; then say 'a load was interrupted before its confirmation: topos-load --back ends it'
+  elif ! [ -e "$state/asked" ]; then say 'a load is in progress: topos-load --back ends it'
+  fi
 }
 
 # Prints the unused chains, and what else may drop packets, except what the last load listed. `around` is then not empty.

@@ -32,14 +32,17 @@ clear_state() {
   rm -f "$state"/{log,settle,staying,older.before,logging,loaded,local}
 }
 
-# Whether a load was interrupted with its way back, so nobody decides about it any more.
-is_broken() { [ -e "$1/armed" ] && [ -e "$1/before" ] && ! [ -L "$1/result" ] && flock -n "$1/lock" true; }
+# Whether a load can change the table, or has changed it, and has not ended.
+is_pending() { [ -e "$1/armed" ] && [ -e "$1/before" ] && ! [ -L "$1/result" ]; }
+
+# Whether a process of a load has the lock, or a tool that one started: it can run on after the process was killed.
+is_held() { ! flock -n "$1/lock" true; }
 
 # Ends a load whose processes are gone, as it was decided. If its rules are not there, as in a namespace that has the number
 # of an earlier one, nothing is changed, and what was before it is saved.
 end_broken_load() {
   local was now
-  if ! [ -e "$state/armed" ] || ! [ -e "$state/before" ] || [ -L "$state/result" ]; then return; fi
+  if ! is_pending "$state"; then return; fi
   if [ "$(cat "$state/local" 2>/dev/null)" != "$local" ]; then
     refuse "a load ${local:+without --local }was interrupted: topos-load --back${local:+ } ends it"
   fi
