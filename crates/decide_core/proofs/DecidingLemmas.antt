@@ -37,7 +37,7 @@ module _ (x : Deciding) where
   noted_only (Some place) low None on = inl on
   noted_only (Some place) low (Some other) on = elim (only_if x.marks place low true other on) [
     | inl old ↦ inl old
-    | inr same ↦ inr (ap (λ (q : Place). Some q) same.1)
+    | inr same ↦ inr (ap (λ (q : Place). Some q) same.0)
   ]
 
   same_rules : (d : Option Place) → (noted x d).rules ≡ x.rules

@@ -8,8 +8,6 @@ pub mod LoopLaws
 pub mod LoopLemmas
 pub mod MarkLemmas
 pub mod MeaningLaws
-pub mod MeetWaitLemmas
-pub mod MeetWalkLemmas
 pub mod MeetsLaws
 pub mod NameLemmas
 pub mod NextLemmas

@@ -99,9 +99,9 @@ module _ (marks : List (List Bool)) (place : Place) (low : place.rule < length (
   marked_if false on = cc
   marked_if true on = marked_self marks place low
 
-  pub only_if : (b : Bool) (other : Place) → IsTrue (is_marked (with_mark_if b marks place) other) → IsTrue (is_marked marks other) ⊎ ((b ≡ true) × (other ≡ place))
+  pub only_if : (b : Bool) (other : Place) → IsTrue (is_marked (with_mark_if b marks place) other) → IsTrue (is_marked marks other) ⊎ ((other ≡ place) × (b ≡ true))
   only_if false other on = inl on
-  only_if true other on = elim (mark_only marks place low other on) [ inl old ↦ inl old | inr same ↦ inr (refl, same) ]
+  only_if true other on = elim (mark_only marks place low other on) [ inl old ↦ inl old | inr same ↦ inr (same, refl) ]
 
 -- ---- the rows in the form of the code
 

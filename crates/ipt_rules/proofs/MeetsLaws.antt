@@ -12,9 +12,9 @@ use Rattle.ipt_rules.specs.declared.rule.Target.{Target}
 use Rattle.ipt_rules.specs.declared.rule.Target.TheVariants.{Accept, Drop, Reject, Return, Count, Jump}
 use Rattle.ipt_rules.specs.Chain.{Chain, rules_of, policy_of}
 use Rattle.ipt_rules.specs.Matching.{matches}
-use Rattle.ipt_rules.specs.Semantics.{RuleEffect, Ends, JumpsTo, step_of, Gives, at_end, goes_on, ends, decides, comes_back, verdict_by}
-use Rattle.ipt_rules.specs.Meets.{MeetsFrom, meets_here, meets_later, meets_inside, meets_behind, Meets, DecidesWalk, IsDecider, decided, target_verdict, verdict_at}
-use Rattle.ipt_rules.specs.inner.OneOutcome.{AreDeterministic, HasVerdict}
+use Rattle.ipt_rules.specs.Semantics.{RuleEffect, Continues, Ends, JumpsTo, step_of, Gives, HasVerdictIn, at_end, goes_on, ends, decides, comes_back, verdict_by}
+use Rattle.ipt_rules.specs.Meets.{MeetsFrom, meets_here, meets_later, meets_inside, meets_behind, Meets, DecidesWalk, target_verdict, verdict_at}
+use Rattle.ipt_rules.specs.inner.OneOutcome.{AreDeterministic}
 use Rattle.ipt_rules.proofs.MeaningLaws.{gives_once}
 
 -- ---- the first of the remaining rules
@@ -49,14 +49,20 @@ pub ended_fits : (b : Bool) (t : Target) (o : Option Verdict) → step_of b t �
 ended_fits false t o is = cc
 ended_fits true t o is = refl
 
-pub ended_by : (b : Bool) (t : Target) (v : Verdict) → step_of b t ≡ Ends (Some v) → target_verdict t ≡ Some v
-ended_by false t v is = cc
-ended_by true Accept v is = cc
-ended_by true Drop v is = cc
-ended_by true Reject v is = cc
-ended_by true Return v is = cc
-ended_by true Count v is = cc
-ended_by true (Jump d) v is = cc
+-- The verdict with which a step ends the traversal.
+abbrev pub effect_verdict : RuleEffect → Option Verdict
+effect_verdict Continues = None
+effect_verdict (Ends o) = o
+effect_verdict (JumpsTo c) = None
+
+pub target_effect : (b : Bool) (t : Target) → b ≡ true → target_verdict t ≡ effect_verdict (step_of b t)
+target_effect false t on = cc
+target_effect true Accept on = refl
+target_effect true Drop on = refl
+target_effect true Reject on = refl
+target_effect true Return on = refl
+target_effect true Count on = refl
+target_effect true (Jump d) on = refl
 
 pub verdict_here : (chains : List Chain) (place : Place) (c n : ℕ) (r : Rule) (rs : List Rule) → place ≡ record { chain = c; rule = n } → r ∷ rs ≡ drop n (rules_of chains c) → verdict_at chains place ≡ target_verdict r.target
 verdict_here chains place c n r rs at is =
@@ -88,7 +94,7 @@ decider_met {fits} {chains} (goes_on {r} {rs} step g) c n v some is =
 decider_met {fits} {chains} (ends {r} {rs} {o} step) c n v some is = record {
   place = record { chain = c; rule = n };
   meets = meets_here refl (ended_fits (fits r) r.target o step);
-  verdict = verdict_here chains (record { chain = c; rule = n }) c n r rs refl is ∙ ended_by (fits r) r.target v (step ∙ ap (λ (x : Option Verdict). Ends x) some);
+  verdict = verdict_here chains (record { chain = c; rule = n }) c n r rs refl is ∙ target_effect (fits r) r.target (ended_fits (fits r) r.target o step) ∙ ap effect_verdict step ∙ some;
 }
 decider_met {fits} {chains} (decides {r} {rs} {v = w} {c = d} step g) c n v some is =
     let inner : MeetsDecider fits chains d 0 (rules_of chains d) v = decider_met g d 0 v some refl in
@@ -103,7 +109,7 @@ pub same_walked : {s : RuleEffect} {c d : ℕ} → s ≡ JumpsTo c → s ≡ Jum
 same_walked p q = cc
 
 -- A chain that returns meets no rule that decides.
-returns_not : {fits : Rule → Bool} {chains : List Chain} {place : Place} {c d : ℕ} {s : RuleEffect} {v : Verdict} → s ≡ JumpsTo c → s ≡ JumpsTo d → Meets fits chains c place → verdict_at chains place ≡ Some v
+pub returns_not : {fits : Rule → Bool} {chains : List Chain} {place : Place} {c d : ℕ} {s : RuleEffect} {v : Verdict} → s ≡ JumpsTo c → s ≡ JumpsTo d → Meets fits chains c place → verdict_at chains place ≡ Some v
     → Gives fits chains (rules_of chains d) None → ⊥
 returns_not {fits} {chains} step other m has back =
     let e = gives_once (meets_gives m refl has) (subst (λ (x : ℕ). Gives fits chains (rules_of chains x) None) (same_walked other step) back) in cc
@@ -163,11 +169,12 @@ module _ (fits : Rule → Bool) (chains : List Chain) (c : ℕ) where
   outcome_decided (Some v) (Some p) g (m, some) = let (w, has) = some_is some in gives_once g (meets_gives m refl has) ∙ sym has
 
 -- The verdict of a packet is the verdict of its decider.
-pub decider_verdict : (chains : List Chain) (p : Packet) (state : CtState) (d : Option Place) → AreDeterministic chains → IsDecider chains p state d → HasVerdict chains p state (decided chains d)
-decider_verdict chains p state d each is =
-    let one = each (matches p state) 1 0 in
+pub decider_verdict : (chains : List Chain) (c : ℕ) (p : Packet) (state : CtState) (d : Option Place) → AreDeterministic chains → DecidesWalk (matches p state) chains c d
+    → HasVerdictIn chains c p state (verdict_by (policy_of chains c) (option_and_then (verdict_at chains) d))
+decider_verdict chains c p state d each is =
+    let one = each (matches p state) c 0 in
     record {
       outcome = one.outcome;
       gives = one.gives;
-      verdict = ap (verdict_by (policy_of chains 1)) (sym (outcome_decided (matches p state) chains 1 one.outcome d one.gives is));
+      verdict = ap (verdict_by (policy_of chains c)) (sym (outcome_decided (matches p state) chains c one.outcome d one.gives is));
     }

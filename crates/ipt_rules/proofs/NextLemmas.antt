@@ -1,4 +1,4 @@
--- Rules that are skipped do not match, and do not change the outcome.
+-- Rules that are skipped do not match.
 use Rattle.std.proofs.Common.{◌≡◌, ℕ, zero, suc, ◌+◌, ◌-◌, ◌≤◌, ◌<◌, ◌^◌, ◌∙◌, inl, inr, sym, ap, refl, subst, arith, Bool, true, false, cond, List, [], ◌∷◌, ◌++◌, Option, Some, None, length, append_assoc, get_or, drop, slice_get}
 use Rattle.std.proofs.lemmas.Bool.{and_from, and_parts, false_from_ne_true}
 use Rattle.std.proofs.lemmas.List.{drop_more}
@@ -20,9 +20,7 @@ use Rattle.ipt_rules.specs.ChainTable.{rule_count}
 use Rattle.ipt_rules.specs.Matching.{address_matches, matches, port_matches, protocol_matches, turned}
 use Rattle.ipt_rules.specs.Semantics.{Continues, step_of}
 use Rattle.ipt_rules.specs.inner.Next.{AreIndexes, IsNext, NoneFits, all_ends, ends_of, part_of}
-use Rattle.ipt_rules.specs.inner.Walking.{EvaluatesAlso}
 use Rattle.ipt_rules.proofs.Gets.{get_pushed}
-use Rattle.ipt_rules.proofs.WalkLemmas.{goes_on_here}
 
 turned_covers : (negated : Bool) (p : Prefix) (a : ℕ) → turned negated (covers p a) ≡ true → part_covers (cond negated None (Some p)) a ≡ true
 turned_covers true p a fits = refl
@@ -70,31 +68,6 @@ next_small rules from src dst (Some at) few first =
     let all = length_ends rules in
     let low = slice_get_within (all_ends rules) at first.ends first.there in
     omega (arith, all, low, few)
-
--- ---- skipped rules do not change the outcome
-
-passes : (fits : Rule → Bool) (r : Rule) → fits r ≡ false → Continues ≡ step_of (fits r) r.target
-passes fits r off = sym (ap (λ (b : Bool). step_of b r.target) off)
-
-passed_some : (fits : Rule → Bool) (chains : List Chain) (rules : List Rule) (from n : ℕ) → from + n ≤ length rules → NoneFits fits rules from (from + n)
-    → EvaluatesAlso fits chains (drop from rules) rules → EvaluatesAlso fits chains (drop (from + n) rules) rules
-passed_some fits chains rules from zero within none also =
-    subst (λ (k : ℕ). EvaluatesAlso fits chains (drop k rules) rules) (omega arith) also
-passed_some fits chains rules from (suc n) within none also =
-    let before = passed_some fits chains rules from n (omega (arith, within)) (λ i r low high there. none i r low (omega (arith, high)) there) also in
-    elim (slice_get_cases rules (from + n)).1 [
-      | inl (r, low, there, is) ↦
-          subst (λ (k : ℕ). EvaluatesAlso fits chains (drop k rules) rules) (omega arith)
-          (goes_on_here fits chains rules (from + n) r low (sym is) before (passes fits r (none (from + n) r (omega arith) (omega arith) there)))
-      | inr (past, there) ↦ absurd (omega (arith, past, within))
-    ]
-
-pub gives_passed : (fits : Rule → Bool) (chains : List Chain) (rules : List Rule) (from at : ℕ) → from ≤ at → at ≤ length rules → NoneFits fits rules from at
-    → EvaluatesAlso fits chains (drop from rules) rules → EvaluatesAlso fits chains (drop at rules) rules
-gives_passed fits chains rules from at later within none also =
-    let place : from + (at - from) ≡ at = omega (arith, later) in
-    subst (λ (k : ℕ). EvaluatesAlso fits chains (drop k rules) rules) place
-    (passed_some fits chains rules from (at - from) (omega (arith, place, within)) (λ i r low high there. none i r low (omega (arith, place, high)) there) also)
 
 -- ---- the indexes of chains
 

@@ -1,4 +1,4 @@
--- The traversal of a chain: each outcome of the remaining rules is an outcome of the whole chain.
+-- The outcomes of chains, and the jumps of rules.
 use Rattle.std.proofs.Common.{◌≡◌, ℕ, zero, suc, ◌+◌, ◌<◌, ◌≤◌, ◌∙◌, sym, ap, refl, Bool, true, false, List, [], ◌∷◌, Option, Some, None, length, get_or, drop, arith, subst, inl, inr}
 use Rattle.std.proofs.Math.ListN.{drop_of_length-le}
 use Rattle.std.proofs.Math.Seq.{drop-cons}
@@ -19,31 +19,9 @@ use Rattle.ipt_rules.specs.inner.Ranks.{place_of, IsBefore, IsOrder, HasTopologi
 use Rattle.ipt_rules.proofs.MeaningLaws.{gives_once}
 use Rattle.ipt_rules.specs.Semantics.{RuleEffect, Continues, Ends, JumpsTo, step_of, Gives, at_end, goes_on, ends, decides, comes_back}
 use Rattle.ipt_rules.specs.inner.OneOutcome.{AreDeterministic}
-use Rattle.ipt_rules.specs.inner.Walking.{EvaluatesAlso}
 
 pub rules_at : (rules : List Rule) (i : ℕ) (r : Rule) → i < length rules → r ≡ get_or rules i r → drop i rules ≡ r ∷ drop (i + 1) rules
 rules_at rules i r h is = rw (add-one i) (drop-cons rules i r h ∙ ap (λ y. y ∷ drop (suc i) rules) (sym is))
-
-module _ (fits : Rule → Bool) (chains : List Chain) (rules : List Rule) (i : ℕ) (r : Rule) (h : i < length rules) (is : r ≡ get_or rules i r) (also : EvaluatesAlso fits chains (drop i rules) rules) where
-  -- The outcomes of the rules from here on, in terms of their first rule.
-  here : (o : Option Verdict) → Gives fits chains (r ∷ drop (i + 1) rules) o → Gives fits chains rules o
-  here o g = also.gives o (subst (λ (rs : List Rule). Gives fits chains rs o) (sym (rules_at rules i r h is)) g)
-
-  pub ends_here : (o : Option Verdict) → Ends o ≡ step_of (fits r) r.target → Gives fits chains rules o
-  ends_here o step = here o (ends (sym step))
-
-  pub decides_here : (c : ℕ) → JumpsTo c ≡ step_of (fits r) r.target → (v : Verdict) → Gives fits chains (rules_of chains c) (Some v) → Gives fits chains rules (Some v)
-  decides_here c step v walked = here (Some v) (decides (sym step) walked)
-
-  pub goes_on_here : Continues ≡ step_of (fits r) r.target → EvaluatesAlso fits chains (drop (i + 1) rules) rules
-  goes_on_here step = record { gives = λ o g. here o (goes_on (sym step) g) }
-
-  pub comes_back_here : (c : ℕ) → JumpsTo c ≡ step_of (fits r) r.target → Gives fits chains (rules_of chains c) None → EvaluatesAlso fits chains (drop (i + 1) rules) rules
-  comes_back_here c step walked = record { gives = λ o g. here o (comes_back (sym step) walked g) }
-
-pub end_gives : (fits : Rule → Bool) (chains : List Chain) (rules : List Rule) (i : ℕ) → length rules ≤ i → EvaluatesAlso fits chains (drop i rules) rules → Gives fits chains rules None
-end_gives fits chains rules i past also =
-    also.gives None (subst (λ (rs : List Rule). Gives fits chains rs None) (sym (drop_of_length-le rules past)) at_end)
 
 pub all_at : (p : Rule → Bool) (xs : List Rule) (i : ℕ) (x : Rule) → list_all p xs ≡ true → i < length xs → x ≡ get_or xs i x → p x ≡ true
 all_at p [] i x all h is = absurd (omega arith)

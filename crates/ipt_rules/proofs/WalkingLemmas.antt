@@ -1,299 +1,341 @@
--- The stack of traversals for a packet, and that known facts are preserved.
-use Rattle.std.proofs.Common.{◌≡◌, ℕ, zero, suc, ◌+◌, ◌<◌, ◌≤◌, ◌∙◌, inl, inr, sym, ap, refl, Bool, true, false, List, [], ◌∷◌, ◌++◌, Option, Some, None, cond, length, length-append, get_or, set, replicate, arith, subst}
-use Rattle.std.specs.Prelude.{slice_get, not, count_by}
-use Rattle.std.specs.Option.{unwrap_or}
+-- The traversal of a chain: the rules that it meets, its decider, and the chains that are known to return.
+use Rattle.std.proofs.Common.{◌≡◌, ◌⊎◌, inl, inr, ℕ, zero, suc, ◌+◌, ◌-◌, ◌<◌, ◌≤◌, ◌∙◌, sym, ap, refl, Bool, true, false, List, [], ◌∷◌, Option, Some, None, length, get_or, drop, set, replicate, subst, arith}
+use Rattle.std.specs.Prelude.{Contains, is_some}
+use Rattle.std.specs.Option.{option_and_then, unwrap_or}
+use Rattle.std.proofs.Math.ListN.{drop_of_length-le}
 use Rattle.std.proofs.lemmas.Bool.{cases_eq}
-use Rattle.std.proofs.lemmas.List.Sums.{sum_by-set}
-use Rattle.std.proofs.lemmas.Option.{same_Some, slice_get-get_or, slice_get_within}
+use Rattle.std.proofs.lemmas.Option.{slice_get_cases}
+use Rattle.host_net.specs.declared.packet.Packet.{Packet}
+use Rattle.host_net.specs.declared.packet.CtState.{CtState}
+use Rattle.host_net.specs.declared.packet.Verdict.{Verdict}
+use Rattle.ipt_rules.specs.declared.marks.Place.{Place}
 use Rattle.ipt_rules.specs.declared.rule.Rule.{Rule}
-use Rattle.ipt_rules.specs.declared.walk.StackFrame.{StackFrame}
+use Rattle.ipt_rules.specs.declared.walk.Step.{Step}
+use Rattle.ipt_rules.specs.declared.walk.Step.TheVariants as code
 use Rattle.ipt_rules.specs.Chain.{Chain, rules_of}
-use Rattle.ipt_rules.specs.Semantics.{Gives}
+use Rattle.ipt_rules.specs.Loops.{jumps_from}
+use Rattle.ipt_rules.specs.Matching.{matches}
+use Rattle.ipt_rules.specs.Meets.{MeetsFrom, meets_here, meets_later, meets_inside, meets_behind, Meets, DecidesWalk, verdict_at}
+use Rattle.ipt_rules.specs.Semantics.{RuleEffect, Continues, Ends, JumpsTo, step_of, Gives}
+use Rattle.ipt_rules.specs.inner.Next.{IsNext, IsNextAt, NoneFits}
+use Rattle.ipt_rules.specs.inner.OneOutcome.{AreDeterministic}
 use Rattle.ipt_rules.specs.inner.Ranks.{place_of, IsBefore, HasTopologicalOrder}
-use Rattle.ipt_rules.specs.inner.Walking.{AsksFor, DecidesFor, DoReturn, IsFrameOf, is_known_to_return}
-use Rattle.ipt_rules.proofs.Gets.{get_set_same, get_set_other, get_front, get_last, get_pushed}
+use Rattle.ipt_rules.specs.inner.Walking.{AreTraversed, HasMetOnly, IsShallow, IsTraversed, Records, Steps, Traverses, is_known_to_return}
+use Rattle.ipt_rules.proofs.Gets.{get_set_other}
+use Rattle.ipt_rules.proofs.MeetsLaws.{effect_verdict, ended_fits, is_some_by, outcome_decided, returns_not, same_walked, some_is, target_effect, verdict_here}
+use Rattle.ipt_rules.proofs.WalkLemmas.{rules_at}
 
--- ---- which chains return
+-- ---- jumps
 
-set_same : (known_to_return : List Bool) (c : ℕ) → c < length known_to_return → is_known_to_return (set known_to_return c true) c ≡ true
-set_same known_to_return c low = ap (λ (o : Option Bool). unwrap_or o false) (get_set_same known_to_return c true low)
+shallow_from : (chains : List Chain) (order : HasTopologicalOrder chains) (n c i : ℕ) → i < n → place_of order.places c ≡ Some i → IsShallow chains n c
+shallow_from chains order zero c i low at = absurd (omega (arith, low))
+shallow_from chains order (suc n) c i low at =
+    let there = order.is.ordered.there c i at in (
+      order.is.ordered.inside i c there,
+      λ d jump. let b : IsBefore order.places d i = order.is.ordered.back i c d there jump in shallow_from chains order n d b.place (omega (arith, low, b.before)) b.placed,
+    )
 
-pub set_other : (known_to_return : List Bool) (c k : ℕ) → (k ≡ c → ⊥) → is_known_to_return (set known_to_return c true) k ≡ is_known_to_return known_to_return k
-set_other known_to_return c k other = ap (λ (o : Option Bool). unwrap_or o false) (get_set_other known_to_return c k true other)
+-- Jumps are nested less deep than there are chains.
+pub all_shallow : (chains : List Chain) (c : ℕ) → HasTopologicalOrder chains → c < length chains → IsShallow chains (length chains) c
+all_shallow chains c order there =
+    let own : IsBefore order.places c (length order.order) = order.is.every c there in
+    shallow_from chains order (length chains) c own.place (omega (arith, own.before, order.is.short)) own.placed
+
+pub shallow_there : (chains : List Chain) (depth c : ℕ) → IsShallow chains depth c → c < length chains
+shallow_there chains zero c is = absurd is
+shallow_there chains (suc depth) c is = is.0
+
+pub shallow_some : (chains : List Chain) (depth c : ℕ) → IsShallow chains depth c → 0 < depth
+shallow_some chains zero c is = absurd is
+shallow_some chains (suc depth) c is = omega arith
+
+pub shallow_jump : (chains : List Chain) (depth c d : ℕ) → IsShallow chains depth c → Contains (jumps_from chains c) d → IsShallow chains (depth - 1) d
+shallow_jump chains zero c d is jump = absurd is
+shallow_jump chains (suc depth) c d is jump = subst (λ (n : ℕ). IsShallow chains n d) (omega arith) (is.1 d jump)
+
+-- ---- chains that are known to return
 
 pub none_returns : (n c : ℕ) → is_known_to_return (replicate n false) c ≡ false
 none_returns zero c = refl
 none_returns (suc n) zero = refl
 none_returns (suc n) (suc c) = none_returns n c
 
-pub one_more_returns : (fits : Rule → Bool) (chains : List Chain) (known_to_return : List Bool) (c : ℕ) → DoReturn fits chains known_to_return → Gives fits chains (rules_of chains c) None → DoReturn fits chains (set known_to_return c true)
-one_more_returns fits chains known_to_return c are gives k at = elim (cases_eq k c) [
-  | inl same ↦ subst (λ (x : ℕ). Gives fits chains (rules_of chains x) None) (sym same) gives
-  | inr other ↦ are k (sym (set_other known_to_return c k other) ∙ at)
-]
+pub none_traversed : (fits : Rule → Bool) (chains : List Chain) (Has : Place → Type 0) (n : ℕ) → AreTraversed fits chains Has (replicate n false)
+none_traversed fits chains Has n c at = let e : false ≡ true = sym (none_returns n c) ∙ at in cc
 
-false_there : (known_to_return : List Bool) (c : ℕ) → c < length known_to_return → is_known_to_return known_to_return c ≡ false → get_or known_to_return c false ≡ false
-false_there known_to_return c low off = sym (ap (λ (o : Option Bool). unwrap_or o false) (slice_get-get_or known_to_return c false low)) ∙ off
+pub kept_traversed : (fits : Rule → Bool) (chains : List Chain) (Old New : Place → Type 0) (known_to_return : List Bool) → ((p : Place) → Old p → New p) → AreTraversed fits chains Old known_to_return → AreTraversed fits chains New known_to_return
+kept_traversed fits chains Old New known_to_return kept known c at = let old = known c at in record { decides = old.decides; met = λ p m. kept p (old.met p m) }
 
--- One more chain is known to return.
-pub fewer_unknown : (known_to_return : List Bool) (c : ℕ) → c < length known_to_return → is_known_to_return known_to_return c ≡ false → count_by not (set known_to_return c true) + 1 ≡ count_by not known_to_return
-fewer_unknown known_to_return c low off =
-    let step = sum_by-set (λ (b : Bool). cond (not b) 1 0) known_to_return c true false low in
-    let one : ◌≡◌ {A = ℕ} (cond (not (get_or known_to_return c false)) 1 0) 1 = ap (λ (b : Bool). cond (not b) 1 0) (false_there known_to_return c low off) in
-    omega (arith, step, one)
+-- The outcome of a chain is the verdict of its decider.
+pub decided_gives : (fits : Rule → Bool) (chains : List Chain) (c : ℕ) (d : Option Place) → AreDeterministic chains → DecidesWalk fits chains c d → Gives fits chains (rules_of chains c) (option_and_then (verdict_at chains) d)
+decided_gives fits chains c d each decides =
+    let one = each fits c 0 in
+    subst (λ (o : Option Verdict). Gives fits chains (rules_of chains c) o) (outcome_decided fits chains c one.outcome d one.gives decides) one.gives
 
--- ---- the stack of traversals
+-- ---- the rules that a traversal meets, by its first rule
 
--- A traversal at an index of the stack: its chain has not returned yet, and its position in the order is low enough that the
--- stack has capacity.
-pub record IsOpen (fits : Rule → Bool) (chains : List Chain) (order : List ℕ) (places : List (Option ℕ)) (known_to_return : List Bool) (i : ℕ) (w : StackFrame) : Type 0 where
-  pub walk : IsFrameOf fits chains w
-  pub place : ℕ
-  pub placed : place_of places w.chain ≡ Some place
-  pub low : i + 1 + place ≤ length order
-  pub unknown : is_known_to_return known_to_return w.chain ≡ false
+met_past : {fits : Rule → Bool} {chains : List Chain} {place : Place} {c n : ℕ} {r : Rule} {rs : List Rule} → step_of (fits r) r.target ≡ Continues → MeetsFrom fits chains place c n (r ∷ rs)
+    → ((place ≡ record { chain = c; rule = n }) × (fits r ≡ true)) ⊎ MeetsFrom fits chains place c (n + 1) rs
+met_past step (meets_here at on) = inl (at, on)
+met_past step (meets_later step' m) = inr m
+met_past step (meets_inside step' m) = cc
+met_past step (meets_behind step' back m) = cc
 
--- A later traversal has a lower position in the order.
-abbrev pub Falls : List (Option ℕ) → StackFrame → StackFrame → Type 0
-Falls places v w = (p q : ℕ) → place_of places v.chain ≡ Some p → place_of places w.chain ≡ Some q → q < p
+met_last : {fits : Rule → Bool} {chains : List Chain} {place : Place} {c n : ℕ} {r : Rule} {rs : List Rule} {o : Option Verdict} → step_of (fits r) r.target ≡ Ends o → MeetsFrom fits chains place c n (r ∷ rs)
+    → (place ≡ record { chain = c; rule = n }) × (fits r ≡ true)
+met_last step (meets_here at on) = (at, on)
+met_last step (meets_later step' m) = cc
+met_last step (meets_inside step' m) = cc
+met_last step (meets_behind step' back m) = cc
 
-pub record AreOpen (fits : Rule → Bool) (chains : List Chain) (order : List ℕ) (places : List (Option ℕ)) (known_to_return : List Bool) (walks : List StackFrame) : Type 0 where
-  pub each : (i : ℕ) (w : StackFrame) → slice_get walks i ≡ Some w → IsOpen fits chains order places known_to_return i w
-  pub falls : (i j : ℕ) (v w : StackFrame) → i < j → slice_get walks i ≡ Some v → slice_get walks j ≡ Some w → Falls places v w
+met_jump : {fits : Rule → Bool} {chains : List Chain} {place : Place} {c n d : ℕ} {r : Rule} {rs : List Rule} → step_of (fits r) r.target ≡ JumpsTo d → MeetsFrom fits chains place c n (r ∷ rs)
+    → ((place ≡ record { chain = c; rule = n }) × (fits r ≡ true)) ⊎ (Meets fits chains d place ⊎ (Gives fits chains (rules_of chains d) None × MeetsFrom fits chains place c (n + 1) rs))
+met_jump step (meets_here at on) = inl (at, on)
+met_jump step (meets_later step' m) = cc
+met_jump {fits} {chains} {place} step (meets_inside step' m) = inr (inl (subst (λ (x : ℕ). Meets fits chains x place) (same_walked step' step) m))
+met_jump {fits} {chains} step (meets_behind step' back m) = inr (inr (subst (λ (x : ℕ). Gives fits chains (rules_of chains x) None) (same_walked step' step) back, m))
 
--- The first traversal is that of the requested chain, and this chain has returned once the stack is empty.
-pub record Begins (number : ℕ) (known_to_return : List Bool) (walks : List StackFrame) : Type 0 where
-  pub first : (w : StackFrame) → slice_get walks 0 ≡ Some w → w.chain ≡ number
-  pub done : walks ≡ [] → is_known_to_return known_to_return number ≡ true
+met_none : {fits : Rule → Bool} {chains : List Chain} {place : Place} {c n : ℕ} {rs : List Rule} → MeetsFrom fits chains place c n rs → rs ≡ [] → ⊥
+met_none (meets_here at on) none = cc
+met_none (meets_later step m) none = cc
+met_none (meets_inside step m) none = cc
+met_none (meets_behind step back m) none = cc
 
-not_empty : {X : Type 0} (xs : List X) (x : X) → xs ++ x ∷ [] ≡ [] → ⊥
-not_empty xs x none = let long = ap length none in omega (arith, simp length-append at long)
+-- ---- along a chain
 
-module _ (fits : Rule → Bool) (chains : List Chain) (order : List ℕ) (places : List (Option ℕ)) (known_to_return : List Bool) where
-  none_open : AreOpen fits chains order places known_to_return []
-  none_open = record { each = λ i w there. cc; falls = λ i j v w before one other. cc }
+-- The traversal of chain c reached rule n: each rule that it meets from there on is met by the chain, and each other rule that
+-- the chain meets is recorded and has no verdict.
+pub record IsReached (fits : Rule → Bool) (chains : List Chain) (Has : Place → Type 0) (c n : ℕ) : Type 0 where
+  pub meets : (place : Place) → MeetsFrom fits chains place c n (drop n (rules_of chains c)) → Meets fits chains c place
+  pub behind : (place : Place) → Meets fits chains c place
+      → (Has place × (verdict_at chains place ≡ None)) ⊎ MeetsFrom fits chains place c n (drop n (rules_of chains c))
 
-  pub last_open : (rest : List StackFrame) (w : StackFrame) → AreOpen fits chains order places known_to_return (rest ++ w ∷ []) → IsOpen fits chains order places known_to_return (length rest) w
-  last_open rest w are = are.each (length rest) w (get_last rest w)
+-- The rule at an index of the rules.
+abbrev pub Stands : List Rule → ℕ → Rule → Type 0
+Stands rules n r = (n < length rules) × (r ≡ get_or rules n r)
 
-  front_open : (rest : List StackFrame) (w : StackFrame) → AreOpen fits chains order places known_to_return (rest ++ w ∷ []) → AreOpen fits chains order places known_to_return rest
-  front_open rest w are = record {
-    each = λ i v there. are.each i v (get_front rest (w ∷ []) i v there);
-    falls = λ i j v u before one other. are.falls i j v u before (get_front rest (w ∷ []) i v one) (get_front rest (w ∷ []) j u other);
-  }
+module _ (fits : Rule → Bool) (chains : List Chain) (c n : ℕ) (r : Rule) (stands : Stands (rules_of chains c) n r) (Old New : Place → Type 0) (records : Records (fits r) (record { chain = c; rule = n }) Old New)
+    (reached : IsReached fits chains Old c n) where
+  abbrev place : Place
+  place = record { chain = c; rule = n }
 
-  last_falls : (rest : List StackFrame) (w : StackFrame) → AreOpen fits chains order places known_to_return (rest ++ w ∷ []) → (i : ℕ) (v : StackFrame) → slice_get rest i ≡ Some v → Falls places v w
-  last_falls rest w are i v there =
-      are.falls i (length rest) v w (slice_get_within rest i v there) (get_front rest (w ∷ []) i v there) (get_last rest w)
+  abbrev others : List Rule
+  others = drop (n + 1) (rules_of chains c)
 
-  pushed_open : (rest : List StackFrame) (w : StackFrame) → AreOpen fits chains order places known_to_return rest → IsOpen fits chains order places known_to_return (length rest) w → ((i : ℕ) (v : StackFrame) → slice_get rest i ≡ Some v → Falls places v w)
-      → AreOpen fits chains order places known_to_return (rest ++ w ∷ [])
-  pushed_open rest w are own below = record {
-    each = λ i v there. elim (get_pushed rest w i v there) [
-      | inl old ↦ are.each i v old
-      | inr new ↦
-          subst (λ (x : StackFrame). IsOpen fits chains order places known_to_return i x) new.1 (subst (λ (k : ℕ). IsOpen fits chains order places known_to_return k w) (sym new.0) own)
-    ];
-    falls = λ i j v u before one other. elim (get_pushed rest w j u other) [
-      | inl old ↦ elim (get_pushed rest w i v one) [
-        | inl also ↦ are.falls i j v u before also old
-        | inr late ↦ let low = slice_get_within rest j u old in absurd (omega (arith, low, before, late.0))
-      ]
-      | inr new ↦ elim (get_pushed rest w i v one) [
-        | inl also ↦ subst (λ (x : StackFrame). Falls places v x) new.1 (below i v also)
-        | inr late ↦ absurd (omega (arith, before, late.0, new.0))
-      ]
-    ];
-  }
+  cut : drop n (rules_of chains c) ≡ r ∷ others
+  cut = rules_at (rules_of chains c) n r stands.0 stands.1
 
-  -- The last traversal has reached the end of its chain.
-  pub ended_open : (rest : List StackFrame) (w : StackFrame) → AreOpen fits chains order places known_to_return (rest ++ w ∷ []) → AreOpen fits chains order places (set known_to_return w.chain true) rest
-  ended_open rest w are = record {
-    each = λ i v there.
-        let own : IsOpen fits chains order places known_to_return i v = are.each i v (get_front rest (w ∷ []) i v there) in
-        let last : IsOpen fits chains order places known_to_return (length rest) w = last_open rest w are in
-        record {
-          walk = own.walk;
-          place = own.place;
-          placed = own.placed;
-          low = own.low;
-          unknown = set_other known_to_return w.chain v.chain (λ same. omega (arith, last_falls rest w are i v there own.place own.place own.placed (ap (place_of places) (sym same) ∙ own.placed))) ∙ own.unknown;
-        };
-    falls = (front_open rest w are).falls;
-  }
+  -- The verdict of the rule, if it matches.
+  own_verdict : (p : Place) → p ≡ place → fits r ≡ true → (e : RuleEffect) → step_of (fits r) r.target ≡ e → verdict_at chains p ≡ effect_verdict e
+  own_verdict p same on e step = verdict_here chains p c n r others same (sym cut) ∙ target_effect (fits r) r.target on ∙ ap effect_verdict step
 
--- The traversal of another chain starts, and the current traversal remains on the stack.
-module _ (fits : Rule → Bool) (chains : List Chain) (topological_order : HasTopologicalOrder chains) (known_to_return : List Bool) where
-  -- From its first rule on a chain has its outcomes.
-  first_walk : (c : ℕ) → c < length chains → IsFrameOf fits chains (record { chain = c; from = 0 })
-  first_walk c there = record { there = there; within = omega arith; also = record { gives = λ o g. g } }
+  own : (p : Place) → p ≡ place → fits r ≡ true → New p
+  own p same on = subst New (sym same) (records.own on)
 
-  pub begun_open : (number : ℕ) → number < length chains → is_known_to_return known_to_return number ≡ false → AreOpen fits chains topological_order.order topological_order.places known_to_return (record { chain = number; from = 0 } ∷ [])
-  begun_open number there unknown =
-      let own : IsBefore topological_order.places number (length topological_order.order) = topological_order.is.every number there in
-      pushed_open fits chains topological_order.order topological_order.places known_to_return [] (record { chain = number; from = 0 }) (none_open fits chains topological_order.order topological_order.places known_to_return)
-      (record { walk = first_walk number there; place = own.place; placed = own.placed; low = omega (arith, own.before); unknown = unknown })
-      (λ i v there. cc)
+  -- Each rule that the rules from here on meet is met by the chain.
+  from_here : (p : Place) → MeetsFrom fits chains p c n (r ∷ others) → Meets fits chains c p
+  from_here p m = reached.meets p (subst (λ (rs : List Rule). MeetsFrom fits chains p c n rs) (sym cut) m)
 
-  module _ (rest : List StackFrame) (w : StackFrame) (are : AreOpen fits chains topological_order.order topological_order.places known_to_return (rest ++ w ∷ [])) (d at : ℕ) (asks : AsksFor fits chains known_to_return w.chain d at) where
-    abbrev waiting : StackFrame
-    waiting = record { chain = w.chain; from = at }
-
-    own : IsOpen fits chains topological_order.order topological_order.places known_to_return (length rest) w
-    own = last_open fits chains topological_order.order topological_order.places known_to_return rest w are
-
-    target : IsBefore topological_order.places d own.place
-    target = topological_order.is.ordered.back own.place w.chain d (topological_order.is.ordered.there w.chain own.place own.placed) asks.jumps
-
-    -- There is capacity for two.
-    pub room_to_ask : length rest + 2 ≤ length topological_order.order
-    room_to_ask = omega (arith, own.low, target.before)
-
-    waits : AreOpen fits chains topological_order.order topological_order.places known_to_return (rest ++ waiting ∷ [])
-    waits =
-        pushed_open fits chains topological_order.order topological_order.places known_to_return rest waiting (front_open fits chains topological_order.order topological_order.places known_to_return rest w are)
-        (record { walk = asks.walk; place = own.place; placed = own.placed; low = own.low; unknown = own.unknown })
-        (λ i v there. last_falls fits chains topological_order.order topological_order.places known_to_return rest w are i v there)
-
-    target_there : d < length chains
-    target_there =
-        topological_order.is.ordered.inside target.place d (topological_order.is.ordered.there d target.place target.placed)
-
-    below_target : (i : ℕ) (v : StackFrame) → slice_get (rest ++ waiting ∷ []) i ≡ Some v → Falls topological_order.places v (record { chain = d; from = 0 })
-    below_target i v there p q one other =
-        let same : target.place ≡ q = same_Some target.place q (sym target.placed ∙ other) in
-        elim (get_pushed rest waiting i v there) [
-          | inl old ↦
-              let falls = last_falls fits chains topological_order.order topological_order.places known_to_return rest w are i v old p own.place one own.placed in
-              omega (arith, falls, target.before, same)
-          | inr new ↦
-              let mine : own.place ≡ p = same_Some own.place p (sym own.placed ∙ ap (λ (x : StackFrame). place_of topological_order.places x.chain) new.1 ∙ one) in
-              omega (arith, mine, target.before, same)
-        ]
-
-    pub asked_open : AreOpen fits chains topological_order.order topological_order.places known_to_return ((rest ++ record { chain = w.chain; from = at } ∷ []) ++ record { chain = d; from = 0 } ∷ [])
-    asked_open =
-        pushed_open fits chains topological_order.order topological_order.places known_to_return (rest ++ waiting ∷ []) (record { chain = d; from = 0 }) waits
-        (record {
-          walk = first_walk d target_there;
-          place = target.place;
-          placed = target.placed;
-          low = omega (arith, length-append rest (waiting ∷ []), own.low, target.before);
-          unknown = asks.unknown;
-        })
-        below_target
-
--- ---- the first traversal
-
-pub begun : (number : ℕ) (known_to_return : List Bool) → Begins number known_to_return (record { chain = number; from = 0 } ∷ [])
-begun number known_to_return = record {
-  first = λ w there. ap (λ (x : StackFrame). x.chain) (sym (same_Some (record { chain = number; from = 0 }) w there));
-  done = λ none. cc;
-}
-
-first_of : (number : ℕ) (known_to_return : List Bool) (rest : List StackFrame) (w : StackFrame) → Begins number known_to_return (rest ++ w ∷ []) → 0 ≡ length rest → w.chain ≡ number
-first_of number known_to_return rest w is none =
-    is.first w (subst (λ (k : ℕ). slice_get (rest ++ w ∷ []) k ≡ Some w) (sym none) (get_last rest w))
-
-pub ended_begins : (number : ℕ) (known_to_return : List Bool) (rest : List StackFrame) (w : StackFrame) → w.chain < length known_to_return → Begins number known_to_return (rest ++ w ∷ []) → Begins number (set known_to_return w.chain true) rest
-ended_begins number known_to_return rest w low is = record {
-  first = λ v there. is.first v (get_front rest (w ∷ []) 0 v there);
-  done = λ none.
-      subst (λ (c : ℕ). is_known_to_return (set known_to_return w.chain true) c ≡ true) (first_of number known_to_return rest w is (sym (ap length none))) (set_same known_to_return w.chain low);
-}
-
-pub asked_begins : (number : ℕ) (known_to_return : List Bool) (rest : List StackFrame) (w v u : StackFrame) → v.chain ≡ w.chain → Begins number known_to_return (rest ++ w ∷ []) → Begins number known_to_return ((rest ++ v ∷ []) ++ u ∷ [])
-asked_begins number known_to_return rest w v u same is = record {
-  first = λ x there. elim (get_pushed (rest ++ v ∷ []) u 0 x there) [
-    | inl old ↦ elim (get_pushed rest v 0 x old) [
-      | inl front ↦ is.first x (get_front rest (w ∷ []) 0 x front)
-      | inr here ↦
-          ap (λ (y : StackFrame). y.chain) (sym here.1) ∙ same ∙ first_of number known_to_return rest w is here.0
-    ]
-    | inr late ↦ let long = length-append rest (v ∷ []) in absurd (omega (arith, long, late.0))
-  ];
-  done = λ none. absurd (not_empty (rest ++ v ∷ []) u none);
-}
-
--- ---- a verdict is the verdict of the whole stack
-
--- The verdict of each traversal on the stack is the verdict of the requested chain.
-abbrev pub Decide : (Rule → Bool) → List Chain → ℕ → List StackFrame → Type 0
-Decide fits chains number walks = (i : ℕ) (w : StackFrame) → slice_get walks i ≡ Some w → DecidesFor fits chains w.chain number
-
-module _ (fits : Rule → Bool) (chains : List Chain) (number : ℕ) where
-  first_decides : (walk : StackFrame) → walk.chain ≡ number → Decide fits chains number (walk ∷ [])
-  first_decides walk same zero w there v gives =
-      subst (λ (c : ℕ). Gives fits chains (rules_of chains c) (Some v)) (ap (λ (x : StackFrame). x.chain) (sym (same_Some walk w there)) ∙ same) gives
-  first_decides walk same (suc i) w there v gives = cc
-
-  front_decide : (rest : List StackFrame) (w : StackFrame) → Decide fits chains number (rest ++ w ∷ []) → Decide fits chains number rest
-  front_decide rest w decide i x there = decide i x (get_front rest (w ∷ []) i x there)
-
-  pushed_decide : (rest : List StackFrame) (w : StackFrame) → Decide fits chains number rest → DecidesFor fits chains w.chain number → Decide fits chains number (rest ++ w ∷ [])
-  pushed_decide rest w decide own i x there = elim (get_pushed rest w i x there) [
-    | inl old ↦ decide i x old
-    | inr new ↦ subst (λ (y : StackFrame). DecidesFor fits chains y.chain number) new.1 own
+  split : (p : Place) → Meets fits chains c p → (New p × (verdict_at chains p ≡ None)) ⊎ MeetsFrom fits chains p c n (r ∷ others)
+  split p m = elim (reached.behind p m) [
+    | inl (on, none) ↦ inl (records.kept p on, none)
+    | inr left ↦ inr (subst (λ (rs : List Rule). MeetsFrom fits chains p c n rs) cut left)
   ]
 
-  asked_decide : (rest : List StackFrame) (w v u : StackFrame) → v.chain ≡ w.chain → DecidesFor fits chains u.chain w.chain → Decide fits chains number (rest ++ w ∷ []) → Decide fits chains number ((rest ++ v ∷ []) ++ u ∷ [])
-  asked_decide rest w v u same asked decide =
-      let last : DecidesFor fits chains w.chain number = decide (length rest) w (get_last rest w) in
-      pushed_decide (rest ++ v ∷ []) u
-      (pushed_decide rest v (front_decide rest w decide) (subst (λ (c : ℕ). DecidesFor fits chains c number) (sym same) last))
-      (λ verdict gives. last verdict (asked verdict gives))
-
--- ---- the invariant between two steps
-
-pub record Waiting (fits : Rule → Bool) (chains : List Chain) (number : ℕ) (known_to_return : List Bool) (walks : List StackFrame) : Type 0 where
-  pub topological_order : HasTopologicalOrder chains
-  pub are : AreOpen fits chains topological_order.order topological_order.places known_to_return walks
-  pub right : DoReturn fits chains known_to_return
-  pub decide : Decide fits chains number walks
-  pub begins : Begins number known_to_return walks
-
-module _ (fits : Rule → Bool) (chains : List Chain) (number : ℕ) where
-  pub waiting_first : (n : ℕ) → HasTopologicalOrder chains → number < length chains → Waiting fits chains number (replicate n false) (record { chain = number; from = 0 } ∷ [])
-  waiting_first n topological_order there = record {
-    topological_order = topological_order;
-    are = begun_open fits chains topological_order (replicate n false) number there (none_returns n number);
-    right = λ c at. let e : false ≡ true = sym (none_returns n c) ∙ at in cc;
-    decide = first_decides fits chains number (record { chain = number; from = 0 }) refl;
-    begins = begun number (replicate n false);
+  pub own_only : HasMetOnly fits chains c Old New
+  own_only = record {
+    kept = records.kept;
+    only = λ p on. elim (records.only p on) [ inl old ↦ inl old | inr (same, fit) ↦ inr (from_here p (meets_here same fit)) ];
   }
 
-  module _ (known_to_return : List Bool) (rest : List StackFrame) (w : StackFrame) (is : Waiting fits chains number known_to_return (rest ++ w ∷ [])) where
-    last : IsOpen fits chains is.topological_order.order is.topological_order.places known_to_return (length rest) w
-    last = last_open fits chains is.topological_order.order is.topological_order.places known_to_return rest w is.are
+  pub reached_past : step_of (fits r) r.target ≡ Continues → IsReached fits chains New c (n + 1)
+  reached_past step = record {
+    meets = λ p m. from_here p (meets_later step m);
+    behind = λ p m. elim (split p m) [
+      | inl on ↦ inl on
+      | inr left ↦ elim (met_past step left) [ inl (same, on) ↦ inl (own p same on, own_verdict p same on Continues step) | inr later ↦ inr later ]
+    ];
+  }
 
-    pub last_walk : IsFrameOf fits chains w
-    last_walk = last.walk
+  all_met : (o : Option Verdict) → step_of (fits r) r.target ≡ Ends o → (p : Place) → Meets fits chains c p → New p
+  all_met o step p m = elim (split p m) [ inl (on, none) ↦ on | inr left ↦ let (same, on) = met_last step left in own p same on ]
 
-    pub last_unknown : is_known_to_return known_to_return w.chain ≡ false
-    last_unknown = last.unknown
+  pub decides_here : (v : Verdict) → step_of (fits r) r.target ≡ Ends (Some v) → IsTraversed fits chains New c (Some place)
+  decides_here v step =
+      let on = ended_fits (fits r) r.target (Some v) step in
+      record { decides = (from_here place (meets_here refl on), is_some_by (own_verdict place refl on (Ends (Some v)) step)); met = all_met (Some v) step }
 
-    -- The requested chain has the verdict of the last traversal.
-    pub last_decides : DecidesFor fits chains w.chain number
-    last_decides = is.decide (length rest) w (get_last rest w)
+  pub returns_here : step_of (fits r) r.target ≡ Ends None → IsTraversed fits chains New c None
+  returns_here step = record {
+    decides = λ p m. elim (split p m) [ inl (on, none) ↦ none | inr left ↦ let (same, on) = met_last step left in own_verdict p same on (Ends None) step ];
+    met = all_met None step;
+  }
 
-    pub waiting_ended : w.chain < length known_to_return → Gives fits chains (rules_of chains w.chain) None → Waiting fits chains number (set known_to_return w.chain true) rest
-    waiting_ended low gives = record {
-      topological_order = is.topological_order;
-      are = ended_open fits chains is.topological_order.order is.topological_order.places known_to_return rest w is.are;
-      right = one_more_returns fits chains known_to_return w.chain is.right gives;
-      decide = front_decide fits chains number rest w is.decide;
-      begins = ended_begins number known_to_return rest w low is.begins;
+  -- The rule jumps to a chain that is traversed.
+  module _ (each : AreDeterministic chains) (d : ℕ) (step : step_of (fits r) r.target ≡ JumpsTo d) (Then : Place → Type 0) (more : HasMetOnly fits chains d New Then) where
+    pub jump_only : HasMetOnly fits chains c Old Then
+    jump_only = record {
+      kept = λ p on. more.kept p (own_only.kept p on);
+      only = λ p on. elim (more.only p on) [ inl old ↦ own_only.only p old | inr met ↦ inr (from_here p (meets_inside step met)) ];
     }
 
-    module _ (d at : ℕ) (asks : AsksFor fits chains known_to_return w.chain d at) where
-      pub asked_room : length rest + 2 ≤ length chains
-      asked_room = omega (arith, room_to_ask fits chains is.topological_order known_to_return rest w is.are d at asks, is.topological_order.is.short)
+    pub reached_behind : IsTraversed fits chains Then d None → IsReached fits chains Then c (n + 1)
+    reached_behind inner = record {
+      meets = λ p m. from_here p (meets_behind step (decided_gives fits chains d None each inner.decides) m);
+      behind = λ p m. elim (split p m) [
+        | inl (on, none) ↦ inl (more.kept p on, none)
+        | inr left ↦ elim (met_jump step left) [
+          | inl (same, on) ↦ inl (more.kept p (own p same on), own_verdict p same on (JumpsTo d) step)
+          | inr jumped ↦ elim jumped [ inl inside ↦ inl (inner.met p inside, inner.decides p inside) | inr (gives, later) ↦ inr later ]
+        ]
+      ];
+    }
 
-      pub waiting_asked : Waiting fits chains number known_to_return ((rest ++ record { chain = w.chain; from = at } ∷ []) ++ record { chain = d; from = 0 } ∷ [])
-      waiting_asked = record {
-        topological_order = is.topological_order;
-        are = asked_open fits chains is.topological_order known_to_return rest w is.are d at asks;
-        right = is.right;
-        decide = asked_decide fits chains number rest w (record { chain = w.chain; from = at }) (record { chain = d; from = 0 }) refl asks.decides is.decide;
-        begins = asked_begins number known_to_return rest w (record { chain = w.chain; from = at }) (record { chain = d; from = 0 }) refl is.begins;
+    pub decides_inside : (q : Place) → IsTraversed fits chains Then d (Some q) → IsTraversed fits chains Then c (Some q)
+    decides_inside q inner = record {
+      decides = (from_here q (meets_inside step inner.decides.0), inner.decides.1);
+      met = λ p m. elim (split p m) [
+        | inl (on, none) ↦ more.kept p on
+        | inr left ↦ elim (met_jump step left) [
+          | inl (same, on) ↦ more.kept p (own p same on)
+          | inr jumped ↦ elim jumped [
+            | inl inside ↦ inner.met p inside
+            | inr (back, later) ↦ let (v, has) = some_is inner.decides.1 in absurd (returns_not step step inner.decides.0 has back)
+          ]
+        ]
+      ];
+    }
+
+-- ---- rules that do not match, and the end of the chain
+
+module _ (fits : Rule → Bool) (chains : List Chain) (c : ℕ) (Has : Place → Type 0) where
+  passed_some : (from n : ℕ) → from + n ≤ length (rules_of chains c) → NoneFits fits (rules_of chains c) from (from + n) → IsReached fits chains Has c from → IsReached fits chains Has c (from + n)
+  passed_some from zero within none reached = subst (λ (k : ℕ). IsReached fits chains Has c k) (omega arith) reached
+  passed_some from (suc n) within none reached =
+      let before = passed_some from n (omega (arith, within)) (λ i r low high there. none i r low (omega (arith, high)) there) reached in
+      elim (slice_get_cases (rules_of chains c) (from + n)).1 [
+        | inl (r, low, there, is) ↦
+            let off : fits r ≡ false = none (from + n) r (omega arith) (omega arith) there in
+            subst (λ (k : ℕ). IsReached fits chains Has c k) (omega arith)
+            (reached_past fits chains c (from + n) r (low, sym is) Has Has (subst (λ (b : Bool). Records b (record { chain = c; rule = from + n }) Has Has) (sym off) (record { kept = λ p on. on; own = λ on. cc; only = λ p on. inl on })) before
+            (ap (λ (b : Bool). step_of b r.target) off))
+        | inr (past, there) ↦ absurd (omega (arith, past, within))
+      ]
+
+  reached_at : (from at : ℕ) → from ≤ at → at ≤ length (rules_of chains c) → NoneFits fits (rules_of chains c) from at → IsReached fits chains Has c from → IsReached fits chains Has c at
+  reached_at from at later within none reached =
+      let place : from + (at - from) ≡ at = omega (arith, later) in
+      subst (λ (k : ℕ). IsReached fits chains Has c k) place
+      (passed_some from (at - from) (omega (arith, place, within)) (λ i r low high there. none i r low (omega (arith, place, high)) there) reached)
+
+  returns_past : (n : ℕ) → length (rules_of chains c) ≤ n → IsReached fits chains Has c n → IsTraversed fits chains Has c None
+  returns_past n past reached = record { decides = λ p m. (by p m).1; met = λ p m. (by p m).0 }
+    where
+      by : (p : Place) → Meets fits chains c p → Has p × (verdict_at chains p ≡ None)
+      by p m = elim (reached.behind p m) [ inl on ↦ on | inr left ↦ absurd (met_none left (drop_of_length-le (rules_of chains c) past)) ]
+
+-- ---- the facts between two steps
+
+pub record Along (fits : Rule → Bool) (chains : List Chain) (Start New : Place → Type 0) (known_to_return : List Bool) (c n : ℕ) : Type 0 where
+  pub known : AreTraversed fits chains New known_to_return
+  pub only : HasMetOnly fits chains c Start New
+  pub reached : IsReached fits chains New c n
+
+module _ (p : Packet) (state : CtState) (chains : List Chain) (Start Old : Place → Type 0) (known_to_return : List Bool) (c from : ℕ) (so_far : Along (matches p state) chains Start Old known_to_return c from) (rules : List Rule)
+    (same : rules ≡ rules_of chains c) where
+  abbrev fits : Rule → Bool
+  fits = matches p state
+
+  -- No rule is left that may match.
+  pub after_all : from ≤ length rules → IsNext fits rules from None → Traverses fits chains Start Old known_to_return c None
+  after_all within none =
+      let long = ap length same in
+      record {
+        known = so_far.known;
+        only = so_far.only;
+        all =
+            returns_past fits chains c Old (length rules) (omega (arith, long))
+            (reached_at fits chains c Old from (length rules) within (omega (arith, long)) (subst (λ (rs : List Rule). NoneFits fits rs from (length rules)) same none) so_far.reached);
       }
+
+  only_then : (New : Place → Type 0) → HasMetOnly fits chains c Old New → HasMetOnly fits chains c Start New
+  only_then New more = record {
+    kept = λ q on. more.kept q (so_far.only.kept q on);
+    only = λ q on. elim (more.only q on) [ inl old ↦ so_far.only.only q old | inr met ↦ inr met ];
+  }
+
+  module _ (each : AreDeterministic chains) (at : ℕ) (next : IsNextAt fits rules from at) (r : Rule) (is : r ≡ get_or rules at r) (In : Packet → Type 0) (inside : In p) (New : Place → Type 0) where
+    abbrev Stepped : Step → Type 0
+    Stepped step = Steps In state r (record { chain = c; rule = at }) Old New step
+
+    stands : Stands (rules_of chains c) at r
+    stands = subst (λ (rs : List Rule). Stands rs at r) same (next.within, is)
+
+    reached : IsReached fits chains Old c at
+    reached = reached_at fits chains c Old from at next.later (omega (arith, stands.0)) (subst (λ (rs : List Rule). NoneFits fits rs from at) same next.passed) so_far.reached
+
+    own_records : (step : Step) → Stepped step → Records (fits r) (record { chain = c; rule = at }) Old New
+    own_records step steps = subst (λ (b : Bool). Records b (record { chain = c; rule = at }) Old New) (sym (steps.alike p inside)) steps.records
+
+    own_effect : (step : Step) (steps : Stepped step) (e : RuleEffect) → step_of steps.fits r.target ≡ e → step_of (fits r) r.target ≡ e
+    own_effect step steps e effect = ap (λ (b : Bool). step_of b r.target) (steps.alike p inside) ∙ effect
+
+    only_new : (step : Step) → Stepped step → HasMetOnly fits chains c Start New
+    only_new step steps = only_then New (own_only fits chains c at r stands Old New (own_records step steps) reached)
+
+    pub after_continues : Stepped code.Continues → Along fits chains Start New known_to_return c (at + 1)
+    after_continues steps = record {
+      known = kept_traversed fits chains Old New known_to_return steps.records.kept so_far.known;
+      only = only_new code.Continues steps;
+      reached = reached_past fits chains c at r stands Old New (own_records code.Continues steps) reached (own_effect code.Continues steps Continues steps.effect);
+    }
+
+    pub after_decides : Stepped code.Decides → Traverses fits chains Start New known_to_return c (Some (record { chain = c; rule = at }))
+    after_decides steps = record {
+      known = kept_traversed fits chains Old New known_to_return steps.records.kept so_far.known;
+      only = only_new code.Decides steps;
+      all = decides_here fits chains c at r stands Old New (own_records code.Decides steps) reached steps.effect.0 (own_effect code.Decides steps (Ends (Some steps.effect.0)) steps.effect.1);
+    }
+
+    pub after_returns : Stepped code.Returns → Traverses fits chains Start New known_to_return c None
+    after_returns steps = record {
+      known = kept_traversed fits chains Old New known_to_return steps.records.kept so_far.known;
+      only = only_new code.Returns steps;
+      all = returns_here fits chains c at r stands Old New (own_records code.Returns steps) reached (own_effect code.Returns steps (Ends None) steps.effect);
+    }
+
+    -- A chain was traversed at a jump.
+    module _ (d : ℕ) (steps : Stepped (code.JumpsTo d)) (Then : Place → Type 0) (known : List Bool) where
+      jumps : step_of (fits r) r.target ≡ JumpsTo d
+      jumps = own_effect (code.JumpsTo d) steps (JumpsTo d) steps.effect
+
+      only_jump : HasMetOnly fits chains d New Then → HasMetOnly fits chains c Start Then
+      only_jump more = only_then Then (jump_only fits chains c at r stands Old New (own_records (code.JumpsTo d) steps) reached each d jumps Then more)
+
+      pub after_back : (decider : Option Place) → is_some decider ≡ false → Traverses fits chains New Then known d decider → Along fits chains Start Then known c (at + 1)
+      after_back None none inner = record {
+        known = inner.known;
+        only = only_jump inner.only;
+        reached = reached_behind fits chains c at r stands Old New (own_records (code.JumpsTo d) steps) reached each d jumps Then inner.only inner.all;
+      }
+      after_back (Some q) none inner = cc
+
+      pub after_inside : (decider : Option Place) → is_some decider ≡ true → Traverses fits chains New Then known d decider → Traverses fits chains Start Then known c decider
+      after_inside None some inner = cc
+      after_inside (Some q) some inner = record {
+        known = inner.known;
+        only = only_jump inner.only;
+        all = decides_inside fits chains c at r stands Old New (own_records (code.JumpsTo d) steps) reached each d jumps Then inner.only q inner.all;
+      }
+
+-- One more chain is known to return.
+pub after_return : (fits : Rule → Bool) (chains : List Chain) (Start New : Place → Type 0) (known_to_return : List Bool) (c : ℕ) → Traverses fits chains Start New known_to_return c None
+    → Traverses fits chains Start New (set known_to_return c true) c None
+after_return fits chains Start New known_to_return c done = record {
+  known = λ d at. elim (cases_eq d c) [
+    | inl same ↦ subst (λ (x : ℕ). IsTraversed fits chains New x None) (sym same) done.all
+    | inr other ↦ done.known d (sym (ap (λ (o : Option Bool). unwrap_or o false) (get_set_other known_to_return c d true other)) ∙ at)
+  ];
+  only = done.only;
+  all = done.all;
+}

@@ -1,11 +1,9 @@
 pub mod Addresses
-pub mod BoxWalking
 pub mod Build
 pub mod ChainTable
 pub mod Head
 pub mod Jumps
 pub mod Marking
-pub mod MeetWalking
 pub mod Next
 pub mod OneOutcome
 pub mod Ranked
@@ -14,6 +12,5 @@ pub mod RuleParts
 pub mod Saying
 pub mod Slicing
 pub mod Starts
-pub mod StackFrameView
 pub mod Walking
 pub mod Writable

@@ -5,8 +5,9 @@ ghost use Rattle.ipt_rules.specs.Semantics.{HasVerdictIn};
 ghost use Rattle.ipt_rules.specs.inner.OneOutcome.{HasVerdict};
 
 use crate::next::indexes_of;
+use crate::packets::OnePacket;
 use crate::ruleset::{FORWARD, Ruleset};
-use crate::walk::{outcome, policy_of, policy_verdict};
+use crate::walk::verdict_in;
 use host_net::{CtState, Packet, TupleSpaceIndex, Verdict};
 use std::alloc::{AllocError, Global};
 use std::marker::Model;
@@ -69,9 +70,10 @@ impl<'a> Filter<'a> {
     {
         let rules: &Ruleset = self.rules;
         let chains = rules.chains.as_slice();
-        match outcome(chains, &self.indexes, chain, packet, state) {
-            Some(verdict) => verdict,
-            None => policy_verdict(policy_of(chains, chain)),
-        }
+        let mut packets = OnePacket {
+            packet,
+            indexes: &self.indexes,
+        };
+        verdict_in(chains, chain, &mut packets, state)
     }
 }

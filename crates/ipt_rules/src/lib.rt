@@ -2,7 +2,6 @@
 //! that iptables-restore loads. The parser of such texts and the emitter of layouts depend on this crate.
 #![tactic(auto)]
 
-mod box_walk;
 mod chain;
 mod chains;
 mod filter;
@@ -10,12 +9,13 @@ mod header;
 mod jumps;
 mod loops;
 mod marks;
-mod meet_walk;
 mod meets;
 mod name;
 mod next;
+mod packets;
 mod pieces;
 mod reached;
+mod record;
 mod rule;
 mod rules;
 mod ruleset;

@@ -14,8 +14,8 @@ ghost use Rattle.ipt_rules.specs.inner.Ranks.{HasTopologicalOrder};
 
 use crate::chain::Chain;
 use crate::marks::{Marks, Place};
-use crate::meet_walk::meet_chain;
 use crate::ruleset::{FORWARD, Ruleset};
+use crate::walk::decider;
 use header_space::PacketBox;
 use host_net::CtState;
 
@@ -68,5 +68,5 @@ fn meet_forward(
     // The verdicts are unchanged without rules that stay unmarked.
     ensures unmarked { (p : Packet) → IsIn within.new p → (places : Place → Bool) → AreUnmarked met.new places → (v : Verdict) → (HasVerdict chains.now p state v ↔ HasVerdict (without_places places chains.now) p state v) }
 {
-    meet_chain(chains, FORWARD, met, within, state)
+    decider(chains, FORWARD, within, state, met)
 }

@@ -11,12 +11,11 @@ ghost use Rattle.ipt_rules.specs.inner.OneOutcome.{AreDeterministic, HasVerdict}
 ghost use Rattle.ipt_rules.specs.inner.Ranks.{HasTopologicalOrder};
 ghost use Rattle.ipt_rules.specs.inner.Slicing.{AreSlices, FitsNone, Thins, all_stay, chains_stay, stays};
 
-use crate::box_walk::outcome_within;
 use crate::chain::Chain;
 use crate::reached::{Reached, reached_by};
 use crate::rule::{Rule, Target};
 use crate::ruleset::{FORWARD, Ruleset};
-use crate::walk::{is_known_to_return, policy_of, policy_verdict};
+use crate::walk::{is_known_to_return, verdict_in};
 use header_space::PacketBox;
 use host_net::{CtState, Verdict};
 use std::alloc::{AllocError, Global};
@@ -65,10 +64,7 @@ impl Slice {
         ensures verdict { (p : Packet) → IsIn within.new p → HasVerdict self.now p state result }
     {
         let chains = self.chains.as_slice();
-        match outcome_within(chains, FORWARD, within, state) {
-            Some(verdict) => verdict,
-            None => policy_verdict(policy_of(chains, FORWARD)),
-        }
+        verdict_in(chains, FORWARD, within, state)
     }
 
     /// Returns the slice for the packets of a box, or None if it has more than five eighths of the rules.

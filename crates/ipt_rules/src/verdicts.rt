@@ -6,9 +6,9 @@ ghost use Rattle.header_space.specs.Boxes.{IsBox, IsIn, Narrows};
 ghost use Rattle.ipt_rules.specs.Semantics.{HasVerdictIn};
 ghost use Rattle.ipt_rules.specs.inner.OneOutcome.{HasVerdict};
 
-use crate::box_walk::outcome_within;
+use crate::packets::OnePacket;
 use crate::ruleset::{FORWARD, Ruleset};
-use crate::walk::{outcome, policy_of, policy_verdict};
+use crate::walk::verdict_in;
 use header_space::PacketBox;
 use host_net::{CtState, Packet, Verdict};
 
@@ -28,10 +28,11 @@ impl Ruleset {
         ensures { HasVerdictIn self.now chain packet.now state result }
     {
         let chains = self.chains.as_slice();
-        match outcome(chains, &[], chain, packet, state) {
-            Some(verdict) => verdict,
-            None => policy_verdict(policy_of(chains, chain)),
-        }
+        let mut packets = OnePacket {
+            packet,
+            indexes: &[],
+        };
+        verdict_in(chains, chain, &mut packets, state)
     }
 
     /// Returns the verdict on the least packet of a box that traverses `FORWARD` in this state. Narrows the
@@ -42,9 +43,6 @@ impl Ruleset {
         ensures verdict { (p : Packet) → IsIn within.new p → HasVerdict self.now p state result }
     {
         let chains = self.chains.as_slice();
-        match outcome_within(chains, FORWARD, within, state) {
-            Some(verdict) => verdict,
-            None => policy_verdict(policy_of(chains, FORWARD)),
-        }
+        verdict_in(chains, FORWARD, within, state)
     }
 }

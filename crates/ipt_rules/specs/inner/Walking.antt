@@ -1,46 +1,72 @@
--- Traversals of chains, and the chains that are known to return. These definitions are internal.
-use Rattle.std.specs.Prelude.{◌≡◌, ℕ, ◌<◌, ◌≤◌, List, Bool, true, false, Option, Some, None, slice_get, length, drop, Contains}
+-- Traversals of chains, and the rules that they meet. These definitions are internal; callers use `Meets`.
+use Rattle.std.specs.Prelude.{◌≡◌, ℕ, ◌-◌, ◌<◌, ◌⊎◌, zero, suc, List, Bool, true, false, Option, Some, None, slice_get, length, Contains}
 use Rattle.std.specs.Option.{unwrap_or}
-use Rattle.ipt_rules.specs.declared.rule.Rule.{Rule}
-use Rattle.ipt_rules.specs.declared.walk.Stop.{Stop}
-use Rattle.ipt_rules.specs.declared.walk.Stop.TheVariants.{Decides, Returns, Calls}
-use Rattle.ipt_rules.specs.declared.walk.StackFrame.{StackFrame}
+use Rattle.host_net.specs.declared.packet.Packet.{Packet}
+use Rattle.host_net.specs.declared.packet.CtState.{CtState}
 use Rattle.host_net.specs.declared.packet.Verdict.{Verdict}
-use Rattle.ipt_rules.specs.Chain.{Chain, rules_of}
+use Rattle.ipt_rules.specs.declared.marks.Place.{Place}
+use Rattle.ipt_rules.specs.declared.rule.Rule.{Rule}
+use Rattle.ipt_rules.specs.declared.walk.Step.{Step}
+use Rattle.ipt_rules.specs.declared.walk.Step.TheVariants as code
+use Rattle.ipt_rules.specs.Chain.{Chain}
 use Rattle.ipt_rules.specs.Loops.{jumps_from}
-use Rattle.ipt_rules.specs.Semantics.{Gives}
+use Rattle.ipt_rules.specs.Matching.{matches}
+use Rattle.ipt_rules.specs.Meets.{DecidesWalk, Meets}
+use Rattle.ipt_rules.specs.Semantics.{RuleEffect, Continues, Ends, JumpsTo, step_of}
 
 -- Whether chain c is known to return.
 abbrev pub is_known_to_return : List Bool → ℕ → Bool
 is_known_to_return known_to_return c = unwrap_or (slice_get known_to_return c) false
 
--- The chains that are known to return do return.
-abbrev pub DoReturn : (Rule → Bool) → List Chain → List Bool → Type 0
-DoReturn fits chains known_to_return = (c : ℕ) → is_known_to_return known_to_return c ≡ true → Gives fits chains (rules_of chains c) None
+-- `Holds` is true for all packets of a set, by the rules that match them.
+abbrev pub ForAll : (Packet → Type 0) → CtState → ((Rule → Bool) → Type 0) → Type 0
+ForAll In state Holds = (p : Packet) → In p → Holds (matches p state)
 
--- Each verdict of chain d is a verdict of chain c.
-abbrev pub DecidesFor : (Rule → Bool) → List Chain → ℕ → ℕ → Type 0
-DecidesFor fits chains d c = (v : Verdict) → Gives fits chains (rules_of chains d) (Some v) → Gives fits chains (rules_of chains c) (Some v)
+-- Chain c exists, and so do the chains that it jumps to. Jumps are nested less than `depth` deep.
+abbrev pub IsShallow : List Chain → ℕ → ℕ → Type 0
+IsShallow chains zero c = ⊥
+IsShallow chains (suc depth) c = (c < length chains) × ((d : ℕ) → Contains (jumps_from chains c) d → IsShallow chains depth d)
 
--- Each outcome of the remaining rules is an outcome of the rules.
-pub record EvaluatesAlso (fits : Rule → Bool) (chains : List Chain) (left rules : List Rule) : Type 0 where
-  pub gives : (o : Option Verdict) → Gives fits chains left o → Gives fits chains rules o
+-- ---- the step of a rule
 
--- Each outcome of the remaining rules of the chain is an outcome of the chain.
-pub record IsFrameOf (fits : Rule → Bool) (chains : List Chain) (w : StackFrame) : Type 0 where
-  pub there : w.chain < length chains
-  pub within : w.from ≤ length (rules_of chains w.chain)
-  pub also : EvaluatesAlso fits chains (drop w.from (rules_of chains w.chain)) (rules_of chains w.chain)
+-- The step of a rule in code has this effect.
+abbrev pub IsStep : Step → RuleEffect → Type 0
+IsStep code.Continues effect = effect ≡ Continues
+IsStep code.Decides effect = (v : Verdict) × (effect ≡ Ends (Some v))
+IsStep code.Returns effect = effect ≡ Ends None
+IsStep (code.JumpsTo chain) effect = effect ≡ JumpsTo chain
 
--- Chain c jumps to chain d, which decides for chain c or returns. If chain d returns, the traversal continues from `at`.
-pub record AsksFor (fits : Rule → Bool) (chains : List Chain) (known_to_return : List Bool) (c d at : ℕ) : Type 0 where
-  pub jumps : Contains (jumps_from chains c) d
-  pub unknown : is_known_to_return known_to_return d ≡ false
-  pub decides : DecidesFor fits chains d c
-  pub walk : IsFrameOf fits chains (record { chain = c; from = at })
+-- The rule at a place is recorded if it matches, and no other rule.
+pub record Records (fits : Bool) (place : Place) (Old New : Place → Type 0) : Type 0 where
+  pub kept : (p : Place) → Old p → New p
+  pub own : fits ≡ true → New place
+  pub only : (p : Place) → New p → Old p ⊎ ((p ≡ place) × (fits ≡ true))
 
--- Where the traversal of chain c stops.
-abbrev pub StopsAt : (Rule → Bool) → List Chain → List Bool → ℕ → Stop → Type 0
-StopsAt fits chains known_to_return c (Decides v) = Gives fits chains (rules_of chains c) (Some v)
-StopsAt fits chains known_to_return c Returns = Gives fits chains (rules_of chains c) None
-StopsAt fits chains known_to_return c (Calls d at) = AsksFor fits chains known_to_return c d at
+-- The rule makes the same step for all packets of a set, and is recorded if it matches.
+pub record Steps (In : Packet → Type 0) (state : CtState) (r : Rule) (place : Place) (Old New : Place → Type 0) (step : Step) : Type 0 where
+  pub fits : Bool
+  pub alike : (p : Packet) → In p → matches p state r ≡ fits
+  pub effect : IsStep step (step_of fits r.target)
+  pub records : Records fits place Old New
+
+-- ---- the traversal of a chain
+
+-- The traversal of chain c has this decider, and each rule that it meets is recorded.
+pub record IsTraversed (fits : Rule → Bool) (chains : List Chain) (Has : Place → Type 0) (c : ℕ) (decider : Option Place) : Type 0 where
+  pub decides : DecidesWalk fits chains c decider
+  pub met : (place : Place) → Meets fits chains c place → Has place
+
+-- The chains that are known to return do return, and each rule that they meet is recorded.
+abbrev pub AreTraversed : (Rule → Bool) → List Chain → (Place → Type 0) → List Bool → Type 0
+AreTraversed fits chains Has known_to_return = (c : ℕ) → is_known_to_return known_to_return c ≡ true → IsTraversed fits chains Has c None
+
+-- Only rules that the traversal of chain c meets were recorded.
+pub record HasMetOnly (fits : Rule → Bool) (chains : List Chain) (c : ℕ) (Old New : Place → Type 0) : Type 0 where
+  pub kept : (place : Place) → Old place → New place
+  pub only : (place : Place) → New place → Old place ⊎ Meets fits chains c place
+
+-- The facts after the traversal of chain c.
+pub record Traverses (fits : Rule → Bool) (chains : List Chain) (Old New : Place → Type 0) (known_to_return : List Bool) (c : ℕ) (decider : Option Place) : Type 0 where
+  pub known : AreTraversed fits chains New known_to_return
+  pub only : HasMetOnly fits chains c Old New
+  pub all : IsTraversed fits chains New c decider

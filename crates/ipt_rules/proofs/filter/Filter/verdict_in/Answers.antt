@@ -4,12 +4,12 @@ use Rattle.ipt_rules.specs.inner.Next.{AreIndexes}
 use Rattle.ipt_rules.proofs.TableLaws.{has_built_in}
 use Rattle.ipt_rules.proofs.filter.Filter.verdict_in.Goals as goal
 
-pub outcome-requires-clause-indexes : goal.outcome-requires-clause-indexes
-outcome-requires-clause-indexes c =
+pub verdict_in-requires-clause-packets : goal.verdict_in-requires-clause-packets
+verdict_in-requires-clause-packets c =
     subst (λ (indexes : List TupleSpaceIndex). AreIndexes indexes c.as_slice-chains.result.now) (sym c.deref.ensures.value)
     (subst (AreIndexes c.self.inside.indexes.items) (sym (c.as_slice-chains.ensures.value ∙ c.rules.view_is)) c.self.invariant)
 
-pub policy_of-requires : goal.policy_of-requires
-policy_of-requires c =
+pub verdict_in-requires-clause-there : goal.verdict_in-requires-clause-there
+verdict_in-requires-clause-there c =
     let there = has_built_in c.rules.inside.chains.items c.args.chain (c.rules.invariant.list.table.built_in c.args.chain c.requires) in
     omega (arith, there, ap length c.as_slice-chains.ensures.value)
