@@ -3,7 +3,7 @@ use Rattle.std.proofs.Common.{◌≡◌, ℕ, zero, suc, ◌+◌, ◌-◌, ◌�
 use Rattle.std.proofs.lemmas.Bool.{and_from, and_parts, false_from_ne_true}
 use Rattle.std.proofs.lemmas.List.{drop_more}
 use Rattle.std.specs.Prelude.{IfSome}
-use Rattle.std.proofs.lemmas.Option.{same_Some, slice_get_within, slice_get_cases, slice_get_read}
+use Rattle.std.proofs.lemmas.Option.{same_Some, slice_get_within, slice_get_read}
 use Rattle.std.specs.Option.{option_map_or}
 use Rattle.host_net.specs.declared.tuple_space.TupleSpaceIndex.{TupleSpaceIndex}
 use Rattle.host_net.specs.declared.tuple_space.Ends.{Ends}
@@ -18,8 +18,7 @@ use Rattle.ipt_rules.specs.declared.rule.Rule.{Rule}
 use Rattle.ipt_rules.specs.Chain.{Chain, rules_of}
 use Rattle.ipt_rules.specs.ChainTable.{rule_count}
 use Rattle.ipt_rules.specs.Matching.{address_matches, matches, port_matches, protocol_matches, turned}
-use Rattle.ipt_rules.specs.Semantics.{Continues, step_of}
-use Rattle.ipt_rules.specs.inner.Next.{AreIndexes, IsNext, NoneFits, all_ends, ends_of, part_of}
+use Rattle.ipt_rules.specs.inner.Next.{AreIndexes, IsNext, all_ends, ends_of, part_of}
 use Rattle.ipt_rules.proofs.Gets.{get_pushed}
 
 turned_covers : (negated : Bool) (p : Prefix) (a : ℕ) → turned negated (covers p a) ≡ true → part_covers (cond negated None (Some p)) a ≡ true
