@@ -7,7 +7,7 @@ from __future__ import annotations
 
 import json
 
-from .query import USAGE, VERSION, Programs, Stopped, read_bytes, read_words, toml, write_text
+from .query import USAGE, Programs, Stopped, need_words, read_bytes, toml, write_text
 
 TYPE_CHECKING = False
 if TYPE_CHECKING:
@@ -48,16 +48,8 @@ def open_lines(table: dict[str, Any]) -> Iterator[str]:
             yield from (f'{key} = [', *(f'  {toml(each)},' for each in table[key]), ']')
 
 
-def main(given: list[str]) -> int:
-    values, options, words = read_words(given, {'--program'}, {'--open', '--json', '--help', '--version'})
-    if '--help' in options:
-        write_text(None, USAGE_TEXT)
-        return 0
-    if '--version' in options:
-        write_text(None, f'{SCHEMA}, reads answers of topos-query in version {VERSION}\n')
-        return 0
-    if len(words) != 1:
-        raise Stopped('missing argument: file' if not words else f'{words[1]}: unexpected argument', USAGE)
+def main(values: dict[str, str], options: set[str], words: list[str]) -> int:
+    need_words(words, 1, 'a file is required')
     if {'--open', '--json'} <= options:
         raise Stopped('--json and --open exclude each other', USAGE)
     programs, text = Programs.find(values.get('--program')), read_bytes(words[0])

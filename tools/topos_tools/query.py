@@ -1,7 +1,7 @@
 """Finds `topos` and `topos-query`, and asks them about a description.
 
 A description is sent to the standard input of a program: a changed copy needs no file. If a program refuses its input,
-the tool ends with the same line and the same status. `run` is the frame of every tool.
+the tool ends with the same line and the same status. `Tool` is the frame of every tool.
 
 Every tool imports this module at its start, so it imports little, and other modules only where they are used.
 """
@@ -20,6 +20,8 @@ if TYPE_CHECKING:
     from collections.abc import Callable, Iterable, Mapping, Sequence
     from typing import Any, BinaryIO
 
+    Work = Callable[[dict[str, str], set[str], list[str]], int]
+
 if sys.version_info < (3, 11):
     sys.stderr.write(f'{os.path.basename(sys.argv[0])}: Python 3.11 or newer is needed, for tomllib\n')
     sys.exit(69)
@@ -32,6 +34,7 @@ LONGEST = 1_048_576  # bytes of a description
 MEMORY = 2 << 30  # bytes that a tool may use
 SECONDS = 600  # that a tool may run
 VERSION = 1  # of the answers of `topos-query`
+READS_ANSWERS = f', reads answers of topos-query in version {VERSION}'  # of the version of a tool
 NOTHING: dict[int, str] = {}
 
 
@@ -287,6 +290,14 @@ def read_words(given: list[str], valued: set[str], plain: set[str]) -> tuple[dic
     return values, options, others
 
 
+def need_words(words: list[str], count: int, missing: str, most: int = 0) -> None:
+    """Refuses fewer words than a count, which are then missing, and more than that, or than another count."""
+    if len(words) < count:
+        raise Stopped(missing, USAGE)
+    for word in words[max(count, most):]:
+        raise Stopped(f'{word}: unexpected argument', USAGE)
+
+
 def limit(seconds: int = SECONDS) -> None:
     """Limits the memory and the time of this process."""
     def end(*_: object) -> None:
@@ -313,25 +324,43 @@ def unlimited() -> None:
     resource.setrlimit(resource.RLIMIT_AS, (resource.RLIM_INFINITY, resource.RLIM_INFINITY))
 
 
-def run(name: str, usage: str, main: Callable[[list[str]], int]) -> None:
-    """Runs a tool on the words of the command line, and ends the process with its status."""
-    try:
-        limit()
-        tell_when_slow(name)
-        status = main(sys.argv[1:])
-        sys.stdout.flush()
-        sys.exit(status)
-    except (RecursionError, MemoryError):
-        sys.stderr.write(f'{name}: the file is nested too deeply, or needs too much memory\n')
-        sys.exit(UNAVAILABLE)
-    except Stopped as stopped:
-        line = str(stopped)
-        sys.stderr.write((line if line.startswith('topos: ') else f'{name}: {line}') + '\n')
-        if stopped.status == USAGE:
-            sys.stderr.write(usage)
-        sys.exit(stopped.status)
-    except OSError as error:  # of the standard output
-        os.dup2(os.open(os.devnull, os.O_WRONLY), sys.stdout.fileno())
-        if not isinstance(error, BrokenPipeError):
-            sys.stderr.write(f'{name}: the output cannot be written: {error.strerror}\n')
-        sys.exit(1)
+class Tool:
+    """A tool: its version, which begins with its name, its usage, its options with a value and without, and its work.
+
+    The work has the values of options, the options without a value and the other words, and returns the status.
+    """
+
+    def __init__(self, version: str, usage: str, valued: set[str], plain: set[str], work: Work) -> None:
+        self.name, self.version, self.usage, self.work = version.split()[0], version, usage, work
+        self.valued, self.plain = valued, plain | {'--help', '--version'}
+
+    def answer(self, given: list[str]) -> int:
+        """Does what the words of a command line say, and returns the status."""
+        values, options, words = read_words(given, self.valued, self.plain)
+        if options.isdisjoint({'--help', '--version'}):
+            return self.work(values, options, words)
+        write_text(None, self.usage if '--help' in options else f'{self.version}\n')
+        return 0
+
+    def run(self) -> None:
+        """Runs the tool on the words of the command line, and ends the process with its status."""
+        try:
+            limit()
+            tell_when_slow(self.name)
+            status = self.answer(sys.argv[1:])
+            sys.stdout.flush()
+            sys.exit(status)
+        except (RecursionError, MemoryError):
+            sys.stderr.write(f'{self.name}: the file is nested too deeply, or needs too much memory\n')
+            sys.exit(UNAVAILABLE)
+        except Stopped as stopped:
+            line = str(stopped)
+            sys.stderr.write((line if line.startswith('topos: ') else f'{self.name}: {line}') + '\n')
+            if stopped.status == USAGE:
+                sys.stderr.write(self.usage)
+            sys.exit(stopped.status)
+        except OSError as error:  # of the standard output
+            os.dup2(os.open(os.devnull, os.O_WRONLY), sys.stdout.fileno())
+            if not isinstance(error, BrokenPipeError):
+                sys.stderr.write(f'{self.name}: the output cannot be written: {error.strerror}\n')
+            sys.exit(1)

@@ -8,8 +8,7 @@ from __future__ import annotations
 import json
 from ipaddress import IPv4Network, collapse_addresses
 
-from .query import (
-    USAGE, VERSION, Programs, Stopped, limit, read_bytes, read_words, text_of, write_text)
+from .query import USAGE, Programs, Stopped, limit, need_words, read_bytes, text_of, write_text
 
 TYPE_CHECKING = False
 if TYPE_CHECKING:
@@ -112,16 +111,8 @@ def refuse_unfit(hosts: list[dict[str, Any]], taken: list[IPv4Network], prefixes
         raise Stopped(f'the description already has {HOSTS} hosts, the maximum')
 
 
-def main(given: list[str]) -> int:
-    values, options, words = read_words(given, {'--program', '--name'}, {'--json', '--help', '--version'})
-    if '--help' in options:
-        write_text(None, USAGE_TEXT)
-        return 0
-    if '--version' in options:
-        write_text(None, f'{SCHEMA}, reads answers of topos-query in version {VERSION}\n')
-        return 0
-    if not words:
-        raise Stopped('a file is required', USAGE)
+def main(values: dict[str, str], options: set[str], words: list[str]) -> int:
+    need_words(words, 1, 'a file is required', len(words))
     name, text = values.get('--name', 'unlisted'), read_bytes(words[0])
     networks = list(map(read_network, words[1:] or PRIVATE))
     hosts = others(Programs.find(values.get('--program')), text, name)

@@ -5,7 +5,7 @@ import re
 import sys
 
 from .query import LONGEST as MOST
-from .query import NO_REFUSAL, UNAVAILABLE, USAGE, Stopped, find_program, read_bytes, read_words, write_text
+from .query import NO_REFUSAL, UNAVAILABLE, Stopped, find_program, need_words, read_bytes, write_text
 from .toml_places import Fault
 from .where_advice import WORDS
 from .where_description import Description
@@ -191,18 +191,10 @@ def search(words: list[str], program: Program, page: Page, data: bytes, is_whole
     return task.lines(task.line_text(what, refusal, description), refusal)
 
 
-def main(given: list[str]) -> int:
+def main(values: dict[str, str], options: set[str], words: list[str]) -> int:
     if isinstance(sys.stdout, io.TextIOWrapper):
         sys.stdout.reconfigure(errors='replace')
-    values, options, words = read_words(given, {'--program'}, {'--all', '--json', '--help', '--version'})
-    if '--help' in options:
-        write_text(None, USAGE_TEXT)
-        return 0
-    if '--version' in options:
-        write_text(None, f'{SCHEMA}\n')
-        return 0
-    if not 0 < len(words) < 3:
-        raise Stopped(f'{words[2]}: unexpected argument' if words else 'a file is missing', USAGE)
+    need_words(words, 1, 'a file is required', 2)
     path, data = find_program(values.get('--program')), read_bytes(words[0], LONGEST)
     page = Page(words[0], data.decode(errors='surrogateescape'), '--json' not in options)
     try:

@@ -4,7 +4,7 @@ from __future__ import annotations
 
 import json
 
-from .query import USAGE, VERSION, Programs, Stopped, read_bytes, read_words, write_text
+from .query import Programs, Stopped, need_words, read_bytes, write_text
 
 TYPE_CHECKING = False
 if TYPE_CHECKING:
@@ -56,19 +56,11 @@ def answer(description: Description, words: list[str]) -> tuple[list[str], Table
     return Report(description, flow, given).whole(), {'answer': given}
 
 
-def main(given: list[str]) -> int:
-    values, options, words = read_words(given, {'--program'}, {'--tcp', '--json', '--help', '--version'})
-    if '--help' in options:
-        write_text(None, USAGE_TEXT)
-        return 0
-    if '--version' in options:
-        write_text(None, f'{SCHEMA}, reads answers of topos-query in version {VERSION}\n')
-        return 0
-    wanted = 1 if '--tcp' in options else 3
-    if len(words) < wanted:
-        raise Stopped('a file is required' if '--tcp' in options else 'a file and two hosts are required', USAGE)
-    if len(words) > wanted:
-        raise Stopped(f'{words[wanted]}: unexpected argument', USAGE)
+def main(values: dict[str, str], options: set[str], words: list[str]) -> int:
+    if '--tcp' in options:
+        need_words(words, 1, 'a file is required')
+    else:
+        need_words(words, 3, 'a file and two hosts are required')
     from .why_network import Description
     description = Description(Programs.find(values.get('--program')), read_bytes(words[0]))
     lines, facts = answer(description, words[1:])
