@@ -1,17 +1,19 @@
 """A TOML text with the places of its keys and values: TOML 1.1, the language that `topos` reads."""
 import re
 import tomllib
+from collections.abc import Iterator
 from typing import Any
 
 DEEPEST = 80  # nested brackets
 LISTS = ('host', 'invariant', 'template', 'assign')
 Part = tuple[str, int, int]  # of a dotted key, and its place
+Span = tuple[int, int]  # a place: its start and its end
 
 
 class Fault(Exception):
     """The place at which a text stops being TOML."""
 
-    def __init__(self, at: int, sentence: str, end: int | None = None, first: tuple[int, int] | None = None,
+    def __init__(self, at: int, sentence: str, end: int | None = None, first: Span | None = None,
                  twice: str = '') -> None:
         super().__init__(sentence)
         self.twice = twice  # a key that is defined already
@@ -23,37 +25,34 @@ class Fault(Exception):
 class Node:
     """A value and its place. What is made for a copy has the place of what it replaces."""
 
-    def __init__(self, kind: str, value: Any, raw: str, start: int, end: int) -> None:
+    def __init__(self, kind: str, value: Any, raw: str, start: int, end: int, origin: str = '') -> None:
         self.kind, self.value, self.raw, self.start, self.end = kind, value, raw, start, end
-        self.number = 0     # among the elements of its array, from 1
-        self.origin = ''    # of a table: what made it
-        self.open = False   # of an array: whether headers made it
+        self.origin = origin        # of a table: what made it; of an array `headers` if these made it
+        self.key_at = start, end    # the place of its key
+        self.number = 0             # among the elements of its array, from 1
 
     def get(self, key: str) -> 'Node | None':
         """Returns the value of a key, or None if this is no table or lacks the key."""
-        member = self.value.get(key) if self.kind == 'table' else None
-        return member.node if member else None
+        return self.value.get(key) if self.kind == 'table' else None
 
     def need(self, key: str) -> 'Node':
         """Returns the value of a key that the table has."""
-        member: Member = self.value[key]
-        return member.node
+        node: Node = self.value[key]
+        return node
 
     def items(self) -> 'list[Node]':
         """Returns the elements of an array, and none of another value."""
         found: list[Node] = self.value if self.kind == 'array' else []
         return found
 
-
-class Member:
-    """A key of a table with its place, and its value."""
-
-    def __init__(self, key: str, start: int, end: int, node: Node) -> None:
-        self.key, self.start, self.end, self.node = key, start, end, node
+    def inner(self) -> 'list[Node]':
+        """Returns the elements of an array or the values of a table."""
+        return list(self.value.values()) if self.kind == 'table' else self.items()
 
 
 BLANK = re.compile(r'(?:[ \t]|\r?\n|#[^\x00-\x08\x0a-\x1f\x7f]*)*')
 SPACE = re.compile(r'[ \t]*')
+OPENING = re.compile(r'\[{0,2}')
 BARE = re.compile(r'[A-Za-z0-9_-]+')
 WORD = re.compile(r'[A-Za-z0-9_+.:-]*(?: [0-9][A-Za-z0-9_+.:-]*)?')
 HEX = '[0-9A-Fa-f]'
@@ -62,10 +61,11 @@ ESCAPES = dict(zip('befnrt"\\', '\b\x1b\f\n\r\t"\\'))
 ESCAPE = re.compile(rf'\\(?:[befnrt"\\]|x{HEX}{{2}}|u{UNIT}|U(?:0000{UNIT}|000[1-9A-Fa-f]{HEX}{{4}}|0010{HEX}{{4}})|'
                     r'[ \t]*\r?\n(?:[ \t]|\r?\n)*)')
 PLAIN = r'[^\x00-\x08\x0a-\x1f\x7f'
-STRINGS = {('"', False): re.compile(rf'(?:{PLAIN}"\\]|(?!\\[ \t]*\r?\n){ESCAPE.pattern})*'),
-           ("'", False): re.compile(rf"{PLAIN}']*"),
-           ('"', True): re.compile(rf'(?:{PLAIN}"\\]|\r?\n|"{{1,2}}(?!")|{ESCAPE.pattern})*'),
-           ("'", True): re.compile(rf"(?:{PLAIN}']|\r?\n|'{{1,2}}(?!'))*")}
+STRINGS = {  # an opening quote, or three of them, the text, and the quotes behind it
+    ('"', 1): re.compile(rf'"((?:{PLAIN}"\\]|(?!\\[ \t]*\r?\n){ESCAPE.pattern})*)("*)'),
+    ("'", 1): re.compile(rf"'({PLAIN}']*)('*)"),
+    ('"', 3): re.compile(rf'"""(?:\r?\n)?((?:{PLAIN}"\\]|\r?\n|"{{1,2}}(?!")|{ESCAPE.pattern})*)("*)'),
+    ("'", 3): re.compile(rf"'''(?:\r?\n)?((?:{PLAIN}']|\r?\n|'{{1,2}}(?!'))*)('*)")}
 
 
 def unescaped(found: re.Match[str]) -> str:
@@ -82,8 +82,8 @@ class Scanner:
         self.brackets: list[int] = []
         self.statements: list[int] = []  # where they begin
 
-    def peek(self, ahead: int = 0) -> str:
-        return self.text[self.at + ahead:self.at + ahead + 1]
+    def peek(self) -> str:
+        return self.text[self.at:self.at + 1]
 
     def take(self, pattern: re.Pattern[str]) -> str:
         """Takes the text that a pattern matches here, which may be empty."""
@@ -93,8 +93,7 @@ class Scanner:
         return taken
 
     def document(self) -> Node:
-        root = Node('table', {}, '', 0, 0)
-        section: list[str] = []
+        root = section = Node('table', {}, '', 0, 0)
         if self.peek() == '\ufeff':
             self.at = 1
         while True:
@@ -109,18 +108,15 @@ class Scanner:
                 fault.statement, fault.open = start, list(self.brackets)
                 raise
 
-    def statement(self, root: Node, section: list[str]) -> list[str]:
-        start = self.at
-        double = self.peek() == '[' and self.peek(1) == '['
-        if self.peek() == '[':
-            key = self.header(2 if double else 1)
-            node = Node('table', {}, '', start, self.at)
-            node.origin = 'header'
-            define(root, [part[0] for part in key[:-1]], [], key, node, 'tables' if double else 'table')
-            section = [part[0] for part in key]
+    def statement(self, root: Node, section: Node) -> Node:
+        """Takes a header or a key with its value, and returns the table to which the next keys belong."""
+        start, brackets = self.at, len(self.take(OPENING))
+        if brackets:
+            key = self.header(brackets)
+            node = Node('table', {}, '', start, self.at, 'header')
+            section = define(root, key, node, 'tables' if brackets == 2 else 'table')
         else:
-            key, node = self.pair()
-            define(root, section, key[:-1], key, node, 'value')
+            define(section, *self.pair())
         self.take(SPACE)
         if self.peek() not in ('', '#', '\n', '\r'):
             raise Fault(self.at, 'The line ends before this text: a line break, a comma, a bracket or a quote is '
@@ -128,7 +124,7 @@ class Scanner:
         return section
 
     def header(self, brackets: int) -> list[Part]:
-        self.at += brackets
+        """Takes the key of a header after its opening brackets, and as many closing ones."""
         self.take(SPACE)
         key = self.key()
         for _ in range(brackets):
@@ -142,13 +138,9 @@ class Scanner:
         parts: list[Part] = []
         while len(parts) < DEEPEST:
             start = self.at
-            if self.peek() in ('"', "'"):
-                part = self.quoted(False)
-            else:
-                found = BARE.match(self.text, self.at)
-                if not found:
-                    raise Fault(self.at, 'A key is missing here: letters, digits, - and _, or a text in quotes.')
-                part, self.at = found[0], found.end()
+            part = self.quoted(False) if self.peek() in ('"', "'") else self.take(BARE)
+            if self.at == start:
+                raise Fault(start, 'A key is missing here: letters, digits, - and _, or a text in quotes.')
             parts.append((part, start, self.at))
             self.take(SPACE)
             if self.peek() != '.':
@@ -159,98 +151,76 @@ class Scanner:
 
     def pair(self) -> tuple[list[Part], Node]:
         key = self.key()
-        if self.peek() not in ('', '=', '\r', '\n') and self.at == key[-1][2]:
+        last, start, end = key[-1]
+        if self.peek() not in ('', '=', '\r', '\n') and self.at == end:
             raise Fault(self.at, 'A key has letters A to Z, a to z, digits, - and _ only: write any other in quotes.')
         if self.peek() != '=':
-            raise Fault(self.at, f'After the key {key[-1][0]} comes =.', first=(key[-1][1], key[-1][2]))
+            raise Fault(self.at, f'After the key {last} comes =.', first=(start, end))
         self.at += 1
         self.take(SPACE)
         return key, self.value()
 
     def value(self) -> Node:
         start, char = self.at, self.peek()
-        if char and char in '[{' and len(self.brackets) == DEEPEST:
-            raise Fault(self.at, f'Brackets are nested more than {DEEPEST} deep.')
-        value: Any
+        if char in ('[', '{') and len(self.brackets) == DEEPEST:
+            raise Fault(start, f'Brackets are nested more than {DEEPEST} deep.')
+        node = Node('array', [], '', start, start) if char == '[' else Node('table', {}, '', start, start, 'inline')
         if char == '[':
-            kind, value = 'array', self.array()
+            for number, _ in enumerate(self.elements(']', 'array'), 1):
+                node.value.append(self.value())
+                node.value[-1].number = number
         elif char == '{':
-            kind, value = 'table', self.inline_table()
-        elif char and char in '"\'':
-            kind, value = 'text', self.quoted(True)
+            for _ in self.elements('}', 'table'):
+                define(node, *self.pair())
+        elif char in ('"', "'"):
+            node = Node('text', self.quoted(True), '', start, start)
         else:
-            kind, value = self.unquoted()
-        node = Node(kind, value, self.text[start:self.at], start, self.at)
-        node.origin = 'inline' if kind == 'table' else ''
+            node = Node(*self.unquoted(), '', start, start)
+        node.raw, node.end, node.key_at = self.text[start:self.at], self.at, (start, self.at)
         return node
 
-    def array(self) -> list[Node]:
+    def elements(self, closing: str, kind: str) -> Iterator[None]:
+        """Takes brackets, and what parts the elements between them, each of which the caller takes."""
         self.brackets.append(self.at)
         self.at += 1
-        items = []
-        while True:
-            self.take(BLANK)
-            if self.peek() == ']':
-                break
-            items.append(self.value())
-            items[-1].number = len(items)
-            self.element_end(']', 'array')
-        self.at += 1
-        self.brackets.pop()
-        return items
-
-    def inline_table(self) -> dict[str, Member]:
-        self.brackets.append(self.at)
-        self.at += 1
-        table = Node('table', {}, '', self.at - 1, self.at)
-        while True:
-            self.take(BLANK)
-            if self.peek() == '}':
-                break
-            key, node = self.pair()
-            define(table, [], key[:-1], key, node, 'value')
-            self.element_end('}', 'table')
-        self.at += 1
-        self.brackets.pop()
-        members: dict[str, Member] = table.value
-        return members
-
-    def element_end(self, closing: str, kind: str) -> None:
-        end = self.at
         self.take(BLANK)
-        if self.peek() == ',':
-            self.at += 1
-        elif self.peek() != closing:
-            raise Fault(self.at if self.peek() else end, f'The {kind} that begins in line {{}} is not closed, or a '
-                        'comma is missing here.',
-                        first=(self.brackets[-1], self.brackets[-1] + 1))
+        while self.peek() != closing:
+            yield
+            end = self.at
+            self.take(BLANK)
+            if self.peek() == ',':
+                self.at += 1
+                self.take(BLANK)
+            elif self.peek() != closing:
+                raise Fault(self.at if self.peek() else end, f'The {kind} that begins in line {{}} is not closed, or a '
+                            'comma is missing here.', first=(self.brackets[-1], self.brackets[-1] + 1))
+        self.at += 1
+        self.brackets.pop()
 
     def quoted(self, may_be_long: bool) -> str:
         """Takes a text between quotes, or three of them."""
-        quote = self.peek()
-        multi = may_be_long and self.text[self.at:self.at + 3] == quote * 3
-        opened, ending = self.at, quote * (3 if multi else 1)
-        start = re.compile(f'{ending}(?:\r?\n)?' if multi else quote).match(self.text, opened)
-        inner = STRINGS[quote, multi].match(self.text, start.end() if start else opened)
-        assert inner
-        self.at, char = inner.end(), self.text[inner.end():inner.end() + 1]
-        count = next((count for count in range(7) if self.peek(count) != quote), 7)
-        if count > 5 and multi:
+        quote, opened = self.peek(), self.at
+        wanted = 3 if may_be_long and self.text.startswith(quote * 3, opened) else 1
+        found = STRINGS[quote, wanted].match(self.text, opened)
+        assert found
+        value, behind = found.groups()
+        self.at = found.end(1)
+        char = self.peek()
+        if len(behind) > 5 and wanted == 3:
             raise Fault(self.at, 'There are too many quotes here.')
-        if count >= len(ending):
-            self.at += count if multi else 1
-            value = inner[0] + quote * (count - 3 if multi else 0)
-            return ESCAPE.sub(unescaped, value) if quote == '"' else value
+        if len(behind) >= wanted:
+            more = behind[3:] if wanted == 3 else ''
+            self.at += wanted + len(more)
+            return (ESCAPE.sub(unescaped, value) if quote == '"' else value) + more
         if char == '\\':
             raise Fault(self.at, 'After a \\ this is no character: write \\\\ for a \\, or the text between \' and '
                         '\'.', end=self.at + 2)
         if char and char not in '\r\n':
             raise Fault(self.at, f'A text may not have the character U+{ord(char):04X}.')
-        raise Fault(opened, f'The text that begins here is not closed with {ending}.', end=self.at)
+        raise Fault(opened, f'The text that begins here is not closed with {quote * wanted}.', end=self.at)
 
     def unquoted(self) -> tuple[str, Any]:
-        start = self.at
-        word = self.take(WORD)
+        start, word = self.at, self.take(WORD)
         if not word:
             raise Fault(start, 'A value is missing here.' if self.peek() in ('', '\r', '\n', ',', ']', '}', '#')
                         else alien(self.peek()) or 'No value begins like this.')
@@ -282,55 +252,52 @@ def scalar(word: str) -> tuple[str, Any]:
     return '', f'{word} is no value: write a text in quotes.'
 
 
-def define(table: Node, path: list[str], dots: list[Part], key: list[Part], node: Node, what: str) -> None:
-    """Follows `path` as a header does, then `dots` as a dotted key does, and defines the last part of `key`."""
+def define(table: Node, key: list[Part], node: Node, what: str = 'value') -> Node:
+    """Defines a key, which may have dots, in a table: by a `value`, or by a header of a `table` or of one of `tables`.
+
+    Returns the node that the key then has; of tables, the last one."""
+    for part in key[:-1]:
+        table = on_way(table, part, what != 'value')
     last, start, end = key[-1]
-    for part in path:
-        member = table.value.get(part)
-        if member is None:
-            inner = Node('table', {}, '', start, end)
-            inner.origin = 'implicit'
-            member = table.value[part] = Member(part, start, end, inner)
-        table = member.node
-        if table.kind == 'array' and table.open:
-            table = table.value[-1]
-        elif table.kind != 'table' or table.origin == 'inline':
-            raise Fault(start, f'`{part}` is no table that goes on here: it has a value already, in line {{}}.', end,
-                        (member.start, member.end), twice=part)
-    for part, part_start, part_end in dots:
-        member = table.value.get(part)
-        if member is None:
-            inner = Node('table', {}, '', part_start, part_end)
-            member = table.value[part] = Member(part, part_start, part_end, inner)
-        table = member.node
-        if table.kind != 'table' or table.origin in ('inline', 'header'):
-            raise Fault(part_start, f'`{part}` is defined already, in line {{}}.', part_end, (member.start, member.end),
-                        twice=part)
-        table.origin = 'dotted'
-    at_key(table, last, start, end, node, what)
-
-
-def at_key(table: Node, key: str, start: int, end: int, node: Node, what: str) -> None:
-    member = table.value.get(key)
-    if member is None:
-        if what == 'tables':
-            node.number = 1
-            rows = Node('array', [node], '', start, end)
-            rows.open = True
-            node = rows
-        table.value[key] = Member(key, start, end, node)
-    elif what == 'table' and member.node.kind == 'table' and member.node.origin == 'implicit':
-        member.node.origin, member.node.start, member.node.end = 'header', node.start, node.end
-    elif what == 'tables' and member.node.kind == 'array' and member.node.open:
-        node.number = len(member.node.value) + 1
-        member.node.value.append(node)
+    node.key_at = start, end
+    old = table.value.get(last)
+    if old is None and what == 'tables':
+        old = table.value[last] = Node('array', [], '', start, end, 'headers')
+    if old is None:
+        table.value[last] = node
+    elif what == 'tables' and old.origin == 'headers':
+        old.value.append(node)
+        node.number = len(old.value)
+    elif what == 'table' and old.origin == 'implicit':
+        old.origin, old.start, old.end = 'header', node.start, node.end
+        return old
     else:
-        said = f'The key `{key}` is defined twice, first in line {{}}.'
-        if key in LISTS and what != 'value':
-            said = f'`{key}` is in line {{}} already: each one begins with [[{key}]].'
-        if key in LISTS and what == 'tables' and member.node.kind == 'array':
-            said = f'`{key} = [..]` is in line {{}}, and [[{key}]] is here: use one of the two.'
-        raise Fault(start, said, end, (member.start, member.end), twice=key)
+        raise Fault(start, defined_twice(last, old, what), end, old.key_at, twice=last)
+    return node
+
+
+def on_way(table: Node, part: Part, is_header: bool) -> Node:
+    """Returns the table at a part of a key that is not the last one, and makes it if it is missing."""
+    name, start, end = part
+    inner = table.value.get(name)
+    if inner is None:
+        inner = table.value[name] = Node('table', {}, '', start, end, 'implicit')
+    if is_header and inner.origin == 'headers':
+        inner = inner.value[-1]
+    elif inner.kind != 'table' or inner.origin == 'inline' or inner.origin == 'header' and not is_header:
+        said = 'is no table that goes on here: it has a value already' if is_header else 'is defined already'
+        raise Fault(start, f'`{name}` {said}, in line {{}}.', end, inner.key_at, twice=name)
+    if not is_header:
+        inner.origin = 'dotted'
+    return inner
+
+
+def defined_twice(key: str, old: Node, what: str) -> str:
+    if key not in LISTS or what == 'value':
+        return f'The key `{key}` is defined twice, first in line {{}}.'
+    if what == 'tables' and old.kind == 'array':
+        return f'`{key} = [..]` is in line {{}}, and [[{key}]] is here: use one of the two.'
+    return f'`{key}` is in line {{}} already: each one begins with [[{key}]].'
 
 
 CURLED = '\u2018\u2019\u201a\u201b\u201c\u201d\u201e\u201f\u00ab\u00bb'

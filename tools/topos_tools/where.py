@@ -8,12 +8,13 @@ from .query import LONGEST as MOST
 from .query import NO_REFUSAL, UNAVAILABLE, Stopped, find_program, need_words, read_bytes, write_text
 from .toml_places import Fault
 from .where_advice import WORDS
-from .where_description import Description
+from .where_description import Explanation
 from .where_edits import EditsText
 from .where_flows import EventsText, FlowsText
 from .where_lines import LineText, spans, words_of
 from .where_mends import Mends
 from .where_page import Finding, Mark, Page
+from .where_parts import Description
 from .where_refusals import Program, Refusal, refusals_in
 from .where_rules import RulesText
 from .where_samples import GENERAL
@@ -149,7 +150,7 @@ class Search:
     def go_through(self, edited: Edited, now: Refusal) -> int:
         """Shows the refusals of a text that is TOML."""
         try:
-            text = Description(self.program, edited, self.page)
+            text = Description(self.program, edited)
         except Fault:
             text = None
         if text is None or now.number != 1 and now != text.ask():
@@ -166,12 +167,12 @@ class Search:
         mends, is_hidden = Mends(text, bool(edited.touched)), False
         now, most = text.ask(), ROUNDS - len(self.page.findings)
         while now is not None and len(findings) < most:
-            finding, nodes = text.find(now)
+            finding = Explanation(text, now, self.page)
             is_lost = bool(edited.touched) and (now.place == 'document' or not finding.marks)
-            hides = is_lost or any(map(edited.is_touched, finding.marks)) or mends.hides(now, nodes)
+            hides = is_lost or any(map(edited.is_touched, finding.marks)) or mends.hides(finding)
             finding.marks = list(map(edited.mark, finding.marks))
             findings, is_hidden = findings + [finding] * (not hides), is_hidden or hides
-            if not self.is_whole or not mends.mend(now):
+            if not self.is_whole or not mends.mend(finding):
                 break
             now = text.ask()
         return findings, now is None and not is_hidden

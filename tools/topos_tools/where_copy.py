@@ -1,46 +1,53 @@
 """A copy of a description, as a table that can be changed. Changes can be undone."""
 import contextlib
 from collections.abc import Callable, Iterator
+from ipaddress import IPv4Address
 from typing import Any
 
-from .toml_places import Member, Node, quoted
+from .toml_places import Node, quoted
 from .where_page import Mark
 
 Change = Callable[[], object]
 
 
+KINDS = {dict: 'table', list: 'array', bool: 'boolean', int: 'integer', str: 'text'}
+
+
+KINDS = {dict: 'table', list: 'array', bool: 'boolean', int: 'integer', str: 'text'}
+
+
+KINDS = {dict: 'table', list: 'array', bool: 'boolean', int: 'integer', str: 'text'}
+
+
+KINDS = {dict: 'table', list: 'array', bool: 'boolean', int: 'integer', str: 'text'}
+
+
+KINDS = {dict: 'table', list: 'array', bool: 'boolean', int: 'integer', str: 'text'}
+
+
 def written(node: Node) -> str:
     """The value on one line, for a copy."""
     if node.kind == 'array':
-        return '[' + ', '.join(written(item) for item in node.value) + ']'
+        return f'[{", ".join(map(written, node.value))}]'
     if node.kind == 'table':
-        return '{' + ', '.join(f'{quoted(member.key)} = {written(member.node)}' for member in node.value.values()) + '}'
+        return f'{{{", ".join(f"{quoted(key)} = {written(inner)}" for key, inner in node.value.items())}}}'
     return quoted(node.value) if node.kind == 'text' else node.raw
 
 
 def document(root: Node) -> bytes:
     """The text of a copy: its keys, one in each line, without comments."""
-    lines = (f'{quoted(member.key)} = {written(member.node)}\n' for member in root.value.values())
-    return ''.join(lines).encode()
+    return ''.join(f'{quoted(key)} = {written(node)}\n' for key, node in root.value.items()).encode()
 
 
 def made(value: Any, at: Node) -> Node:
     """A value for a copy, in the place of `at`. A node is left as it is."""
     if isinstance(value, Node):
         return value
-    kind, raw = 'text', ''
-    if isinstance(value, dict):
-        kind, value = 'table', {key: Member(key, at.start, at.end, made(inner, at)) for key, inner in value.items()}
-    elif isinstance(value, list):
-        kind, value = 'array', [made(inner, at) for inner in value]
-    elif isinstance(value, bool):
-        kind, raw = 'boolean', str(value).lower()
-    elif isinstance(value, int):
-        kind, raw = 'integer', str(value)
-    else:
-        raw = quoted(value)
-    node = Node(kind, value, raw, at.start, at.end)
-    node.origin = 'made'
+    node = Node(KINDS[type(value)], value, str(value).lower(), at.start, at.end, 'made')
+    if node.kind == 'table':
+        node.value = {key: made(inner, at) for key, inner in value.items()}
+    elif node.kind == 'array':
+        node.value = [made(inner, at) for inner in value]
     for number, item in enumerate(node.items(), 1):
         item.number = item.number or number
     node.number = at.number
@@ -62,12 +69,8 @@ class Copy:
             yield
         finally:
             while len(self.undo) > before:
-                self.take_back()
-
-    def take_back(self) -> None:
-        """Undoes the last change."""
-        node, value = self.undo.pop()
-        node.value = value
+                node, value = self.undo.pop()
+                node.value = value
 
     def give(self, node: Node, value: Any) -> None:
         """Another value for a text, an array or a table: its elements or its members."""
@@ -77,17 +80,28 @@ class Copy:
     def fill(self, table: Node, values: dict[str, Any]) -> None:
         """These keys and values for a table, where known ones keep their places."""
         old = table.value if table.kind == 'table' else {}
-        self.give(table, {key: old[key] if key in old and old[key].node is value else
-                          Member(key, table.start, table.end, made(value, old[key].node if key in old else table))
-                          for key, value in values.items()})
+        self.give(table, {key: made(value, old.get(key, table)) for key, value in values.items()})
 
     def set(self, table: Node, key: str, value: Any) -> None:
-        self.fill(table, {name: member.node for name, member in table.value.items()} | {key: value})
+        self.fill(table, table.value | {key: value})
 
     def put(self, array: Node, item: Node, *values: Any) -> None:
         """Other values in the place of an item, or none."""
         place = next((each for each, other in enumerate(array.value) if other is item), len(array.value))
         self.give(array, array.value[:place] + [made(value, item) for value in values] + array.value[place + 1:])
+
+    def replace(self, holder: Node, item: Node, *values: Any) -> None:
+        """Other values in the place of an element of an array, or another one for a key of a table."""
+        if holder.kind == 'array' and holder is not item:
+            self.put(holder, item, *values)
+        else:
+            self.fill(holder, {key: values[0] if node is item else node for key, node in holder.value.items()})
+
+    def move(self, key: str, table: Node, to: Node) -> None:
+        """Moves a key from one table to another."""
+        value = table.need(key)
+        self.fill(table, {other: node for other, node in table.value.items() if other != key})
+        self.set(to, key, value)
 
     # What it has.
 
@@ -95,15 +109,33 @@ class Copy:
         node = self.root.get(key)
         return node.items() if node else []
 
+    def entries(self) -> list[Node]:
+        """The entries of all invariants."""
+        return [entry for row in self.rows('invariant') for entry in (row.get('assign') or row).items()]
+
+    def entries(self) -> list[Node]:
+        """The entries of all invariants."""
+        return [entry for row in self.rows('invariant') for entry in (row.get('assign') or row).items()]
+
+    def entries(self) -> list[Node]:
+        """The entries of all invariants."""
+        return [entry for row in self.rows('invariant') for entry in (row.get('assign') or row).items()]
+
+    def entries(self) -> list[Node]:
+        """The entries of all invariants."""
+        return [entry for row in self.rows('invariant') for entry in (row.get('assign') or row).items()]
+
+    def entries(self) -> list[Node]:
+        """The entries of all invariants."""
+        return [entry for row in self.rows('invariant') for entry in (row.get('assign') or row).items()]
+
     def names(self) -> list[str]:
         return [name for name in (text_of(host.get('name')) for host in self.rows('host')) if name is not None]
 
     def mentions(self, name: str) -> list[Node]:
         """The places of the text in flows and in entries."""
         found = [item for flow in self.rows('flow') for item in flow.items()[:2]]
-        for entry in [entry for row in self.rows('invariant') for entry in (row.get('assign') or row).items()]:
-            for member in entry.value.values() if entry.kind == 'table' else []:
-                found += [member.node, *member.node.items()]
+        found += [each for entry in self.entries() for value in entry.inner() for each in (value, *value.items())]
         return [node for node in found if text_of(node) == name]
 
     # New values for it.
@@ -114,7 +146,7 @@ class Copy:
 
     def new_address(self) -> str:
         self.fresh += 1
-        return f'255.{self.fresh >> 16 & 255}.{self.fresh >> 8 & 255}.{self.fresh & 255}'
+        return str(IPv4Address('255.0.0.0') + self.fresh)
 
     def declare(self, name: str) -> None:
         hosts = self.root.need('host')
@@ -123,6 +155,13 @@ class Copy:
     def rename(self, name: str, other: str) -> None:
         for node in self.mentions(name):
             self.give(node, other)
+
+
+def all_of(*changes: Change) -> Change:
+    def change() -> None:
+        for each in changes:
+            each()
+    return change
 
 
 def text_of(node: Node | None) -> str | None:

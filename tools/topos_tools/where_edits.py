@@ -4,9 +4,10 @@ from collections.abc import Iterable
 
 from .query import NO_REFUSAL, Stopped
 from .toml_places import Fault, Scanner
-from .where_description import Description
+from .where_description import Explanation
 from .where_lines import CONFLICTS, LineText, RefusedLine, Told, Word, words_of
 from .where_page import Page
+from .where_parts import Description
 from .where_refusals import Program, Refusal
 from .where_toml import Edited, fault_in
 
@@ -94,7 +95,7 @@ class EditsText(LineText):
         now = text.ask()
         if now is None or now.name != line.name:
             return None
-        finding, _ = text.find(now)
+        finding = Explanation(text, now)
         if not finding.marks:
             return None
         spans = [(shift + mark.start, shift + mark.end) for mark in finding.marks]

@@ -6,7 +6,7 @@ another, next to a sample that the program accepts: a part is at fault if the pr
 from functools import partial
 from typing import Any
 
-from .toml_places import Member, Node, Scanner
+from .toml_places import Node, Scanner
 from .where_copy import Change, Copy, document, made, text_of
 from .where_refusals import PLACES, Order, Program, Refusal
 from .where_samples import ADDRESS, NAME, SAMPLES, TABLES, values_of
@@ -20,7 +20,8 @@ class Parts:
 
     def __init__(self, kept: dict[str, Any]) -> None:
         self.kept, self.added = kept, dict[str, Any]()
-        self.keys, self.items = list[Member](), list[tuple[str, Node]]()  # at fault; items by the key of their array
+        self.keys = dict[str, Node]()  # at fault
+        self.items = list[tuple[str, Node]]()  # at fault, by the key of their array
 
     def whole(self, node: Node) -> dict[str, Any]:
         return joined(node, self.added, self.kept)
@@ -32,7 +33,7 @@ def joined(node: Node, sample: dict[str, Any], kept: dict[str, Any]) -> dict[str
     return sample | kept if node.kind == 'table' else {'': [*getattr(first, 'value', first), *sample.get('', [])]}
 
 
-class Asked:
+class Description:
     """A copy of a description, and what the program answers about it."""
 
     def __init__(self, program: Program, edited: Edited) -> None:
@@ -65,6 +66,12 @@ class Asked:
     def other_at(self, refusal: Refusal) -> Node:
         return self.row_at(refusal)[1].items()[refusal.other - 1]
 
+    def title(self, refusal: Refusal) -> str:
+        """The refusal with the numbers of FILE in the place of those of the copy."""
+        words = ' '.join(f'{word} {node.number}' for word, _, node in self.steps(refusal)) or 'document'
+        other = f', other {self.other_at(refusal).number}' if refusal.other else ''
+        return f'{refusal.number} {refusal.name} at {words}{other}'
+
     def order(self, refusal: Refusal) -> Order:
         """The place of a refusal of the copy among all, by the numbers of FILE."""
         steps = self.steps(refusal)
@@ -96,15 +103,15 @@ class Asked:
         (kind, _, node), before = self.row_at(refusal), self.order(refusal)
         if node.kind != ('array' if kind == 'flow' else 'table'):
             return None
-        members = {'': Member('', node.start, node.end, made(node.value, node))} if kind == 'flow' else node.value
-        held = {'host': members['host'].node} if refusal.number == 18 else {}
+        members = {'': made(node.value, node)} if kind == 'flow' else node.value
+        held = {'host': members['host']} if refusal.number == 18 else {}
         samples = self.samples(refusal, node)
         if kind != 'flow':
             samples = [sample for sample in samples if self.fits(before, node, [sample], held) is not None]
         parts, order = Parts(held), list(dict.fromkeys(key for sample in samples for key in sample))
         for key in sorted(members, key=lambda key: order.index(key) if key in order else len(order)):
             if key not in held:
-                self.try_part(before, node, samples, parts, members[key])
+                self.try_part(before, node, samples, parts, key, members[key])
         fitting = self.fits(before, node, [{}, *samples], parts.kept)
         parts.added = {} if not fitting else {key: value for key, value in samples[fitting - 1].items()
                                               if key not in parts.kept or not key}
@@ -126,9 +133,9 @@ class Asked:
                         for word in map(text_of, (kinds or node).items()[:3]) if word), *tables]
         return [{key: self.fresh(value) for key, value in table.items()} for table in tables]
 
-    def try_part(self, before: Order, node: Node, samples: list[dict[str, Any]], parts: Parts, member: Member) -> None:
+    def try_part(self, before: Order, node: Node, samples: list[dict[str, Any]], parts: Parts, key: str,
+                 value: Node) -> None:
         """Keeps the key and its value, or some of its elements, or neither."""
-        key, value = member.key, member.node
         fitting = self.fits(before, node, samples, parts.kept | {key: value})
         if fitting is not None:
             parts.kept[key] = value
@@ -143,7 +150,7 @@ class Asked:
             parts.kept[key] = kept
             parts.items += [(key, item) for item in bad]
         else:
-            parts.keys.append(member)
+            parts.keys[key] = value
 
     # Values for it.
 

@@ -4,7 +4,7 @@ import re
 from collections.abc import Iterator
 
 from .toml_places import BLANKS, CURLED, Fault, Scanner, alien, quoted
-from .where_page import Finding, Mark, Page
+from .where_page import Finding, Mark
 from .where_refusals import Program
 
 Repair = tuple[int, int, str]  # the place, how much is taken out, and what is put in
@@ -68,8 +68,7 @@ class NoToml:
         fault = fault_in(self.text)
         if fault is None or not self.is_borne_out(fault):
             return self.read_so_far(), None
-        line = Page('', self.text).line_of(fault.first[0]) if fault.first else 0
-        sentence = fault.sentence.replace('{}', str(line))
+        sentence = fault.sentence.replace('{}', str(self.line_of(fault.first[0] if fault.first else 0)))
         marks = [Mark(fault.at, fault.end)] + ([Mark(*fault.first)] if fault.first else [])
         if fault.twice:
             doubled = self.doubled(fault.twice)
@@ -99,8 +98,10 @@ class NoToml:
         bracket = next(one for one in reversed(fault.open) if one < at)
         if not fault.first:
             marks.append(Mark(bracket, bracket + 1))
-        line = Page('', self.text).line_of(bracket)
-        return f'The {"array" if put[0] == "]" else "table"} that begins in line {line} is not closed.'
+        return f'The {"array" if put[0] == "]" else "table"} that begins in line {self.line_of(bracket)} is not closed.'
+
+    def line_of(self, at: int) -> int:
+        return self.text.count('\n', 0, at) + 1
 
     def placed(self, marks: list[Mark]) -> list[Mark]:
         """The marks by their places in FILE."""
