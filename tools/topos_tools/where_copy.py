@@ -8,20 +8,6 @@ from .toml_places import Node, quoted
 from .where_page import Mark
 
 Change = Callable[[], object]
-
-
-KINDS = {dict: 'table', list: 'array', bool: 'boolean', int: 'integer', str: 'text'}
-
-
-KINDS = {dict: 'table', list: 'array', bool: 'boolean', int: 'integer', str: 'text'}
-
-
-KINDS = {dict: 'table', list: 'array', bool: 'boolean', int: 'integer', str: 'text'}
-
-
-KINDS = {dict: 'table', list: 'array', bool: 'boolean', int: 'integer', str: 'text'}
-
-
 KINDS = {dict: 'table', list: 'array', bool: 'boolean', int: 'integer', str: 'text'}
 
 
@@ -113,24 +99,8 @@ class Copy:
         """The entries of all invariants."""
         return [entry for row in self.rows('invariant') for entry in (row.get('assign') or row).items()]
 
-    def entries(self) -> list[Node]:
-        """The entries of all invariants."""
-        return [entry for row in self.rows('invariant') for entry in (row.get('assign') or row).items()]
-
-    def entries(self) -> list[Node]:
-        """The entries of all invariants."""
-        return [entry for row in self.rows('invariant') for entry in (row.get('assign') or row).items()]
-
-    def entries(self) -> list[Node]:
-        """The entries of all invariants."""
-        return [entry for row in self.rows('invariant') for entry in (row.get('assign') or row).items()]
-
-    def entries(self) -> list[Node]:
-        """The entries of all invariants."""
-        return [entry for row in self.rows('invariant') for entry in (row.get('assign') or row).items()]
-
     def names(self) -> list[str]:
-        return [name for name in (text_of(host.get('name')) for host in self.rows('host')) if name is not None]
+        return [name for host in self.rows('host') if (name := text_of(host.get('name'))) is not None]
 
     def mentions(self, name: str) -> list[Node]:
         """The places of the text in flows and in entries."""
