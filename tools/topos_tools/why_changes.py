@@ -54,11 +54,11 @@ def other_values(own: Table, used: list[Table]) -> Iterator[Table]:
 
 def entries_for(description: Description, given: Given, host: str, others: list[str]) -> list[Table]:
     """Entries of an invariant that may replace that of a host, those with the smallest difference first."""
-    template, entries = given['template'], description.entries(given['invariant'])
+    template, entries = given['template'], description.entries[given['invariant']]
     own = entries.get(host, {})
     used = [entries[other] for other in others if other in entries]
     used += [entry for number, each in enumerate(description.invariants, 1) if each['template'] == template
-             for entry in description.entries(number).values()]
+             for entry in description.entries[number].values()]
     templates = description.table.get('template', [])
     kinds: list[str] = next((each['kinds'] for each in templates if each['name'] == template), [])
     found: list[Table] = [*other_lists(own, host, others, entries), *other_values(own, used),
@@ -74,7 +74,7 @@ class Entry:
     def __init__(self, description: Description, number: int, host: str, entry: Table) -> None:
         self.number, self.host, self.entry = number, host, entry
         self.invariant = description.with_entry(number, host, entry)
-        self.old = description.entries(number).get(host, {})
+        self.old = description.entries[number].get(host, {})
         self.opened: set[Thing] = set()
         self.closed: set[Flow] = set()
 

@@ -31,17 +31,12 @@ def say(flow: Sequence[str]) -> str:
     return f'{flow[0]} -> {flow[1]}'
 
 
-def titles(reasons: Iterable[tuple[int, str]]) -> str:
-    return joined(f'{number} {template}' for number, template in reasons)
-
-
 class Description:
     """A description that the program accepts, as a text and as a table, and the answers of `topos-query` on it."""
 
     def __init__(self, programs: Programs, text: bytes) -> None:
         self.programs, self.text = programs, text
         self.origin = self  # whose tables are known
-        self.read_entries: dict[int, dict[str, Table]] = {}
 
     @functools.cached_property
     def table(self) -> Table:
@@ -108,13 +103,12 @@ class Description:
     def has_answers(self) -> bool:
         return bool(self.table.get('answers', 'all') == 'all')
 
-    def entries(self, number: int) -> dict[str, Table]:
-        """The entries of an invariant by host, with sorted keys, as `topos migrate` writes them."""
-        if number not in self.read_entries:
-            self.read_entries[number] = {
-                each['host']: {key: each[key] for key in sorted(each) if key != 'host'}
-                for each in self.invariants[number - 1].get('assign', [])}
-        return self.read_entries[number]
+    @functools.cached_property
+    def entries(self) -> dict[int, dict[str, Table]]:
+        """For each invariant its entries by host, with sorted keys, as `topos migrate` writes them."""
+        return {number: {each['host']: {key: each[key] for key in sorted(each) if key != 'host'}
+                         for each in invariant.get('assign', [])}
+                for number, invariant in enumerate(self.invariants, 1)}
 
     def with_entry(self, number: int, host: str, entry: Table) -> Table:
         """An invariant as a table, with another entry for a host, or with none if the entry is empty."""
@@ -150,7 +144,7 @@ class Network:
         return [flow for flow in self.flows if self.is_allowed(flow)]
 
     def by(self, thing: Thing) -> str:
-        return titles((number, self.template[number]) for number in self.denied[thing])
+        return joined(f'{number} {self.template[number]}' for number in self.denied[thing])
 
     def state(self, flow: Flow) -> str:
         """The state of a flow, in words."""

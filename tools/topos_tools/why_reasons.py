@@ -79,7 +79,7 @@ def noted(place: Place) -> list[str]:
 def reason(description: Description, given: Given, answers: set[Flow]) -> list[str]:
     """An invariant that fails, the flows on which it does, and what it assigns to their hosts."""
     flows = [tuple(flow) for flow in given['flows']]
-    hosts, entries = hosts_of(flows), description.entries(given['invariant'])
+    hosts, entries = hosts_of(flows), description.entries[given['invariant']]
     said = [said_entry(host, entries.get(host), hosts) for host in hosts[:SHOWN]]
     said += [counted(len(hosts) - SHOWN, 'more host')] if len(hosts) > SHOWN else []
     part = '' if len(flows) == 1 else ', and holds if one of these flows is missing'

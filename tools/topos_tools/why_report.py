@@ -9,6 +9,7 @@ TYPE_CHECKING = False
 if TYPE_CHECKING:
     from collections.abc import Iterator
 
+    from .page import Page
     from .why_network import Flow, Table, Thing
     from .why_reasons import Given
 
@@ -17,20 +18,12 @@ def said_services(services: list[str]) -> str:
     return 'as ' + joined(services) if services else 'whole: everything between the two'
 
 
-class Notes:
-    """The titles and the reasons of the elements of a description, from its comments."""
-
-    def __init__(self, description: Description) -> None:
-        self.page = None
-        if b'topos: ' in description.text:  # as every such comment has it
-            from .page import read_page
-            self.page = read_page(description.text, description.table)
-
-    def of_flow(self, flow: Flow) -> list[str]:
-        return noted(self.page.flow(*flow)) if self.page else []
-
-    def of_invariant(self, number: int) -> list[str]:
-        return noted(self.page.invariant(number)) if self.page else []
+def read_notes(description: Description) -> Page | None:
+    """Returns the places of a description with the titles and the reasons from its comments, if it has such ones."""
+    if b'topos: ' not in description.text:  # as every such comment has it
+        return None
+    from .page import read_page
+    return read_page(description.text, description.table)
 
 
 class Report:
@@ -39,7 +32,7 @@ class Report:
     def __init__(self, description: Description, flow: Flow, answer: Table) -> None:
         self.description, self.flow, self.answer = description, flow, answer
         self.lines: list[str] = []
-        self.notes = Notes(description)
+        self.notes = read_notes(description)
         self.is_asked = answer['asked']
 
     def say(self, line: str) -> None:
@@ -47,7 +40,7 @@ class Report:
 
     def whole(self) -> list[str]:
         self.say(f'{say(self.flow)} is {self.asking()}.')
-        self.lines += self.notes.of_flow(self.flow)
+        self.lines += noted(self.notes.flow(*self.flow)) if self.notes else []
         if self.answer['permitted']:
             self.allowed(self.description, self.answer)
         elif self.answer['denied_by']:
@@ -81,7 +74,8 @@ class Report:
         answers = {flow for flow in flows if not description.network.is_allowed(flow)}
         for given in reasons:
             first, *others = reason(description, given, answers)
-            self.lines += [first, *self.notes.of_invariant(given['invariant']), *others]
+            notes = noted(self.notes.invariant(given['invariant'])) if self.notes else []
+            self.lines += [first, *notes, *others]
         is_listed = description is not self.description or self.is_asked
         told = Changes(description, thing, reasons, is_listed).told()
         if told:
