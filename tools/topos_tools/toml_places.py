@@ -33,7 +33,8 @@ class Node:
 
     def get(self, key: str) -> 'Node | None':
         """Returns the value of a key, or None if this is no table or lacks the key."""
-        return self.value.get(key) if self.kind == 'table' else None
+        node: Node | None = self.value.get(key) if self.kind == 'table' else None
+        return node
 
     def need(self, key: str) -> 'Node':
         """Returns the value of a key that the table has."""
@@ -260,7 +261,7 @@ def define(table: Node, key: list[Part], node: Node, what: str = 'value') -> Nod
         table = on_way(table, part, what != 'value')
     last, start, end = key[-1]
     node.key_at = start, end
-    old = table.value.get(last)
+    old = table.get(last)
     if old is None and what == 'tables':
         old = table.value[last] = Node('array', [], '', start, end, 'headers')
     if old is None:
@@ -279,12 +280,12 @@ def define(table: Node, key: list[Part], node: Node, what: str = 'value') -> Nod
 def on_way(table: Node, part: Part, is_header: bool) -> Node:
     """Returns the table at a part of a key that is not the last one, and makes it if it is missing."""
     name, start, end = part
-    inner = table.value.get(name)
-    if inner is None:
-        inner = table.value[name] = Node('table', {}, '', start, end, 'implicit')
+    if name not in table.value:
+        table.value[name] = Node('table', {}, '', start, end, 'implicit')
+    inner = table.need(name)
     if is_header and inner.origin == 'headers':
-        inner = inner.value[-1]
-    elif inner.kind != 'table' or inner.origin == 'inline' or inner.origin == 'header' and not is_header:
+        return inner.items()[-1]
+    if inner.kind != 'table' or inner.origin == 'inline' or inner.origin == 'header' and not is_header:
         said = 'is no table that goes on here: it has a value already' if is_header else 'is defined already'
         raise Fault(start, f'`{name}` {said}, in line {{}}.', end, inner.key_at, twice=name)
     if not is_header:
