@@ -5,9 +5,7 @@ breaks no invariant.
 """
 from __future__ import annotations
 
-import json
-
-from .query import USAGE, Programs, Stopped, need_words, read_bytes, toml, write_text
+from .query import USAGE, Programs, Stopped, data_text, lines_text, need_words, read_bytes, toml, write_text
 
 TYPE_CHECKING = False
 if TYPE_CHECKING:
@@ -54,12 +52,13 @@ def main(values: dict[str, str], options: set[str], words: list[str]) -> int:
         raise Stopped('--json and --open exclude each other', USAGE)
     programs, text = Programs.find(values.get('--program')), read_bytes(words[0])
     if '--open' in options:
-        lines = list(open_lines(programs.table(text)))
+        write_text(None, lines_text(open_lines(programs.table(text))))
+        return 0
+    found = senders(programs.ask(text, 'network'))
+    if '--json' in options:
+        receivers = [{'to': receiver, 'from': names} for receiver, names in found.items()]
+        write_text(None, data_text({'schema': SCHEMA, 'receivers': receivers}))
     else:
-        found = senders(programs.ask(text, 'network'))
-        lines = [f'{receiver} {len(names)} from {" ".join(names)}' for receiver, names in found.items()]
-        if '--json' in options:
-            receivers = [{'to': receiver, 'from': names} for receiver, names in found.items()]
-            lines = [json.dumps({'schema': SCHEMA, 'receivers': receivers}, indent=1)]
-    write_text(None, ''.join(f'{line}\n' for line in lines))
+        lines = (f'{receiver} {len(names)} from {" ".join(names)}' for receiver, names in found.items())
+        write_text(None, lines_text(lines))
     return 0

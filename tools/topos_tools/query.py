@@ -267,6 +267,15 @@ def write_text(path: str | None, text: str) -> None:
         raise Stopped(f'cannot write {path}', NO_OUTPUT) from None
 
 
+def data_text(tree: dict[str, Any]) -> str:
+    """Returns data as the text that a tool writes with --json."""
+    return json.dumps(tree, indent=1) + '\n'
+
+
+def lines_text(lines: Iterable[str]) -> str:
+    return ''.join(f'{line}\n' for line in lines)
+
+
 def read_words(given: list[str], valued: set[str], plain: set[str]) -> tuple[dict[str, str], set[str], list[str]]:
     """Returns the values of the options with one, the options without, and the other words."""
     values: dict[str, str] = {}

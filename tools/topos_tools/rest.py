@@ -5,10 +5,9 @@ is not counted: the printed host replaces it.
 """
 from __future__ import annotations
 
-import json
 from ipaddress import IPv4Network, collapse_addresses
 
-from .query import USAGE, Programs, Stopped, limit, need_words, read_bytes, text_of, write_text
+from .query import USAGE, Programs, Stopped, data_text, limit, need_words, read_bytes, text_of, write_text
 
 TYPE_CHECKING = False
 if TYPE_CHECKING:
@@ -120,8 +119,7 @@ def main(values: dict[str, str], options: set[str], words: list[str]) -> int:
     prefixes = left(networks, taken)
     refuse_unfit(hosts, taken, prefixes)
     if '--json' in options:
-        tree = {'schema': SCHEMA, 'name': name, 'at': list(map(written, prefixes))}
-        write_text(None, json.dumps(tree, indent=1) + '\n')
+        write_text(None, data_text({'schema': SCHEMA, 'name': name, 'at': list(map(written, prefixes))}))
         return 0
     is_table = any(line.split('#')[0].replace(' ', '').strip() == '[[host]]' for line in text.decode().splitlines())
     write_text(None, printed(name, prefixes, is_table) + '\n')

@@ -1,11 +1,10 @@
 """Shows the lines of a file that a refusal of topos is about, the wrong words, and the remedy."""
 import io
-import json
 import re
 import sys
 
 from .query import LONGEST as MOST
-from .query import NO_REFUSAL, UNAVAILABLE, Stopped, find_program, need_words, read_bytes, write_text
+from .query import NO_REFUSAL, UNAVAILABLE, Stopped, data_text, find_program, need_words, read_bytes, write_text
 from .toml_places import Fault
 from .where_advice import WORDS
 from .where_description import Explanation
@@ -203,5 +202,5 @@ def main(values: dict[str, str], options: set[str], words: list[str]) -> int:
     except ValueError as error:
         raise Stopped(f'the file cannot be read here ({type(error).__name__})', UNAVAILABLE) from None
     if '--json' in options:
-        write_text(None, json.dumps({'schema': SCHEMA, **page.tree()}, indent=1) + '\n')
+        write_text(None, data_text({'schema': SCHEMA, **page.tree()}))
     return status

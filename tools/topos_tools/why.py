@@ -2,9 +2,7 @@
 to change."""
 from __future__ import annotations
 
-import json
-
-from .query import Programs, Stopped, need_words, read_bytes, write_text
+from .query import Programs, Stopped, data_text, lines_text, need_words, read_bytes, write_text
 
 TYPE_CHECKING = False
 if TYPE_CHECKING:
@@ -64,8 +62,6 @@ def main(values: dict[str, str], options: set[str], words: list[str]) -> int:
     from .why_network import Description
     description = Description(Programs.find(values.get('--program')), read_bytes(words[0]))
     lines, facts = answer(description, words[1:])
-    if '--json' in options:
-        write_text(None, json.dumps({'schema': SCHEMA, 'lines': lines, **facts}, indent=1) + '\n')
-    else:
-        write_text(None, ''.join(f'{line}\n' for line in lines))
+    is_data = '--json' in options
+    write_text(None, data_text({'schema': SCHEMA, 'lines': lines, **facts}) if is_data else lines_text(lines))
     return 0
