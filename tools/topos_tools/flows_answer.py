@@ -1,7 +1,5 @@
 """Asks `topos-query flows` what rules let pass, and leads its rules back to the lines of the save."""
-import json
 import re
-import tempfile
 from dataclasses import dataclass
 from typing import Any
 
@@ -9,7 +7,7 @@ from .flows_services import ALL_SERVICES, number_of
 from .import_bounds import Bound
 from .import_save import MARK, Save
 from .import_sets import Numbers, is_subset, joined
-from .query import VERSION, Programs, Stopped, answered
+from .query import Programs, Stopped
 
 Pair = tuple[str | None, str | None]  # None is for the addresses of no host
 POLICY = 0  # in place of a line
@@ -77,14 +75,7 @@ def places_of(text: str) -> Places:
 
 def ask_flows(programs: Programs, description: bytes, text: str) -> Flows:
     """Returns what `topos-query flows` answers on one text."""
-    with tempfile.NamedTemporaryFile('w', encoding='utf-8', errors='surrogateescape') as file:
-        file.write(text)
-        file.flush()
-        words = [programs.query, 'flows', 'iptables', '/dev/stdin', file.name]
-        answer: dict[str, Any] = json.loads(answered(words, description))
-    if answer['version'] != VERSION:
-        raise Stopped(f'{programs.query} answers in version {answer["version"]} of its format: '
-                      f'version {VERSION} is read')
+    answer = programs.ask_flows(description, text.encode(errors='surrogateescape'))
     places = places_of(text)
     pairs = {(each['from'], each['to']): [range_of(part, places) for part in each['services']]
              for each in answer['pairs']}

@@ -17,7 +17,7 @@ import sys
 
 TYPE_CHECKING = False  # as typing.TYPE_CHECKING, without the import
 if TYPE_CHECKING:
-    from collections.abc import Callable, Iterable, Mapping, Sequence
+    from collections.abc import Callable, Iterable, Iterator, Mapping, Sequence
     from typing import Any, BinaryIO
 
     Work = Callable[[dict[str, str], set[str], list[str]], int]
@@ -98,12 +98,27 @@ class Programs:
 
     def ask(self, text: bytes, form: str, *names: str) -> dict[str, Any]:
         """Returns the answer of `topos-query` to a question on a description."""
-        return self._read(answered([self.query, form, '/dev/stdin', *names], text))
+        return self._read(Question([self.query, form, '/dev/stdin', *names], text))
 
     def ask_changes(self, old: bytes, new: bytes) -> dict[str, Any]:
         """Returns the answer of `topos-query changes` on two descriptions."""
-        asked = Question([self.query, 'changes', '/dev/stdin'], old, new)
-        return self._read(asked.answer((0, DIFFERS)))
+        return self._read(Question([self.query, 'changes', '/dev/stdin'], old, new), (0, DIFFERS))
+
+    def ask_flows(self, text: bytes, rules: bytes) -> dict[str, Any]:
+        """Returns the answer of `topos-query flows` on a description and rules for iptables."""
+        return self._read(Question([self.query, 'flows', 'iptables', '/dev/stdin'], text, rules))
+
+    def ask_if_accepted(self, text: bytes, form: str) -> dict[str, Any] | None:
+        """Returns the answer, or None if the program refuses the description."""
+        return self.ask_all([text], form)[0]
+
+    def ask_all(self, texts: list[bytes], form: str) -> list[dict[str, Any] | None]:
+        """Returns the answers for several descriptions, asked in parallel; None for one that the program refuses."""
+        answers: list[dict[str, Any] | None] = []
+        for wave in waves(texts):
+            asked = [Question([self.query, form, '/dev/stdin'], text) for text in wave]
+            answers += [self._read_if_accepted(each) for each in asked]
+        return answers
 
     def rules(self, text: bytes) -> bytes:
         """Returns the rules of the permitted flows of a description."""
@@ -114,48 +129,27 @@ class Programs:
         asked = Question([self.topos, 'trace', 'iptables', '/dev/stdin'], rules, events.encode())
         return [line.split()[1] for line in asked.answer().splitlines()]
 
-    def _read(self, output: str) -> dict[str, Any]:
-        answer: dict[str, Any] = json.loads(output)
+    def _read(self, asked: Question, statuses: Sequence[int] = (0,)) -> dict[str, Any]:
+        answer: dict[str, Any] = json.loads(asked.answer(statuses))
         if answer['version'] != VERSION:
             raise Stopped(f'{self.query} answers in version {answer["version"]} of its format: '
                           f'version {VERSION} is read')
         return answer
 
-    def ask_if_accepted(self, text: bytes, form: str, *names: str) -> dict[str, Any] | None:
-        """Returns the answer, or None if the program refuses the description."""
-        return self._read_if_accepted(Question([self.query, form, '/dev/stdin', *names], text))
-
-    def ask_all(self, texts: list[bytes], form: str) -> list[dict[str, Any] | None]:
-        """Returns the answers for several descriptions, asked in parallel; None for one that the program refuses."""
-        answers: list[dict[str, Any] | None] = []
-        at_once = os.cpu_count() or 1
-        for start in range(0, len(texts), at_once):
-            asked = [Question([self.query, form, '/dev/stdin'], text) for text in texts[start:start + at_once]]
-            answers += [self._read_if_accepted(each) for each in asked]
-        return answers
-
     def _read_if_accepted(self, asked: Question) -> dict[str, Any] | None:
         try:
-            return self._read(asked.answer())
+            return self._read(asked)
         except Stopped as stopped:
             if stopped.status != REFUSED:
                 raise
             return None
 
-    def digest(self) -> str:
-        """Returns the SHA-256 of `topos-query`."""
-        import hashlib
-        with open(self.query, 'rb') as file:
-            return hashlib.sha256(file.read()).hexdigest()
 
-    def is_listed(self) -> bool:
-        """Whether the list `topos.proved` next to the program has the digest of `topos-query`."""
-        try:
-            with open(os.path.join(os.path.dirname(os.path.realpath(self.query)), 'topos.proved'),
-                      encoding='utf-8') as file:
-                return f'{self.digest()}  query' in file.read().splitlines()
-        except OSError:
-            return False
+def waves(items: list[Any]) -> Iterator[list[Any]]:
+    """Yields the items in lists. The items of a list are asked about in parallel."""
+    size = os.cpu_count() or 1
+    for start in range(0, len(items), size):
+        yield items[start:start + size]
 
 
 class Question:

@@ -16,7 +16,7 @@ from collections.abc import Iterator
 from dataclasses import dataclass, field
 from typing import Any
 
-from .query import Programs, text_of
+from .query import Programs, text_of, waves
 from .report_model import Exempt, Flow, Network, Report, flow_of
 from .report_words import ANSWERED, PERMITTED, attribute_words
 
@@ -191,13 +191,6 @@ def batches_of(parts: list[Part], has_originals: bool) -> Iterator[list[Part]]:
         batch.append(part)
     if batch:
         yield batch
-
-
-def waves(items: list[Any]) -> Iterator[list[Any]]:
-    """Yields the items in lists. The items of a list are asked side by side."""
-    size = os.cpu_count() or 1
-    for start in range(0, len(items), size):
-        yield items[start:start + size]
 
 
 def distinct(parts: list[Part]) -> list[Part]:

@@ -253,7 +253,7 @@ class Report:
             'file': {'name': self.source.name, 'bytes': len(self.source.data), 'sha256': self.source.digest()},
             'program': self.program, 'has_flow_key': self.source.has_flow_key,
             'answers': self.source.table.get('answers', 'all'), 'lines_known': self.source.page.is_known,
-            'counts': self.counts(), 
+            'counts': self.counts(),
             'hosts': [{**placed(each), 'reached_from': self.reached.get(each.name)} for each in self.hosts],
             'flows': [placed(each) for each in self.flows],
             'states': network.rows,
@@ -283,17 +283,16 @@ def invariant_tree(invariant: Invariant) -> dict[str, Any]:
     return {**found, 'comment': invariant.place.comment, 'denied_pairs': len(invariant.denied)}
 
 
-def rules_program(programs: Programs) -> dict[str, Any]:
-    """Returns the SHA-256 of `topos`, which writes rules, and whether the list `topos.proved` beside it has it."""
-    with open(programs.topos, 'rb') as file:
-        digest = hashlib.sha256(file.read()).hexdigest()
+def proof_of(path: str, name: str) -> dict[str, Any]:
+    """Returns the SHA-256 of a program, and whether the list `topos.proved` beside it has it under a name."""
+    with open(path, 'rb') as program:
+        digest = hashlib.file_digest(program, 'sha256').hexdigest()
     try:
-        beside = os.path.dirname(os.path.realpath(programs.topos))
-        with open(os.path.join(beside, 'topos.proved'), encoding='utf-8') as file:
-            listed = f'{digest}  program' in file.read().splitlines()
+        with open(os.path.join(os.path.dirname(os.path.realpath(path)), 'topos.proved'), encoding='utf-8') as file:
+            is_listed = f'{digest}  {name}' in file.read().splitlines()
     except OSError:
-        listed = False
-    return {'sha256': digest, 'proved': listed}
+        is_listed = False
+    return {'sha256': digest, 'proved': is_listed}
 
 
 def read_report(programs: Programs, path: str) -> Report:
@@ -304,7 +303,7 @@ def read_report(programs: Programs, path: str) -> Report:
     listed = [Listed(flow, network.services(flow), network.states[flow], page.flow(*flow))
               for flow in network.of_state(PERMITTED + DENIED)] if source.has_flow_key else []
     made = datetime.datetime.now(datetime.UTC).strftime('%Y-%m-%d %H:%M UTC')
-    program = {'sha256': programs.digest(), 'proved': programs.is_listed(), 'topos': rules_program(programs)}
+    program = {**proof_of(programs.query, 'query'), 'topos': proof_of(programs.topos, 'program')}
     return Report(source, made, program, hosts, listed, [invariant_of(source, each) for each in network.invariants])
 
 

@@ -4,11 +4,10 @@
 flow. In an invariant `noreach` of the copy this host alone denies a host, the target. A flow from it to a host is denied
 if and only if the host is the target, or reaches the target. A copy has up to 16 of these invariants.
 """
-import os
 import time
 from typing import Any
 
-from .query import Programs, text_of
+from .query import Programs, text_of, waves
 from .report_model import Network, Report
 from .report_words import PERMITTED
 
@@ -45,11 +44,9 @@ def read_steps(programs: Programs, report: Report, seconds: float) -> None:
     probe = next(name for name in map('probe-{}'.format, range(size + 1)) if name not in network.number)
     until, targets = time.monotonic() + seconds, network.names
     batches = [targets[start:start + TARGETS] for start in range(0, size, TARGETS)]
-    at_once = os.cpu_count() or 1
-    for start in range(0, len(batches), at_once):
+    for wave in waves(batches):
         if time.monotonic() > until:
             return
-        wave = batches[start:start + at_once]
         texts = [text_of(copy_for(network, probe, batch)) for batch in wave]
         for batch, answer in zip(wave, programs.ask_all(texts, 'network'), strict=True):
             report.reached.update(senders_of(answer, probe, batch) if answer else {})

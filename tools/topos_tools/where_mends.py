@@ -3,6 +3,7 @@
 A mend removes what is at fault, or replaces it by a new name or address that nothing else has. A refusal of the copy
 is hidden if a mend may be its cause: it is about a part that a mend touched, or about names that a mend took away.
 """
+from collections.abc import Sequence
 from functools import partial
 
 from .toml_places import Node
@@ -47,7 +48,7 @@ class Mends:
         names = [row.get('name') for row in self.copy.rows(key)]
         return [(id(self.copy.root.get(key)), ''), *((id(name), text_of(name) or '') for name in names)]
 
-    def changes(self, found: Explanation) -> list[Change]:
+    def changes(self, found: Explanation) -> Sequence[Change]:
         """The changes of which one lets the program go on: by default the row is left out."""
         copy, refusal, number = self.copy, found.refusal, found.number
         kind, rows, node = found.kind, found.rows, found.node

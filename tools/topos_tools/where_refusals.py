@@ -1,10 +1,9 @@
 """Refusals by their parts, and the program that prints them."""
-import json
 import re
 from dataclasses import dataclass, field
 from typing import Any
 
-from .query import Question, Stopped, find_query
+from .query import Programs, Question, Stopped, find_query
 
 PLACE = r'document|host \d+|invariant \d+(?: assign \d+)?|flow \d+|template \d+'
 DESCRIPTION = re.compile(rf'topos: description: (\d+) (\w+) at ({PLACE})(?: item (\d+))?(?:, other (\d+))?(?:: .*)?$')
@@ -63,8 +62,6 @@ class Program:
     def passing(self, rules: bytes) -> dict[str, Any] | None:
         """Returns what rules let pass, and which are dead, or None if topos-query is missing or refuses them."""
         try:
-            words = [find_query(self.path), 'flows', 'iptables', '/dev/stdin']
-            answer: dict[str, Any] = json.loads(Question(words, b'topos = 2\nhost = []\n', rules).answer())
+            return Programs(self.path, find_query(self.path)).ask_flows(b'topos = 2\nhost = []\n', rules)
         except Stopped:
             return None
-        return answer
