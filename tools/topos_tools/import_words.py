@@ -1,5 +1,6 @@
 """Reads the words of a save: quotes, addresses, ports and protocols, in old and new spellings."""
 import ipaddress
+import re
 import socket
 from typing import NamedTuple
 
@@ -7,6 +8,8 @@ from .import_sets import BITS, MOST_ADDRESS, MOST_PORT, MOST_PROTOCOL, Numbers, 
 from .query import Stopped
 
 REFUSED = 4  # the status of `topos` for a text of rules that it refuses
+WORD = re.compile(r'([^ \t"]*)"((?:\\.|[^"\\])*)"|[^ \t"]+|"', re.DOTALL)  # its second quote ends a word
+ESCAPED = re.compile(r'\\(.)', re.DOTALL)
 PROTOCOLS = {
     'icmp': 1, 'igmp': 2, 'ipencap': 4, 'ipip': 4, 'tcp': 6, 'egp': 8, 'udp': 17, 'dccp': 33, 'ipv6': 41, 'rsvp': 46,
     'gre': 47, 'esp': 50, 'ipv6-crypt': 50, 'ah': 51, 'ipv6-auth': 51, 'icmpv6': 58, 'ipv6-icmp': 58, 'eigrp': 88,
@@ -27,25 +30,12 @@ class Word(NamedTuple):
 
 def words_of(line: str) -> list[Word]:
     """Splits a line as `iptables-restore` does: a quoted part may have blanks, and a backslash escapes in it."""
-    found, text, is_open, is_quoted, escapes = [], '', False, False, False
-    for letter in line + ' ':
-        if is_open and escapes:
-            text, escapes = text + letter, False
-        elif is_open and letter == '\\':
-            escapes = True
-        elif is_open and letter != '"':
-            text += letter
-        elif letter == '"' and not is_open:
-            is_open = is_quoted = True
-        elif letter in ' \t"':
-            is_open = False
-            if text or is_quoted:
-                found.append(Word(text, is_quoted))
-            text, is_quoted = '', False
-        else:
-            text += letter
-    if is_open:
-        raise Refused('a quote that does not end')
+    found = []
+    for each in WORD.finditer(line):
+        if each[0] == '"':
+            raise Refused('a quote that does not end')
+        is_quoted = each[2] is not None
+        found.append(Word(each[1] + ESCAPED.sub(r'\1', each[2]) if is_quoted else each[0], is_quoted))
     return found
 
 

@@ -1,13 +1,13 @@
 """The summary of the page: counts, points to check, and what changed since an older description."""
 import functools
 from collections.abc import Iterator
-from ipaddress import IPv4Address, IPv4Network, collapse_addresses, summarize_address_range
+from ipaddress import IPv4Network
 
 from .report_changes import Changes, EntryChange, FlowChange
 from .report_model import Flow
 from .report_view import FEW, View, note, table
 from .report_words import FORBIDDEN, GAP, PERMITTED, STATES, counted, esc, verb
-from .rest import PRIVATE
+from .rest import PRIVATE, left
 
 MOST_CHANGES = 400
 WHOLE = {'tcp', 'udp', 'tcp/0-65535', 'udp/0-65535'}
@@ -111,20 +111,8 @@ def rest_points(view: View) -> Iterator[str]:
 
 def private_prefixes(view: View) -> list[IPv4Network]:
     """Returns the private addresses of no host, but the rest host."""
-    used = sorted(collapse_addresses(IPv4Network(prefix) for host in view.report.hosts for prefix in host.at))
-    return [free for network in map(IPv4Network, PRIVATE)
-            for free in free_prefixes(network, [each for each in used if each.overlaps(network)])]
-
-
-def free_prefixes(network: IPv4Network, used: list[IPv4Network]) -> Iterator[IPv4Network]:
-    """Yields the prefixes of a network between other prefixes, which are disjoint and in ascending order."""
-    start, end = int(network[0]), int(network[-1])
-    for each in used:
-        if int(each[0]) > start:
-            yield from summarize_address_range(IPv4Address(start), each[0] - 1)
-        start = int(each[-1]) + 1
-    if start <= end:
-        yield from summarize_address_range(IPv4Address(start), IPv4Address(end))
+    used = (IPv4Network(prefix) for host in view.report.hosts for prefix in host.at)
+    return left(map(IPv4Network, PRIVATE), used)
 
 
 def gap_points(view: View) -> Iterator[str]:

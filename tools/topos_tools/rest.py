@@ -5,8 +5,9 @@ is not counted: the printed host replaces it.
 """
 from __future__ import annotations
 
-from ipaddress import IPv4Network, collapse_addresses
+from ipaddress import IPv4Network
 
+from .import_sets import MOST_ADDRESS, Numbers, complement, intersection, joined, prefix, prefixes
 from .query import USAGE, Programs, Stopped, data_text, limit, need_words, read_bytes, text_of, write_text
 
 TYPE_CHECKING = False
@@ -29,18 +30,13 @@ WIDTH = 112  # of a line of prefixes
 
 def left(networks: Iterable[IPv4Network], taken: Iterable[IPv4Network]) -> list[IPv4Network]:
     """Returns the smallest list of prefixes that cover exactly the addresses of the networks that are not taken."""
-    used = list(collapse_addresses(taken))
-    pending, found = list(collapse_addresses(networks))[::-1], []
-    while pending:
-        each = pending.pop()
-        inside = [other for other in used if other.overlaps(each)]
-        if any(other.supernet_of(each) for other in inside):
-            continue
-        if inside or each.prefixlen == 0:  # a description has no prefix of the length 0
-            pending += list(each.subnets())[::-1]
-        else:
-            found.append(each)
-    return found
+    free = intersection(addresses_of(networks), complement(addresses_of(taken), MOST_ADDRESS))
+    halves = prefix(0, 1), prefix(1 << 31, 1)  # a description has no prefix of the length 0
+    return [IPv4Network(each) for half in halves for each in prefixes(intersection(free, half))]
+
+
+def addresses_of(networks: Iterable[IPv4Network]) -> Numbers:
+    return joined((int(each[0]), int(each[-1])) for each in networks)
 
 
 def read_network(word: str) -> IPv4Network:
