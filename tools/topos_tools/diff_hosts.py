@@ -2,10 +2,10 @@
 from collections.abc import Iterator
 from dataclasses import dataclass
 
-from .diff_words import both
 from .flows_hosts import owned_addresses, told
 from .import_sets import MOST_ADDRESS, Numbers, complement, intersection, joined
 from .report_model import Network
+from .why_network import joined as listed
 
 NOBODY = 'no host'
 Owned = dict[str, Numbers]
@@ -25,7 +25,7 @@ class HostChange:
         if self.change == 'renamed':
             return f'~ host {self.host}: now {self.others[0]}'
         head = f'{self.host} {self.change}' if mark == '~' else f'{self.host}:'
-        return f'{mark} host {head} {self.addresses}, {verb} {both(self.others)}'
+        return f'{mark} host {head} {self.addresses}, {verb} {listed(self.others)}'
 
 
 def owned_by(network: Network) -> Owned:

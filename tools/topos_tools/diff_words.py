@@ -3,6 +3,7 @@ import textwrap
 from collections.abc import Iterable
 
 from .report_model import Flow, Source
+from .why_network import joined
 
 MOST_NAMES = 8  # that are shown of a list
 MOST_TITLE = 60  # letters of a comment in place of a title
@@ -54,11 +55,6 @@ def arrow(product: Product, most: int | None = MOST_NAMES) -> str:
     return f'{few(product[0], most)} -> {few(product[1], most)}'
 
 
-def both(words: list[str]) -> str:
-    """Returns words as `a, b and c`."""
-    return ' and '.join([', '.join(words[:-1]), words[-1]] if len(words) > 1 else words)
-
-
 def plain(text: str) -> str:
     """Returns a text of a description without codes for a terminal."""
     return ''.join(each if each.isprintable() else '?' for each in text)
@@ -79,4 +75,4 @@ def invariant_name(source: Source, number: int) -> str:
 def invariant_names(source: Source, numbers: Iterable[int]) -> str:
     """Returns the names of invariants, with the noun."""
     names = [invariant_name(source, number) for number in numbers]
-    return f'invariant{"s" if len(names) > 1 else ""} {both(names)}'
+    return f'invariant{"s" if len(names) > 1 else ""} {joined(names)}'

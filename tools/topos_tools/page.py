@@ -53,11 +53,6 @@ class Document(Scanner):
         """Whether only blanks precede a position on its line."""
         return not self.text[self.starts[self.line(at) - 1]:at].strip(' \t\r')
 
-    def items(self, key: str) -> list[Node]:
-        """Returns the elements of an array of the file, or none if the file lacks it."""
-        node = self.root.get(key)
-        return node.items() if node else []
-
     def place(self, node: Node) -> Place:
         """Returns the place of a node, with the comment that ends on the line above."""
         lines: list[str] = []
@@ -105,50 +100,26 @@ def read_page(data: bytes, table: dict[str, Any]) -> Page:
     """Reads the places of a description, whose table is given."""
     try:
         document = Document(data.decode())
-        if _shape(document) != _shape_of_table(table):
-            return Page()
-        return _places(document)
+        return _places(document, table) if _shape(document.root.plain()) == _shape(table) else Page()
     except (Fault, ValueError, AttributeError, KeyError, IndexError, TypeError, RecursionError):
         return Page()
 
 
-def _text(node: Node, key: str) -> str:
-    text: str = node.need(key).value
-    return text
-
-
-def _entries(invariant: Node) -> list[Node]:
-    assigned = invariant.get('assign')
-    return assigned.items() if assigned else []
-
-
-def _flow(node: Node) -> list[str]:
-    return [word.value for word in node.items()[:2]]
-
-
-def _shape(document: Document) -> list[Any]:
+def _shape(table: dict[str, Any]) -> list[Any]:
     """Returns the names in a description, in its order."""
-    invariants = document.items('invariant')
-    return [[_text(each, 'name') for each in document.items('host')], list(map(_flow, document.items('flow'))),
-            [_text(each, 'template') for each in invariants],
-            [[_text(entry, 'host') for entry in _entries(each)] for each in invariants]]
-
-
-def _shape_of_table(table: dict[str, Any]) -> list[Any]:
     invariants = table.get('invariant', [])
     return [[each['name'] for each in table['host']], [flow[:2] for flow in table.get('flow', [])],
             [each['template'] for each in invariants],
             [[entry['host'] for entry in each.get('assign', [])] for each in invariants]]
 
 
-def _places(document: Document) -> Page:
-    place, invariants = document.place, document.items('invariant')
-    page = Page(is_known=True)
-    page.hosts = {_text(each, 'name'): place(each) for each in document.items('host')}
-    for each in document.items('flow'):
-        sender, receiver = _flow(each)
-        page.flows[sender, receiver] = place(each)
-    page.invariants = list(map(place, invariants))
-    page.entries = [{_text(entry, 'host'): place(entry) for entry in _entries(each)} for each in invariants]
-    page.templates = {_text(each, 'name'): place(each) for each in document.items('template')}
+def _places(document: Document, table: dict[str, Any]) -> Page:
+    """Returns the places of a document that has the elements of the table."""
+    root, place, page = document.root, document.place, Page(is_known=True)
+    page.hosts = {each['name']: place(node) for each, node in zip(table['host'], root.rows('host'))}
+    page.flows = {(each[0], each[1]): place(node) for each, node in zip(table.get('flow', []), root.rows('flow'))}
+    page.invariants = list(map(place, root.rows('invariant')))
+    page.entries = [{entry.need('host').value: place(entry) for entry in each.rows('assign')}
+                    for each in root.rows('invariant')]
+    page.templates = {each.need('name').value: place(each) for each in root.rows('template')}
     return page

@@ -46,9 +46,20 @@ class Node:
         found: list[Node] = self.value if self.kind == 'array' else []
         return found
 
+    def rows(self, key: str) -> 'list[Node]':
+        """Returns the elements of the array that a key has, and none if it has no array."""
+        node = self.get(key)
+        return node.items() if node else []
+
     def inner(self) -> 'list[Node]':
         """Returns the elements of an array or the values of a table."""
         return list(self.value.values()) if self.kind == 'table' else self.items()
+
+    def plain(self) -> Any:
+        """Returns the value as Python has it, but a date or a number with a fraction as its text."""
+        if self.kind == 'table':
+            return {key: inner.plain() for key, inner in self.value.items()}
+        return [item.plain() for item in self.value] if self.kind == 'array' else self.value
 
 
 BLANK = re.compile(r'(?:[ \t]|\r?\n|#[^\x00-\x08\x0a-\x1f\x7f]*)*')

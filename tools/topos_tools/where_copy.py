@@ -92,12 +92,11 @@ class Copy:
     # What it has.
 
     def rows(self, key: str) -> list[Node]:
-        node = self.root.get(key)
-        return node.items() if node else []
+        return self.root.rows(key)
 
     def entries(self) -> list[Node]:
         """The entries of all invariants."""
-        return [entry for row in self.rows('invariant') for entry in (row.get('assign') or row).items()]
+        return [entry for row in self.rows('invariant') for entry in row.rows('assign')]
 
     def names(self) -> list[str]:
         return [name for host in self.rows('host') if (name := text_of(host.get('name'))) is not None]

@@ -214,7 +214,7 @@ class Explanation(Finding):
         why = '' if meant else advised(item.value, VALUES.get(self.number, []), fits)
         if why:
             return why
-        others = (text_of(each) or '' for entry in self.rows.items() for each in (entry.get(key) or entry).items())
+        others = (text_of(each) or '' for entry in self.rows.items() for each in entry.rows(key))
         known = next((each for each in others if each and fits(each)), '')
         if known and not meant:
             return f'There are too many different texts in `{key}`: topos reads those above, such as {quoted(known)}.'
@@ -281,7 +281,7 @@ class Explanation(Finding):
         if not self.refusal.item:
             more = f' {TOLD["hosts"]}' * (kind == 'host')
             return f'The file has {len(rows)} {kind}s, and topos reads {number - 1}.{more}'
-        sizes = [len((row.get('at') or row).items()) for row in rows]
+        sizes = [len(row.rows('at')) for row in rows]
         most = sum(sizes[:number - 1]) + self.refusal.item - 1
         return f'The file has {sum(sizes):,} addresses, and topos reads {most:,}: join neighbouring prefixes, or ' \
             f'write fewer hosts. {TOLD["hosts"]}'

@@ -125,12 +125,11 @@ class Description:
             tables += [{'kind': word} for word in self.own_kinds()]
             tables = tables if refusal.number == 18 else [{'host': NAME}]
         if kind == 'template':
-            kinds, default = node.get('kinds'), node.get('default')
-            words = [text_of(default), *(text_of(item) for pair in (node.get('deny') or node).items()
-                                         for item in pair.items())]
+            words = [text_of(node.get('default')),
+                     *(text_of(item) for pair in node.rows('deny') for item in pair.items())]
             tables = [{**tables[0], 'kinds': list(dict.fromkeys(word for word in words if word))},
                       *({**tables[0], 'default': word, 'kinds': [word]}
-                        for word in map(text_of, (kinds or node).items()[:3]) if word), *tables]
+                        for word in map(text_of, node.rows('kinds')[:3]) if word), *tables]
         return [{key: self.fresh(value) for key, value in table.items()} for table in tables]
 
     def try_part(self, before: Order, node: Node, samples: list[dict[str, Any]], parts: Parts, key: str,
@@ -156,7 +155,7 @@ class Description:
 
     def own_kinds(self) -> list[str]:
         """Returns the kinds of templates in the file."""
-        own = [text_of(item) for row in self.copy.rows('template') for item in (row.get('kinds') or row).items()]
+        own = [text_of(item) for row in self.copy.rows('template') for item in row.rows('kinds')]
         return [word for word in dict.fromkeys(own) if word and word not in SAMPLES['kinds']]
 
     def values(self, key: str) -> list[Any]:
