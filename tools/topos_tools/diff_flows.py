@@ -6,8 +6,8 @@ from typing import Any
 from .diff_hosts import NOBODY, Owned, owned_by, owners
 from .diff_words import arrow, invariant_names, products
 from .flows_against import size
-from .flows_services import MOST_SERVICE, number_of, of_words, told_services
-from .import_sets import MOST_ADDRESS, Numbers, complement, intersection, joined
+from .flows_services import number_of, of_words, told_services
+from .import_sets import ALL_ADDRESSES, Numbers, difference, intersection, joined
 from .report_model import Flow, Source
 
 OLD_ADDRESSES = ' (old addresses)'  # after a host with changed addresses
@@ -105,7 +105,7 @@ class Changes:
 
     def _coming(self, pair: Flow, comes: Numbers, past: list[Flow]) -> Iterator[FlowChange]:
         """Yields what a flow gains, for each set of services: packets of old flows with other services gain others."""
-        gained = {flow: without(comes, self.old.services(flow)) for flow in past}
+        gained = {flow: difference(comes, self.old.services(flow)) for flow in past}
         for services in filter(None, dict.fromkeys(gained.values())):
             gaining = [flow for flow in past if gained[flow] == services]
             part = [] if len(gaining) == len(past) else gaining
@@ -115,7 +115,7 @@ class Changes:
     def _lose(self, pair: Flow, goes: Numbers, past: list[Flow]) -> None:
         """Remembers which old flows lose services, of which other flows the packets belong to a pair too."""
         for flow in past:
-            lost = intersection(goes, without(self.old.services(flow), self.new.services(pair)))
+            lost = intersection(goes, difference(self.old.services(flow), self.new.services(pair)))
             if lost:
                 self.lost.setdefault(flow, {})[pair] = lost
 
@@ -159,8 +159,4 @@ class Changes:
 
 def _nobodys(owned: Owned) -> Numbers:
     """Returns the addresses that no host has."""
-    return complement(joined(each for numbers in owned.values() for each in numbers), MOST_ADDRESS)
-
-
-def without(services: Numbers, others: Numbers) -> Numbers:
-    return intersection(services, complement(others, MOST_SERVICE))
+    return difference(ALL_ADDRESSES, joined(each for numbers in owned.values() for each in numbers))

@@ -3,7 +3,7 @@ from collections.abc import Iterator
 from dataclasses import dataclass
 
 from .flows_hosts import owned_addresses, told
-from .import_sets import MOST_ADDRESS, Numbers, complement, intersection, joined
+from .import_sets import Numbers, difference, intersection, joined
 from .report_model import Network
 from .why_network import joined as listed
 
@@ -37,7 +37,7 @@ def owners(addresses: Numbers, owned: Owned) -> list[str]:
     """Returns the hosts that have some of the addresses, and `no host` if some have none."""
     found = [host for host, numbers in owned.items() if intersection(addresses, numbers)]
     everybody = joined(each for numbers in owned.values() for each in numbers)
-    return found + ([NOBODY] if intersection(addresses, complement(everybody, MOST_ADDRESS)) else [])
+    return found + ([NOBODY] if difference(addresses, everybody) else [])
 
 
 def renamed(old: Owned, new: Owned) -> dict[str, str]:
@@ -72,15 +72,11 @@ def _told_of(hosts: list[str], owned: Owned) -> Numbers:
 def _moved(host: str, before: Owned, after: Owned, came: Numbers, went: Numbers, rest: set[str]
            ) -> Iterator[HostChange]:
     """Yields what a host gains, and what it loses to the rest host or to no host."""
-    gains = _without(_without(after[host], before[host]), went)
+    gains = difference(difference(after[host], before[host]), went)
     if gains:
         yield HostChange(host, 'gains', told(gains), owners(gains, before))
-    loses = _without(_without(before[host], after[host]), came)
+    loses = difference(difference(before[host], after[host]), came)
     for other, numbers in after.items() if loses else ():
-        loses = loses if other in rest else _without(loses, numbers)
+        loses = loses if other in rest else difference(loses, numbers)
     if loses:
         yield HostChange(host, 'loses', told(loses), owners(loses, after))
-
-
-def _without(numbers: Numbers, others: Numbers) -> Numbers:
-    return intersection(numbers, complement(others, MOST_ADDRESS))

@@ -90,18 +90,14 @@ def _entry_changes(before: Table, after: Table) -> Iterator[str]:
     old, new = ({entry['host']: entry for entry in each.get('assign', [])} for each in (before, after))
     for host in dict.fromkeys([*new, *old]):
         if host not in old:
-            yield f'{host} is added ({_attribute(new[host])})'
+            yield f'{host} is added ({attribute_words(new[host])})'
         elif host not in new:
-            yield f'{host} is removed ({_attribute(old[host])})'
+            yield f'{host} is removed ({attribute_words(old[host])})'
         else:
             changed = [_value_change(key, old[host].get(key), new[host].get(key))
                        for key in dict.fromkeys([*new[host], *old[host]]) if old[host].get(key) != new[host].get(key)]
             if changed:
                 yield f'{host}: {", ".join(filter(None, changed))}'
-
-
-def _attribute(entry: Table) -> str:
-    return attribute_words({key: value for key, value in entry.items() if key != 'host'})
 
 
 def _value_change(key: str, before: Any, after: Any) -> str:

@@ -3,8 +3,8 @@ from collections.abc import Iterator
 
 from .flows_answer import Pair
 from .flows_list import Listing, lines_text
-from .flows_services import ALL_SERVICES, MOST_SERVICE, of_words, told_services
-from .import_sets import Numbers, complement, intersection, joined
+from .flows_services import ALL_SERVICES, of_words, told_services
+from .import_sets import Numbers, difference, intersection, joined
 from .query import Programs
 
 
@@ -14,8 +14,8 @@ def permitted(programs: Programs, description: bytes, omitted: Numbers) -> dict[
     for each in programs.ask(description, 'network')['flows']:
         if each['permitted']:
             services = of_words(each['services'])
-            found[each['flow'][0], each['flow'][1]] = services if services == ALL_SERVICES else intersection(
-                services, complement(omitted, MOST_SERVICE))
+            pair = each['flow'][0], each['flow'][1]
+            found[pair] = services if services == ALL_SERVICES else difference(services, omitted)
     return found
 
 
@@ -35,13 +35,13 @@ def differences(listing: Listing, flows: dict[Pair, Numbers], owned: dict[str, N
 def lines_of(listing: Listing, pair: tuple[str, str], services: Numbers) -> Iterator[tuple[Numbers, str]]:
     """Yields what the rules may let pass and the description does not permit, and the other way round."""
     arrow = f'{pair[0]} -> {pair[1]}'
-    open_ = intersection(listing.upper.any(pair), complement(services, MOST_SERVICE))
+    open_ = difference(listing.upper.any(pair), services)
     if open_:
         parts = [part for part in listing.upper.pairs[pair] if intersection(part.services, open_)]
         lines = lines_text({line for part in parts for line in part.lines})
         yield open_, (f'rules alone: {arrow}: {told_services(open_)}{limits(listing, pair, open_)} ({lines}), '
                       f'as {parts[0].passes}')
-    closed = intersection(services, complement(listing.lower.whole(pair), MOST_SERVICE))
+    closed = difference(services, listing.lower.whole(pair))
     if closed:
         yield closed, f'description alone: {arrow}: {told_services(closed)}{limits(listing, pair, closed)}'
 
@@ -50,6 +50,6 @@ def limits(listing: Listing, pair: tuple[str, str], services: Numbers) -> str:
     """Returns whether the rules let some of the services pass in part, or only in doubt."""
     in_part = intersection(services, joined(each for part in listing.parts(pair) for each in part.services))
     whole = intersection(services, listing.upper.whole(pair))
-    in_doubt = listing.doubtful(pair, whole) + intersection(in_part, complement(listing.lower.any(pair), MOST_SERVICE))
+    in_doubt = listing.doubtful(pair, whole) + difference(in_part, listing.lower.any(pair))
     told = [name for name, found in (('in part', in_part), ('in doubt', in_doubt)) if found]
     return ', ' + ' and '.join(told) if told else ''

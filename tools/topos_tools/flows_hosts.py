@@ -5,8 +5,8 @@ from collections.abc import Iterator
 
 from .flows_list import lines_text
 from .import_save import Save
-from .import_sets import (ALL_ADDRESSES, MOST_ADDRESS, Numbers, address_text, complement, intersection, is_subset,
-                          joined, prefix_text, prefixes)
+from .import_sets import (ALL_ADDRESSES, Numbers, address_text, difference, intersection, is_subset, joined,
+                          prefix_text, prefixes)
 from .import_tables import Interfaces
 from .import_words import Refused
 
@@ -48,7 +48,7 @@ def owned_addresses(table: dict[str, list[str]]) -> dict[str, Numbers]:
     found: dict[str, Numbers] = {}
     for host, at in table.items():
         found[host] = joined(interval for each in at for interval in Interfaces(f'x {each}').networks['x'])
-    rest = complement(joined(each for numbers in found.values() for each in numbers), MOST_ADDRESS)
+    rest = difference(ALL_ADDRESSES, joined(each for numbers in found.values() for each in numbers))
     return {host: numbers or rest for host, numbers in found.items()}
 
 
@@ -93,7 +93,7 @@ def split(networks: Numbers, sets: list[Numbers]) -> list[tuple[Numbers, tuple[N
     for each in sorted(sets, key=lambda given: given[0][0] - given[-1][1]):
         split_parts = []
         for numbers, within in parts:
-            inside, outside = intersection(numbers, each), intersection(numbers, complement(each, MOST_ADDRESS))
+            inside, outside = intersection(numbers, each), difference(numbers, each)
             split_parts += [(outside, within)] if outside else []
             split_parts += [(inside, (*within, each))] if inside else []
         parts = split_parts

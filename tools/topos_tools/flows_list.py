@@ -4,8 +4,8 @@ from collections.abc import Iterator
 from dataclasses import dataclass, field
 
 from .flows_answer import POLICY, Flows, Pair, Range
-from .flows_services import ALL_SERVICES, MOST_OF_FLOW, MOST_SERVICE, other_words, told_services, words_of_services
-from .import_sets import Numbers, complement, intersection, joined
+from .flows_services import ALL_SERVICES, MOST_OF_FLOW, other_words, told_services, words_of_services
+from .import_sets import Numbers, difference, intersection, joined
 
 MOST_LINES = 8  # that are shown behind a flow
 
@@ -27,7 +27,7 @@ class Listing:
 
     def doubtful(self, pair: Pair, services: Numbers) -> Numbers:
         """Returns the services that only `upper` lets pass."""
-        return intersection(services, complement(self.lower.whole(pair), MOST_SERVICE))
+        return difference(services, self.lower.whole(pair))
 
     def dead(self) -> list[int]:
         """Lists the lines of which no rule of either text is met."""
@@ -68,8 +68,7 @@ class Listing:
         interface = self.interfaces.get(pair[0])
         if interface and interface == self.interfaces.get(pair[1]):
             yield f'both behind {interface}'
-        doubtful = intersection(listed, complement(self.lower.any(pair), MOST_SERVICE)) if self.has_parts else \
-            self.doubtful(pair, listed)
+        doubtful = difference(listed, self.lower.any(pair)) if self.has_parts else self.doubtful(pair, listed)
         if doubtful:
             yield 'in doubt: ' + told_services(doubtful)
         if other_words(listed):

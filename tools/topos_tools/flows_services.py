@@ -1,5 +1,5 @@
 """Services as sets of numbers: 65,536 times the protocol, plus the destination port."""
-from .import_sets import MOST_PORT, MOST_PROTOCOL, Numbers, complement, intersection, joined
+from .import_sets import MOST_PORT, MOST_PROTOCOL, Numbers, difference, intersection, joined
 
 PORTS = MOST_PORT + 1
 MOST_SERVICE = (MOST_PROTOCOL + 1) * PORTS - 1
@@ -57,7 +57,7 @@ def other_words(services: Numbers) -> list[str]:
         return []
     named: Numbers = tuple(each for protocol in sorted(NAMES) for each in of_protocol(protocol))
     words = []
-    for low, high in intersection(services, complement(named, MOST_SERVICE)):
+    for low, high in difference(services, named):
         first, last = low // PORTS, high // PORTS
         name = OTHER_NAMES.get(first, str(first)) if first == last else f'{first}-{last}'
         words.append(f'protocol {name}' if (low % PORTS, high % PORTS) == (0, MOST_PORT) else

@@ -48,6 +48,11 @@ def intersection(left: Numbers, right: Numbers) -> Numbers:
     return tuple(found)
 
 
+def difference(numbers: Numbers, others: Numbers) -> Numbers:
+    """Returns the numbers of a set that are not in another one."""
+    return intersection(numbers, complement(others, numbers[-1][1])) if numbers else ()
+
+
 def is_subset(part: Numbers, whole: Numbers) -> bool:
     return intersection(part, whole) == part
 

@@ -1,7 +1,7 @@
 """Reads the table of interfaces, and the sets that `ipset save` prints."""
 from collections.abc import Iterable
 
-from .import_sets import ALL_ADDRESSES, MOST_ADDRESS, Numbers, complement, intersection, joined
+from .import_sets import ALL_ADDRESSES, Numbers, difference, joined
 from .import_words import Refused, address, address_range, words_of
 
 NO_INTERFACE = {'local', 'broadcast', 'multicast', 'anycast', 'unreachable', 'blackhole', 'prohibit', 'throw', 'nat'}
@@ -57,7 +57,7 @@ def by_longest(routes: dict[Numbers, str]) -> dict[str, Numbers]:
     found: dict[str, Numbers] = {name: () for name in routes.values()}
     taken: Numbers = ()
     for network, name in sorted(routes.items(), key=lambda route: route[0][0][1] - route[0][0][0]):
-        found[name] = joined(found[name] + intersection(network, complement(taken, MOST_ADDRESS)))
+        found[name] = joined(found[name] + difference(network, taken))
         taken = joined(taken + network)
     return found
 
@@ -118,5 +118,5 @@ def _addresses(entries: list[tuple[Numbers, bool]]) -> Numbers:
     """Returns the addresses of the entries. The longest prefix with an address decides, so it is taken last."""
     found: Numbers = ()
     for entry, is_exception in sorted(entries, key=lambda each: each[0][0][0] - each[0][0][1]):
-        found = intersection(found, complement(entry, MOST_ADDRESS)) if is_exception else joined(found + entry)
+        found = difference(found, entry) if is_exception else joined(found + entry)
     return found

@@ -322,11 +322,6 @@ def tell_when_slow(name: str) -> None:
         signal.alarm(1)
 
 
-def unlimited() -> None:
-    """Removes the memory limit of a program that is started: it has its own limits."""
-    resource.setrlimit(resource.RLIMIT_AS, (resource.RLIM_INFINITY, resource.RLIM_INFINITY))
-
-
 class Tool:
     """A tool: its version, which begins with its name, its usage, its options with a value and without, and its work.
 

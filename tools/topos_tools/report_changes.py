@@ -73,8 +73,7 @@ def matched(old: list[dict[str, Any]], new: list[dict[str, Any]]) -> dict[int, i
 
 def attributes(invariant: dict[str, Any]) -> dict[str, str]:
     """Returns the attribute of each host that has an entry."""
-    return {entry['host']: attribute_words({key: value for key, value in entry.items() if key != 'host'})
-            for entry in invariant.get('assign', [])}
+    return {entry['host']: attribute_words(entry) for entry in invariant.get('assign', [])}
 
 
 def entry_changes(old: list[dict[str, Any]], new: list[dict[str, Any]], same: dict[int, int]) -> list[EntryChange]:

@@ -72,7 +72,7 @@ def kinds_of(number: int, invariant: dict[str, Any], known: set[str]) -> Iterato
         kinds = dict.fromkeys(other['kind'] for other in entries if 'kind' in entry
                               and other.keys() == entry.keys() and other['kind'] != entry['kind'])
         for kind in kinds if entry['host'] not in known else ():
-            words = attribute_words({key: value for key, value in entry.items() if key != 'host'})
+            words = attribute_words(entry)
             assign = [other if other is not entry else {**entry, 'kind': kind} for other in entries]
             yield Part(number, entry['host'], f'{words}, not {kind}', {**invariant, 'assign': assign})
 

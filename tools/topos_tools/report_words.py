@@ -53,11 +53,11 @@ def template_words(name: str, own: dict[str, Any] | None) -> str:
             f'{counted(len(own["deny"]), "denied pair")}, which protects {protects}')
 
 
-def attribute_words(values: dict[str, Any]) -> str:
-    """Returns an attribute as its entry has it, without quotes, and the kind first."""
-    said = [str(values['kind'])] if 'kind' in values else []
-    for key, value in values.items():
-        if key == 'kind':
+def attribute_words(entry: dict[str, Any]) -> str:
+    """Returns the attribute of an entry as the file has it, without quotes, and the kind first."""
+    said = [str(entry['kind'])] if 'kind' in entry else []
+    for key, value in entry.items():
+        if key in ('host', 'kind'):
             continue
         if isinstance(value, bool):
             said += [key] if value else []

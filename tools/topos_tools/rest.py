@@ -7,7 +7,7 @@ from __future__ import annotations
 
 from ipaddress import IPv4Network
 
-from .import_sets import MOST_ADDRESS, Numbers, complement, intersection, joined, prefix, prefixes
+from .import_sets import Numbers, difference, intersection, joined, prefix, prefixes
 from .query import USAGE, Programs, Stopped, data_text, limit, need_words, read_bytes, text_of, write_text
 
 TYPE_CHECKING = False
@@ -30,7 +30,7 @@ WIDTH = 112  # of a line of prefixes
 
 def left(networks: Iterable[IPv4Network], taken: Iterable[IPv4Network]) -> list[IPv4Network]:
     """Returns the smallest list of prefixes that cover exactly the addresses of the networks that are not taken."""
-    free = intersection(addresses_of(networks), complement(addresses_of(taken), MOST_ADDRESS))
+    free = difference(addresses_of(networks), addresses_of(taken))
     halves = prefix(0, 1), prefix(1 << 31, 1)  # a description has no prefix of the length 0
     return [IPv4Network(each) for half in halves for each in prefixes(intersection(free, half))]
 

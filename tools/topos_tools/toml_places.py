@@ -1,4 +1,5 @@
 """A TOML text with the places of its keys and values: TOML 1.1, the language that `topos` reads."""
+import json
 import re
 import tomllib
 from collections.abc import Iterator
@@ -25,8 +26,8 @@ class Fault(Exception):
 class Node:
     """A value and its place. What is made for a copy has the place of what it replaces."""
 
-    def __init__(self, kind: str, value: Any, raw: str, start: int, end: int, origin: str = '') -> None:
-        self.kind, self.value, self.raw, self.start, self.end = kind, value, raw, start, end
+    def __init__(self, kind: str, value: Any, start: int, end: int, origin: str = '') -> None:
+        self.kind, self.value, self.start, self.end = kind, value, start, end
         self.origin = origin        # of a table: what made it; of an array `headers` if these made it
         self.key_at = start, end    # the place of its key
         self.number = 0             # among the elements of its array, from 1
@@ -105,7 +106,7 @@ class Scanner:
         return taken
 
     def document(self) -> Node:
-        root = section = Node('table', {}, '', 0, 0)
+        root = section = Node('table', {}, 0, 0)
         if self.peek() == '\ufeff':
             self.at = 1
         while True:
@@ -125,7 +126,7 @@ class Scanner:
         start, brackets = self.at, len(self.take(OPENING))
         if brackets:
             key = self.header(brackets)
-            node = Node('table', {}, '', start, self.at, 'header')
+            node = Node('table', {}, start, self.at, 'header')
             section = define(root, key, node, 'tables' if brackets == 2 else 'table')
         else:
             define(section, *self.pair())
@@ -176,19 +177,20 @@ class Scanner:
         start, char = self.at, self.peek()
         if char in ('[', '{') and len(self.brackets) == DEEPEST:
             raise Fault(start, f'Brackets are nested more than {DEEPEST} deep.')
-        node = Node('array', [], '', start, start) if char == '[' else Node('table', {}, '', start, start, 'inline')
         if char == '[':
+            node = Node('array', [], start, start)
             for number, _ in enumerate(self.elements(']', 'array'), 1):
                 node.value.append(self.value())
                 node.value[-1].number = number
         elif char == '{':
+            node = Node('table', {}, start, start, 'inline')
             for _ in self.elements('}', 'table'):
                 define(node, *self.pair())
         elif char in ('"', "'"):
-            node = Node('text', self.quoted(True), '', start, start)
+            node = Node('text', self.quoted(True), start, start)
         else:
-            node = Node(*self.unquoted(), '', start, start)
-        node.raw, node.end, node.key_at = self.text[start:self.at], self.at, (start, self.at)
+            node = Node(*self.unquoted(), start, start)
+        node.end, node.key_at = self.at, (start, self.at)
         return node
 
     def elements(self, closing: str, kind: str) -> Iterator[None]:
@@ -274,7 +276,7 @@ def define(table: Node, key: list[Part], node: Node, what: str = 'value') -> Nod
     node.key_at = start, end
     old = table.get(last)
     if old is None and what == 'tables':
-        old = table.value[last] = Node('array', [], '', start, end, 'headers')
+        old = table.value[last] = Node('array', [], start, end, 'headers')
     if old is None:
         table.value[last] = node
     elif what == 'tables' and old.origin == 'headers':
@@ -292,7 +294,7 @@ def on_way(table: Node, part: Part, is_header: bool) -> Node:
     """Returns the table at a part of a key that is not the last one, and makes it if it is missing."""
     name, start, end = part
     if name not in table.value:
-        table.value[name] = Node('table', {}, '', start, end, 'implicit')
+        table.value[name] = Node('table', {}, start, end, 'implicit')
     inner = table.need(name)
     if is_header and inner.origin == 'headers':
         return inner.items()[-1]
@@ -325,6 +327,4 @@ def alien(char: str) -> str:
 
 def quoted(text: str) -> str:
     """A text as TOML writes it in quotes."""
-    escaped = ''.join('\\' + char if char in '"\\' else f'\\u{ord(char):04X}' if ord(char) < 32 or ord(char) == 127
-                      else char for char in text)
-    return f'"{escaped}"'
+    return json.dumps(text, ensure_ascii=False).replace('\x7f', '\\u007F')

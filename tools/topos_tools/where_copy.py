@@ -17,7 +17,9 @@ def written(node: Node) -> str:
         return f'[{", ".join(map(written, node.value))}]'
     if node.kind == 'table':
         return f'{{{", ".join(f"{quoted(key)} = {written(inner)}" for key, inner in node.value.items())}}}'
-    return quoted(node.value) if node.kind == 'text' else node.raw
+    if node.kind == 'text':
+        return quoted(node.value)
+    return str(node.value).lower() if node.kind == 'boolean' else str(node.value)
 
 
 def document(root: Node) -> bytes:
@@ -29,7 +31,7 @@ def made(value: Any, at: Node) -> Node:
     """A value for a copy, in the place of `at`. A node is left as it is."""
     if isinstance(value, Node):
         return value
-    node = Node(KINDS[type(value)], value, str(value).lower(), at.start, at.end, 'made')
+    node = Node(KINDS[type(value)], value, at.start, at.end, 'made')
     if node.kind == 'table':
         node.value = {key: made(inner, at) for key, inner in value.items()}
     elif node.kind == 'array':
