@@ -5,7 +5,8 @@ breaks no invariant.
 """
 from __future__ import annotations
 
-from .query import USAGE, Programs, Stopped, data_text, lines_text, need_words, read_bytes, toml, write_text
+from .query import (READS_ANSWERS, USAGE, Programs, Stopped, Tool, data_text, lines_text, need_words, read_bytes, toml,
+                    write_text)
 
 TYPE_CHECKING = False
 if TYPE_CHECKING:
@@ -62,3 +63,6 @@ def main(values: dict[str, str], options: set[str], words: list[str]) -> int:
         lines = (f'{receiver} {len(names)} from {" ".join(names)}' for receiver, names in found.items())
         write_text(None, lines_text(lines))
     return 0
+
+
+TOOL = Tool(SCHEMA + READS_ANSWERS, USAGE_TEXT, {'--program'}, {'--open', '--json'}, main)

@@ -8,7 +8,8 @@ from __future__ import annotations
 from ipaddress import IPv4Network
 
 from .import_sets import Numbers, difference, intersection, joined, prefix, prefixes
-from .query import USAGE, Programs, Stopped, data_text, limit, need_words, read_bytes, text_of, write_text
+from .query import (READS_ANSWERS, USAGE, Programs, Stopped, Tool, data_text, limit, need_words, read_bytes, text_of,
+                    write_text)
 
 TYPE_CHECKING = False
 if TYPE_CHECKING:
@@ -120,3 +121,6 @@ def main(values: dict[str, str], options: set[str], words: list[str]) -> int:
     is_table = any(line.split('#')[0].replace(' ', '').strip() == '[[host]]' for line in text.decode().splitlines())
     write_text(None, printed(name, prefixes, is_table) + '\n')
     return 0
+
+
+TOOL = Tool(SCHEMA + READS_ANSWERS, USAGE_TEXT, {'--program', '--name'}, {'--json'}, main)

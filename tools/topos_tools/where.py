@@ -4,7 +4,7 @@ import re
 import sys
 
 from .query import LONGEST as MOST
-from .query import NO_REFUSAL, UNAVAILABLE, Stopped, data_text, find_program, need_words, read_bytes, write_text
+from .query import NO_REFUSAL, UNAVAILABLE, Stopped, Tool, data_text, find_program, need_words, read_bytes, write_text
 from .toml_places import Fault
 from .where_advice import WORDS
 from .where_description import Explanation
@@ -204,3 +204,6 @@ def main(values: dict[str, str], options: set[str], words: list[str]) -> int:
     if '--json' in options:
         write_text(None, data_text({'schema': SCHEMA, **page.tree()}))
     return status
+
+
+TOOL = Tool(SCHEMA, USAGE_TEXT, {'--program'}, {'--all', '--json'}, main)

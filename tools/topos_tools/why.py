@@ -2,7 +2,7 @@
 to change."""
 from __future__ import annotations
 
-from .query import Programs, Stopped, data_text, lines_text, need_words, read_bytes, write_text
+from .query import READS_ANSWERS, Programs, Stopped, Tool, data_text, lines_text, need_words, read_bytes, write_text
 
 TYPE_CHECKING = False
 if TYPE_CHECKING:
@@ -65,3 +65,6 @@ def main(values: dict[str, str], options: set[str], words: list[str]) -> int:
     is_data = '--json' in options
     write_text(None, data_text({'schema': SCHEMA, 'lines': lines, **facts}) if is_data else lines_text(lines))
     return 0
+
+
+TOOL = Tool(SCHEMA + READS_ANSWERS, USAGE_TEXT, {'--program'}, {'--tcp', '--json'}, main)
