@@ -10,7 +10,7 @@ from collections.abc import Iterable
 from dataclasses import dataclass, field
 from typing import NamedTuple
 
-from .import_words import PROTOCOLS
+from .import_words import PROTOCOLS, decimal
 
 PAIRS = re.compile(r'\b([a-z]+)=(\S+)')
 BRACKETS = re.compile(r'^(?:\s*\[[^\]]*\])*\s*')  # of the events of `conntrack -E`: a time, and a kind
@@ -86,14 +86,8 @@ def _address(word: str) -> int:
     return int(ipaddress.IPv4Address(word))
 
 
-def _number(word: str, most: int) -> int:
-    if not word.isdecimal() or int(word) > most:
-        raise ValueError(word)
-    return int(word)
-
-
 def _protocol(word: str) -> int:
-    return PROTOCOLS[word.lower()] if word.lower() in PROTOCOLS else _number(word, 255)
+    return PROTOCOLS[word.lower()] if word.lower() in PROTOCOLS else decimal(word, 255)
 
 
 def _tracked(line: str) -> tuple[Connection, tuple[object, ...]]:
@@ -104,10 +98,10 @@ def _tracked(line: str) -> tuple[Connection, tuple[object, ...]]:
     found: dict[str, list[str]] = {}
     for key, value in PAIRS.findall(line):
         found.setdefault(key, []).append(value)
-    protocol = _number(words[1], 255)
+    protocol = decimal(words[1], 255)
     sender, receiver = _address(found['src'][0]), _address(found['src'][1])
     sports = found.get('sport', ['0', '0'])
-    connection = Connection(sender, receiver, protocol, _number(sports[0], 65535), _number(sports[1], 65535))
+    connection = Connection(sender, receiver, protocol, decimal(sports[0], 65535), decimal(sports[1], 65535))
     return connection, (connection, *(tuple(found.get(key, ())) for key in ('dst', 'dport', 'id', 'zone')))
 
 
@@ -116,6 +110,6 @@ def _logged(line: str) -> tuple[Connection, tuple[object, ...]]:
     fields = [each.strip() for each in line.split(',')] if ',' in line else line.split()
     sender, receiver = _address(fields[0]), _address(fields[1])
     protocol = _protocol(fields[2])
-    ports = [_number(each, 65535) for each in fields[3:FIELDS]] if protocol in WITH_PORTS else [0, 0]
+    ports = [decimal(each, 65535) for each in fields[3:FIELDS]] if protocol in WITH_PORTS else [0, 0]
     connection = Connection(sender, receiver, protocol, ports[0], ports[1])
     return connection, (connection,)
