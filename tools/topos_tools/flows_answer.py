@@ -39,8 +39,12 @@ class Flows:
 
     def without(self, omitted: Numbers) -> 'Flows':
         """Returns the flows without the services, which stay where all services pass."""
-        pairs = {pair: parts if self.whole(pair) == ALL_SERVICES else
-                 [part for part in parts if not is_subset(part.services, omitted)] for pair, parts in self.pairs.items()}
+        def left(pair: Pair, parts: list[Range]) -> list[Range]:
+            if self.whole(pair) == ALL_SERVICES:
+                return parts
+            return [part for part in parts if not is_subset(part.services, omitted)]
+
+        pairs = {pair: left(pair, parts) for pair, parts in self.pairs.items()}
         return Flows({pair: parts for pair, parts in pairs.items() if parts}, self.lines, self.dead)
 
 

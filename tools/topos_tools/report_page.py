@@ -85,8 +85,8 @@ def rules_words(view: View) -> str:
     name = esc(view.report.source.name)
     others = '' if any(host.rest for host in view.report.hosts) else ', and those from or to addresses of no host'
     return f'''<p>The rules that <code>topos repair iptables {name}</code> writes forward exactly the packets of the
-permitted flows, and the answers that may pass. They drop every other packet: those of denied flows, of flows that are not
-asked for, and between two addresses of one host{others}. This is proved of the program <code>topos</code>, if
+permitted flows, and the answers that may pass. They drop every other packet: those of denied flows, of flows that are
+not asked for, and between two addresses of one host{others}. This is proved of the program <code>topos</code>, if
 <code>./topos prove</code> built it, and not of this page. Which rules a firewall has is not on this page:
 <code>topos audit iptables {name} RULES</code> compares them.</p>
 <p>Not covered: IPv6, translated addresses, rules for the firewall itself (<code>INPUT</code>, <code>OUTPUT</code>), and

@@ -32,7 +32,7 @@ def section(view: View) -> str:
     listed = table(('Service', 'Number', 'Permitted flows'), rows) if rows else '<p>No flow is permitted.</p>'
     return f'''<section id="services" aria-labelledby="services-title">
 <h2 id="services-title">Services {view.tag('fact')}</h2>
-<p>All services of the permitted flows, as the file writes them. <code>tcp</code> or <code>udp</code> without a port is all
-ports.</p>
+<p>All services of the permitted flows, as the file writes them. <code>tcp</code> or <code>udp</code> without a port is
+all ports.</p>
 {listed}
 </section>'''

@@ -1,8 +1,8 @@
 """Which hosts reach which over several permitted flows, in their direction.
 
 `topos-query` answers on a copy: the hosts, each with one address, the permitted flows, and a further host that has no
-flow. In an invariant `noreach` of the copy this host alone denies a host, the target. A flow from it to a host is denied
-if and only if the host is the target, or reaches the target. A copy has up to 16 of these invariants.
+flow. In an invariant `noreach` of the copy this host alone denies a host, the target. A flow from it to a host is
+denied if and only if the host is the target, or reaches the target. A copy has up to 16 of these invariants.
 """
 import time
 from typing import Any
