@@ -265,18 +265,35 @@ def mended(kind: str, lines: list[str], numbers: set[int]) -> str:
     return '\n'.join(copy)
 
 
+def asked_without(asked: Asked, lines: list[str], numbers: set[int]) -> tuple[int, str]:
+    """The refusal of a text with correct lines of these numbers, those left out that are refused nevertheless."""
+    copy = mended(asked.kind, lines, numbers).split('\n')
+    now = asked.refusal('\n'.join(copy))
+    while asked.kind != 'description' and now[0] in numbers and copy[now[0] - 1]:
+        copy[now[0] - 1] = ''
+        now = asked.refusal('\n'.join(copy))
+    return now
+
+
+def lines_of(finding: Finding, page: Page, right: list[str]) -> set[int]:
+    """The lines of a finding; a COMMIT that is missing is also missing where it stands in the correct text."""
+    ends = {right.index('COMMIT') + 1} if finding.title.endswith(': NoCommit') else set()
+    return {page.line_of(mark.start) for mark in finding.marks} | ends
+
+
 def follow_up(asked: Asked, text: str, findings: list[Finding]) -> str:
     """A further fault that is none of the text: it is gone if all other damage is mended by hand, in both ways."""
     page, lines, is_table = Page('text', text, False), text.split('\n'), asked.kind == 'description'
-    shown = [{page.line_of(mark.start) for mark in finding.marks} for finding in findings]
-    damage = {number for number, (line, right) in enumerate(zip(lines, TEXTS[asked.kind].split('\n')), 1) if line != right}
+    right = TEXTS[asked.kind].split('\n')
+    shown = [lines_of(finding, page, right) for finding in findings]
+    damage = {number for number, pair in enumerate(zip(lines, right), 1) if pair[0] != pair[1]}
     for place, (finding, own) in enumerate(zip(findings, shown)):
         if not place or any(own & other for each, other in enumerate(shown) if each != place):
             continue  # only whole lines are mended
         number = page.line_of(finding.marks[0].start) if finding.marks else 0
         wanted = finding.title if is_table else f'line {number}: {finding.title.split(": ")[1]}'
         for others in {each for numbers in shown for each in numbers} - own, damage - own:
-            now = asked.refusal(mended(asked.kind, lines, others))
+            now = asked_without(asked, lines, others)
             told = now[1] if is_table else f'line {now[0]}: {now[1]}'
             if re.split(' item|,', told)[0] == re.split(' item|,', wanted)[0]:
                 break

@@ -278,12 +278,13 @@ class LineText:
 
     def shown(self, refusal: Refusal) -> tuple[Finding, set[int] | None]:
         """The finding, and the lines that a copy leaves out."""
-        if refusal.name in ENDING or not 0 < refusal.line <= len(self.lines):
+        is_line = 0 < refusal.line <= len(self.lines)
+        number, line = self.lines[refusal.line - 1] if is_line else (refusal.line, '')
+        if refusal.name in ENDING or not is_line:
             at = len(self.page.text)
             marks = [Mark(at, at)] if refusal.line else []
             said = ENDING.get(refusal.name, f'{refusal.name} of the whole text.')
-            return Finding(f'line {refusal.line}: {refusal.name}', marks, [said]), None
-        number, line = self.lines[refusal.line - 1]
+            return Finding(f'line {number}: {refusal.name}', marks, [said]), None
         if not 0 < number <= len(self.page.starts):
             return Finding(f'line {refusal.line} of a copy: {refusal.name}', [], []), None
         told, starts = self.explained(refusal, refusal.line - 1, line), self.page.starts

@@ -9,6 +9,7 @@ from .where_refusals import Program, Refusal
 
 SAVE = 'Take the rules from iptables-save -t filter.'
 MOST = 100  # lines of which the summary asks whether a packet reaches them
+RULE = re.compile(r'\s*(\[\S*\s+)?-A\s+\S')
 
 
 class RulesText(LineText):
@@ -88,7 +89,7 @@ class RulesText(LineText):
     def depends(self, refusal: Refusal, line: str) -> bool:
         """Whether a line was dropped that may have declared the chain, opened the table or closed it."""
         gone = [self.page.line(number).lstrip(' \t') for number in self.dropped if number not in self.other_tables]
-        others = [text for text in gone if not text.startswith(('-A', '['))]
+        others = [text for text in gone if not RULE.match(text)]
         begun = any(text.lstrip(' \t').startswith('*') for _, text in self.lines)
         if refusal.name == 'BadLine':
             now = self.whole(self.text(['*filter', line])) if others and not begun else refusal
