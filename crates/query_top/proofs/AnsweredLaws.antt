@@ -7,7 +7,8 @@ use Rattle.audit_core.specs.Sides.{AreEquivalent}
 use Rattle.edge_io.specs.Observable.{Files}
 use Rattle.host_net.specs.Host.{Host}
 use Rattle.net_core.specs.Network.{Network as Described}
-use Rattle.topos_top.specs.Audit.{OfSides, rules_in}
+use Rattle.topos_top.specs.Audit.{OfSides}
+use Rattle.topos_top.specs.Dialects.{rule_dialect_of}
 use Rattle.topos_top.specs.CommandPlan.{CommandPlan, HoldsAtStop, reads, ends}
 use Rattle.topos_top.specs.FileFormats.{format_of}
 use Rattle.topos_top.specs.Outcomes.{Outcomes, AnyOutcome, EndsWithGuarantee}
@@ -167,13 +168,13 @@ answer_kept shelf out err (Why file from to) came =
     wrote shelf out err file (λ d. why_outcomes d from to) (λ d. IsWhy d from to) (λ d. why_done d from to) came
 answer_kept shelf out err (Network file) came = wrote shelf out err file network_outcomes IsNetworkAnswer network_done came
 answer_kept shelf out err (Flows dialect file rules) came =
-    both_read status.Done shelf out err (kind.Rules dialect) file rules (λ d said. flows_outcomes d.hosts (rules_in dialect said))
-    (λ d said. Wrote out (IsFlowsAnswer d.hosts (rules_in dialect said)))
-    ((λ e. cc e), (λ e. cc e), (λ e. cc e), (λ e. cc e)) (λ d said. flows_done out err d.hosts (rules_in dialect said)) came
+    both_read status.Done shelf out err (kind.Rules dialect) file rules (λ d said. flows_outcomes d.hosts ((rule_dialect_of dialect).audited said))
+    (λ d said. Wrote out (IsFlowsAnswer d.hosts ((rule_dialect_of dialect).audited said)))
+    ((λ e. cc e), (λ e. cc e), (λ e. cc e), (λ e. cc e)) (λ d said. flows_done out err d.hosts ((rule_dialect_of dialect).audited said)) came
 answer_kept shelf out err (Compare dialect file rules) came =
-    both_read status.Done shelf out err (kind.Rules dialect) file rules (λ d said. compare_outcomes d (rules_in dialect said))
-    (λ d said. OfSides d (rules_in dialect said) AreEquivalent × Appends out equal_json)
-    ((λ e. cc e), (λ e. cc e), (λ e. cc e), (λ e. cc e)) (λ d said. compare_done out err d (rules_in dialect said)) came
+    both_read status.Done shelf out err (kind.Rules dialect) file rules (λ d said. compare_outcomes d ((rule_dialect_of dialect).audited said))
+    (λ d said. OfSides d ((rule_dialect_of dialect).audited said) AreEquivalent × Appends out equal_json)
+    ((λ e. cc e), (λ e. cc e), (λ e. cc e), (λ e. cc e)) (λ d said. compare_done out err d ((rule_dialect_of dialect).audited said)) came
 answer_kept shelf out err (Changes old new) came =
     both_read status.Done shelf out err Description old new changes_outcomes (λ before after. Wrote out (IsChangesAnswer before after false))
     ((λ e. cc e), (λ e. cc e), (λ e. cc e), (λ e. cc e)) (λ before after. changes_done out err before after) came
@@ -241,7 +242,7 @@ never_violated_by_rules shelf out err dialect file rules (inl stopped) =
     stop_of (since shelf.before shelf) file (λ t. t ≡ status.Violated → ⊥) stopped.0 (λ e. cc e) (λ e. cc e) (λ e. cc e) stopped.1 stopped.2
 never_violated_by_rules shelf out err dialect file rules (inr on) = elim on.next [
   | inl stopped ↦ not_at_file status.Violated shelf err (kind.Rules dialect) rules on.after ((λ e. cc e), (λ e. cc e), (λ e. cc e), (λ e. cc e)) stopped
-  | inr went ↦ elim (flows_ends on.said.hosts (rules_in dialect went.said) status.Violated went.next.1.0 went.next.1.1) [ inl is ↦ cc is | inr is ↦ cc is ]
+  | inr went ↦ elim (flows_ends on.said.hosts ((rule_dialect_of dialect).audited went.said) status.Violated went.next.1.0 went.next.1.1) [ inl is ↦ cc is | inr is ↦ cc is ]
 ]
 
 differences_kept : (shelf : ShelfChange) (out err : SinkChange) (command : Command) → CameFrom status.Violated shelf out err (plan_of command) shelf.before
@@ -250,9 +251,9 @@ differences_kept shelf out err (Why file from to) came = never_violated shelf ou
 differences_kept shelf out err (Network file) came = never_violated shelf out err file network_outcomes network_ends came
 differences_kept shelf out err (Flows dialect file rules) came = absurd (never_violated_by_rules shelf out err dialect file rules came)
 differences_kept shelf out err (Compare dialect file rules) came =
-    both_read status.Violated shelf out err (kind.Rules dialect) file rules (λ d said. compare_outcomes d (rules_in dialect said))
-    (λ d said. Wrote out (λ text. OfSides d (rules_in dialect said) (λ sides. ReportsDifferences sides text)))
-    ((λ e. cc e), (λ e. cc e), (λ e. cc e), (λ e. cc e)) (λ d said. compare_differs out err d (rules_in dialect said)) came
+    both_read status.Violated shelf out err (kind.Rules dialect) file rules (λ d said. compare_outcomes d ((rule_dialect_of dialect).audited said))
+    (λ d said. Wrote out (λ text. OfSides d ((rule_dialect_of dialect).audited said) (λ sides. ReportsDifferences sides text)))
+    ((λ e. cc e), (λ e. cc e), (λ e. cc e), (λ e. cc e)) (λ d said. compare_differs out err d ((rule_dialect_of dialect).audited said)) came
 differences_kept shelf out err (Changes old new) came =
     both_read status.Violated shelf out err Description old new changes_outcomes (λ before after. Wrote out (IsChangesAnswer before after true))
     ((λ e. cc e), (λ e. cc e), (λ e. cc e), (λ e. cc e)) (λ before after. changes_weaken out err before after) came

@@ -18,7 +18,7 @@ use Rattle.query_top.specs.Network.{IsNetworkAnswer}
 use Rattle.query_top.specs.Promises.{HasOneAnswer}
 use Rattle.query_top.proofs.CompareLaws.{settled_comparison}
 use Rattle.query_top.proofs.KeptLaws.{IsKeptAlong, kept_along}
-use Rattle.topos_top.specs.Audit.{rules_in}
+use Rattle.topos_top.specs.Dialects.{rule_dialect_of}
 use Rattle.query_top.proofs.WhyLaws.{no_flow_is_one, no_flow_named, why_text_is_one}
 
 -- A network has one answer.
@@ -49,7 +49,7 @@ settled (Why file from to) any = λ d sound. record {
   apart = ((λ none named. no_flow_named d.hosts from to none.1 named.0 none.2 named.1, tt), (tt, tt));
 }
 settled (Network file) any = λ d sound. settled_writes _ _ (network_text_is_one d) (λ text is. is)
-settled (Compare dialect file rules) any = λ d sound said reading. settled_comparison d (rules_in dialect said)
+settled (Compare dialect file rules) any = λ d sound said reading. settled_comparison d ((rule_dialect_of dialect).audited said)
 settled (Flows dialect file rules) none = absurd none
 settled (Changes old new) none = absurd none
 

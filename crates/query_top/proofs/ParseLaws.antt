@@ -2,7 +2,7 @@
 use Rattle.std.proofs.Common.{◌≡◌, inl, inr, ℕ, List, [], ◌∷◌, Option, None, Some, refl, ap, sym, ◌∙◌}
 use Rattle.topos_top.specs.Reply.{Reply}
 use Rattle.topos_top.specs.Shelf.{ShelfChange}
-use Rattle.topos_top.specs.declared.dialect.Dialect.TheVariants.{Iptables, OpenFlow}
+use Rattle.topos_top.proofs.DialectLaws.{named_word}
 use Rattle.topos_top.proofs.FormLaws.{AreForms, among_forms, file_form, files_form, none_asked, three_form, two_form}
 use Rattle.query_top.specs.Command.{Command, ParseAs, ParseAsNothing, Changes, Compare, Flows, Network, Why, arguments_of}
 use Rattle.query_top.specs.Replies.{AllowsReply}
@@ -15,10 +15,8 @@ read_of : (command : Command) → command_of (arguments_of command) ≡ Some com
 unfolding command_of
 read_of (Why file from to) = refl
 read_of (Network file) = refl
-read_of (Flows Iptables file rules) = refl
-read_of (Flows OpenFlow file rules) = refl
-read_of (Compare Iptables file rules) = refl
-read_of (Compare OpenFlow file rules) = refl
+read_of (Flows dialect file rules) = rw (named_word dialect) refl
+read_of (Compare dialect file rules) = rw (named_word dialect) refl
 read_of (Changes old new) = refl
 
 pub is_read : (words : List (List ℕ)) (command : Command) → ParseAs words command → command_of words ≡ Some command

@@ -1,6 +1,6 @@
 -- The question of a command line (docs/QUERIES.md): a constructor for each form, with all its words.
 use Rattle.std.specs.Prelude.{◌≡◌, ℕ, List, [], ◌∷◌, ◌++◌, codes}
-use Rattle.topos_top.specs.Command.{dialect_word}
+use Rattle.topos_top.specs.Dialects.{rule_dialect_of}
 use Rattle.topos_top.specs.Reply.{Reply, error}
 use Rattle.topos_top.specs.declared.dialect.Dialect.{Dialect}
 use Rattle.topos_top.specs.declared.status.Status.TheVariants as status
@@ -16,8 +16,8 @@ pub data Command : Type 0 where
 abbrev pub arguments_of : Command → List (List ℕ)
 arguments_of (Why file from to) = codes "why" ∷ file ∷ from ∷ to ∷ []
 arguments_of (Network file) = codes "network" ∷ file ∷ []
-arguments_of (Flows dialect file rules) = codes "flows" ∷ dialect_word dialect ∷ file ∷ rules ∷ []
-arguments_of (Compare dialect file rules) = codes "compare" ∷ dialect_word dialect ∷ file ∷ rules ∷ []
+arguments_of (Flows dialect file rules) = codes "flows" ∷ (rule_dialect_of dialect).word ∷ file ∷ rules ∷ []
+arguments_of (Compare dialect file rules) = codes "compare" ∷ (rule_dialect_of dialect).word ∷ file ∷ rules ∷ []
 arguments_of (Changes old new) = codes "changes" ∷ old ∷ new ∷ []
 
 -- The arguments form this question.

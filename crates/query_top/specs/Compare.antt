@@ -1,4 +1,4 @@
--- `compare iptables|openflow FILE RULES`: whether rules do what the policy of a network says, for each pair of owners.
+-- `compare DIALECT FILE RULES`: whether rules do what the policy of a network says, for each pair of owners.
 use Rattle.std.specs.Prelude.{◌≡◌, ℕ, List, [], ◌∷◌, codes}
 use Rattle.audit_core.specs.Findings.{DifferSomewhere}
 use Rattle.audit_core.specs.Pairs.{AreDifferences, IsComplete}

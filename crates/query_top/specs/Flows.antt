@@ -1,4 +1,4 @@
--- `flows iptables|openflow FILE RULES`: what rules let pass between the hosts of a network.
+-- `flows DIALECT FILE RULES`: what rules let pass between the hosts of a network.
 use Rattle.std.specs.Prelude.{◌≡◌, ℕ, List}
 use Rattle.audit_core.specs.Rules.{Rules}
 use Rattle.decide_core.specs.DeadPlaces.{AreDeadPlaces}

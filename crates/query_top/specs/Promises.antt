@@ -2,7 +2,8 @@
 use Rattle.std.specs.Prelude.{◌≡◌, ℕ, ◌⊎◌, List, true, false, IfSome}
 use Rattle.audit_core.specs.Sides.{AreEquivalent}
 use Rattle.edge_io.specs.Counts.{Rose}
-use Rattle.topos_top.specs.Audit.{OfSides, rules_in}
+use Rattle.topos_top.specs.Audit.{OfSides}
+use Rattle.topos_top.specs.Dialects.{rule_dialect_of}
 use Rattle.topos_top.specs.CommandPlan.{HoldsAtStop}
 use Rattle.topos_top.specs.Outcomes.{Outcomes, AnyOutcome, EndsWithGuarantee, stream_of}
 use Rattle.topos_top.specs.Promises.{HoldsAtFile, WasRead, Wrote}
@@ -52,16 +53,16 @@ abbrev pub AnswersQuestion : Command → ShelfChange → (out : SinkChange) → 
 AnswersQuestion (Why file from to) shelf out = WasRead shelf kind.Description file (λ d. Wrote out (IsWhy d from to))
 AnswersQuestion (Network file) shelf out = WasRead shelf kind.Description file (λ d. Wrote out (IsNetworkAnswer d))
 AnswersQuestion (Flows dialect file rules) shelf out = WasRead shelf kind.Description file
-    (λ d. WasRead shelf (kind.Rules dialect) rules (λ said. Wrote out (IsFlowsAnswer d.hosts (rules_in dialect said))))
+    (λ d. WasRead shelf (kind.Rules dialect) rules (λ said. Wrote out (IsFlowsAnswer d.hosts ((rule_dialect_of dialect).audited said))))
 AnswersQuestion (Compare dialect file rules) shelf out = WasRead shelf kind.Description file
-    (λ d. WasRead shelf (kind.Rules dialect) rules (λ said. OfSides d (rules_in dialect said) AreEquivalent × Appends out equal_json))
+    (λ d. WasRead shelf (kind.Rules dialect) rules (λ said. OfSides d ((rule_dialect_of dialect).audited said) AreEquivalent × Appends out equal_json))
 AnswersQuestion (Changes old new) shelf out = WasRead shelf kind.Description old (λ before. WasRead shelf kind.Description new (λ after. Wrote out (IsChangesAnswer before after false)))
 
 -- The question is a comparison with differences, or one on changes that weaken a flow, and the answer is on the output: the files, as the run
 -- saw them, describe a network and have rules, or describe two networks, and the answer has all differences, or all changes and weaker flows.
 abbrev pub OutputsDifferences : Command → ShelfChange → (out : SinkChange) → Type 0
 OutputsDifferences (Compare dialect file rules) shelf out = WasRead shelf kind.Description file
-    (λ d. WasRead shelf (kind.Rules dialect) rules (λ said. Wrote out (λ text. OfSides d (rules_in dialect said) (λ sides. ReportsDifferences sides text))))
+    (λ d. WasRead shelf (kind.Rules dialect) rules (λ said. Wrote out (λ text. OfSides d ((rule_dialect_of dialect).audited said) (λ sides. ReportsDifferences sides text))))
 OutputsDifferences (Changes old new) shelf out = WasRead shelf kind.Description old (λ before. WasRead shelf kind.Description new (λ after. Wrote out (IsChangesAnswer before after true)))
 OutputsDifferences _ shelf out = ⊥
 

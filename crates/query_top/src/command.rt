@@ -15,9 +15,9 @@ pub enum Command<'a> {
     Why(&'a str, &'a str, &'a str),
     /// `network FILE`: all that the description and its policy say of hosts, invariants and flows.
     Network(&'a str),
-    /// `flows iptables|openflow FILE RULES`: what rules let pass between the hosts.
+    /// `flows DIALECT FILE RULES`: what rules let pass between the hosts.
     Flows(Dialect, &'a str, &'a str),
-    /// `compare iptables|openflow FILE RULES`: whether rules do what the policy says, for each pair of owners.
+    /// `compare DIALECT FILE RULES`: whether rules do what the policy says, for each pair of owners.
     Compare(Dialect, &'a str, &'a str),
     /// `changes OLD NEW`: the packets that the policies of two descriptions treat differently.
     Changes(&'a str, &'a str),

@@ -1,9 +1,9 @@
-//! `compare iptables|openflow FILE RULES`: whether rules do what the policy of a network says, for each pair of owners.
+//! `compare DIALECT FILE RULES`: whether rules do what the policy of a network says, for each pair of owners.
 
 ghost use Rattle.std.specs.Prelude.{◌≡◌, All, IfOk, true};
 ghost use Rattle.audit_core.specs.RulesView.{rules_of};
 ghost use Rattle.query_core.specs.inner.Fitting.{FitsDifference};
-ghost use Rattle.topos_top.specs.Audit.{rules_in};
+ghost use Rattle.topos_top.specs.Dialects.{rule_dialect_of};
 ghost use Rattle.topos_top.specs.CommandPlan.{reads, ends};
 ghost use Rattle.topos_top.specs.Outcomes.{Answers};
 ghost use Rattle.topos_top.specs.Replies.{IsPossibleReply};
@@ -47,7 +47,7 @@ fn reply_for<'a, H: Shelf>(
     rules: &'a str,
     shelf: &mut H,
 ) -> Result<Answer<'a>, Answer<'a>>
-    ensures { IsPossibleReply true (reads (kind.Rules dialect) rules.now (λ said. ends (compare_outcomes description.now (rules_in dialect said))))
+    ensures { IsPossibleReply true (reads (kind.Rules dialect) rules.now (λ said. ends (compare_outcomes description.now ((rule_dialect_of dialect).audited said))))
         (shelf_change H.Shelf shelf.old shelf.new) (reply_in result) }
 {
     let rules = read_rules(alloc, dialect, rules, shelf)?;

@@ -1,8 +1,8 @@
-//! `flows iptables|openflow FILE RULES`: what rules let pass between the hosts of a network.
+//! `flows DIALECT FILE RULES`: what rules let pass between the hosts of a network.
 
 ghost use Rattle.std.specs.Prelude.{IfOk, true};
 ghost use Rattle.audit_core.specs.RulesView.{rules_of};
-ghost use Rattle.topos_top.specs.Audit.{rules_in};
+ghost use Rattle.topos_top.specs.Dialects.{rule_dialect_of};
 ghost use Rattle.topos_top.specs.CommandPlan.{reads, ends};
 ghost use Rattle.topos_top.specs.Outcomes.{Answers};
 ghost use Rattle.topos_top.specs.Replies.{IsPossibleReply};
@@ -43,7 +43,7 @@ fn reply_for<'a, H: Shelf>(
     rules: &'a str,
     shelf: &mut H,
 ) -> Result<Answer<'a>, Answer<'a>>
-    ensures { IsPossibleReply true (reads (kind.Rules dialect) rules.now (λ said. ends (flows_outcomes hosts.now (rules_in dialect said))))
+    ensures { IsPossibleReply true (reads (kind.Rules dialect) rules.now (λ said. ends (flows_outcomes hosts.now ((rule_dialect_of dialect).audited said))))
         (shelf_change H.Shelf shelf.old shelf.new) (reply_in result) }
 {
     let rules = read_rules(alloc, dialect, rules, shelf)?;

@@ -26,7 +26,7 @@ use Rattle.net_core.specs.Policies.{IsPolicyOf, Policy}
 use Rattle.pkt_core.specs.declared.event.Event.TheVariants.{Seen}
 use Rattle.pkt_core.specs.Filter.{ArePackets, ForwardsAsExpected}
 use Rattle.pkt_core.specs.Firewall.{Filter}
-use Rattle.topos_top.specs.Audit.{FewClasses, HasManyClasses, OfSides, ReportsDifference, audit_outcomes, rules_in}
+use Rattle.topos_top.specs.Audit.{FewClasses, HasManyClasses, OfSides, ReportsDifference, audit_outcomes}
 use Rattle.topos_top.specs.Dialects.{rule_dialect_of}
 use Rattle.topos_top.specs.Outcomes.{Answers}
 use Rattle.topos_top.specs.Reply.{Reply}
@@ -34,10 +34,9 @@ use Rattle.topos_top.specs.inner.OutcomesReplies.{finding_reply}
 use Rattle.topos_top.specs.inner.Views.{reply_on}
 use Rattle.topos_top.specs.Rules.{IsRules, OfPolicy}
 use Rattle.topos_top.specs.declared.dialect.Dialect.{Dialect}
-use Rattle.topos_top.specs.declared.dialect.Dialect.TheVariants.{Iptables, OpenFlow}
 use Rattle.topos_top.specs.declared.status.Status.TheVariants.{Violated, Done}
 use Rattle.topos_top.specs.declared.status.Stream.TheVariants.{Output}
-use Rattle.topos_top.proofs.DialectLaws.{keeps_policies}
+use Rattle.topos_top.proofs.DialectLaws.{laws_of}
 use Rattle.topos_top.proofs.RulesLaws.{moved as same_policy, rules_keep}
 
 few_not_many : (sides : Sides) (line : List ℕ) → FewClasses sides → HasManyClasses sides line → ⊥
@@ -129,19 +128,14 @@ equal_exactly d rules reply answers few = (alike_where_done, done_where_alike)
       ]
     ]
 
--- Rules forward in an audit the packets that they forward in their dialect.
-pub filter_in : (dialect : Dialect) (said : (rule_dialect_of dialect).Rules) → filter_of (rules_in dialect said) ≡ (rule_dialect_of dialect).filter said
-filter_in Iptables chains = refl
-filter_in OpenFlow entries = refl
-
 -- The rules that are parsed from a text of `rules` or `repair` forward alike.
 pub written_alike : (dialect : Dialect) (d : Network) (text : List ℕ) (said : (rule_dialect_of dialect).Rules) → IsNetwork d
     → OfPolicy d (rule_dialect_of dialect).CanWrite → IsRules (rule_dialect_of dialect) d text → (rule_dialect_of dialect).IsReading text said
-    → OfSides d (rules_in dialect said) AreEquivalent
+    → OfSides d ((rule_dialect_of dialect).audited said) AreEquivalent
 unfolding rules_keep
 written_alike dialect d text said network can is reading =
-    let keep = rules_keep (rule_dialect_of dialect) (keeps_policies dialect) d text network can is in
-    let filter = ap (rule_dialect_of dialect).filter (sym (keep.only_reading said reading)) ∙ sym (filter_in dialect said) in
+    let keep = rules_keep (rule_dialect_of dialect) (laws_of dialect) d text network can is in
+    let filter = ap (rule_dialect_of dialect).filter (sym (keep.only_reading said reading)) ∙ sym ((laws_of dialect).audited_filter said) in
     record {
       policy = keep.policy;
       is_policy = keep.invariants.is_policy;

@@ -3,18 +3,19 @@ use Rattle.std.proofs.Common.{◌≡◌, ℕ, List, true, refl, sym, ◌∙◌}
 use Rattle.audit_core.specs.Findings.{DifferSomewhere}
 use Rattle.audit_core.specs.Rules.{Rules as AuditedRules}
 use Rattle.audit_core.specs.Sides.{AreEquivalent}
-use Rattle.ipt_rules.specs.Semantics.{Passes as PassesChains}
+use Rattle.host_net.specs.Packet.{IsPacket}
 use Rattle.net_core.specs.inner.Fitting.{IsNetwork}
 use Rattle.net_core.specs.Network.{Network}
-use Rattle.ofp_rules.specs.Semantics.{Passes as PassesTable}
+use Rattle.pkt_core.specs.Filter.{ArePackets}
+use Rattle.pkt_core.specs.Firewall.{Filter}
 use Rattle.pkt_core.specs.declared.event.Event.{Event}
 use Rattle.report_core.proofs.ReportLaws.{check_report_is_one, policy_report_is_one}
 use Rattle.report_core.proofs.ReportPromisesLaws.{reports_violations, reports_policy}
 use Rattle.sample_core.proofs.SampleLaws.{sample_is_one}
 use Rattle.sample_core.proofs.SamplePromisesLaws.{reports_sample}
-use Rattle.report_core.proofs.TraceLaws.{any_known, chains_answer_once, table_answers_once, trace_is_one, reports_run}
+use Rattle.report_core.proofs.TraceLaws.{AnswersOnce, trace_is_one, reports_run}
 use Rattle.topos_top.specs.Command.{Command, Check, Policy, Rules, Repair, Trace, Sample, Migrate, Audit, Edit, Local}
-use Rattle.topos_top.specs.Audit.{audit_outcomes, rules_in}
+use Rattle.topos_top.specs.Audit.{audit_outcomes}
 use Rattle.topos_top.specs.Check.{offences_when}
 use Rattle.topos_top.specs.Commands.{plan_of}
 use Rattle.topos_top.specs.CommandPlan.{CommandPlan, reads, ends}
@@ -25,11 +26,10 @@ use Rattle.topos_top.specs.Local.{machines_when}
 use Rattle.topos_top.specs.Rules.{ListedHolds, rules_when}
 use Rattle.topos_top.specs.Trace.{trace_outcomes}
 use Rattle.topos_top.specs.declared.dialect.Dialect.{Dialect}
-use Rattle.topos_top.specs.declared.dialect.Dialect.TheVariants.{Iptables, OpenFlow}
 use Rattle.topos_top.specs.declared.kind.Kind.TheVariants as kind
 use Rattle.topos_top.specs.declared.status.Status.{Status}
 use Rattle.topos_top.proofs.AuditLaws.{agreement_tells, differ_or_agree, line_once, many_or_few, trace_once}
-use Rattle.topos_top.proofs.DialectLaws.{keeps_policies}
+use Rattle.topos_top.proofs.DialectLaws.{laws_of}
 use Rattle.topos_top.proofs.EditLaws.{line_is_one, never_both as refused_or_accepted, reports_edits, text_is_one}
 use Rattle.topos_top.proofs.OutcomesLaws.{is_end, IsOwed, IsSettled, settled_writes}
 use Rattle.topos_top.proofs.KindLaws.{IsSound}
@@ -49,17 +49,17 @@ owed_offences ended status when d sound = record { status = status; one = check_
 settled_rules : (holds : Type 0) (dialect : Dialect) (d : Network) → IsNetwork d → IsSettled (rules_when holds (rule_dialect_of dialect) d)
 settled_rules holds dialect d sound = record {
   owed = (
-    record { status = refl; one = hindrance_is_one (rule_dialect_of dialect) (keeps_policies dialect) d; guarantees = λ now text is. is },
+    record { status = refl; one = hindrance_is_one (rule_dialect_of dialect) (laws_of dialect) d; guarantees = λ now text is. is },
     (
       record {
         status = refl;
-        one = rules_are_one (rule_dialect_of dialect) (keeps_policies dialect) d;
-        guarantees = λ now text is. rules_keep (rule_dialect_of dialect) (keeps_policies dialect) d text sound now.1 is;
+        one = rules_are_one (rule_dialect_of dialect) (laws_of dialect) d;
+        guarantees = λ now text is. rules_keep (rule_dialect_of dialect) (laws_of dialect) d text sound now.1 is;
       },
       tt,
     ),
   );
-  apart = ((λ hindered written. never_both (rule_dialect_of dialect) (keeps_policies dialect) d hindered.1 hindered.2 written.1, tt), (tt, tt));
+  apart = ((λ hindered written. never_both (rule_dialect_of dialect) (laws_of dialect) d hindered.1 hindered.2 written.1, tt), (tt, tt));
 }
 
 settled_machines : (holds : Type 0) (d : Network) (host : List ℕ) → IsNetwork d → IsSettled (machines_when holds d host)
@@ -71,14 +71,9 @@ settled_machines holds d host sound = record {
   apart = ((λ barred written. specific_or_barred d host barred.1 barred.2 written.1, tt), (tt, tt));
 }
 
-settled_trace : (dialect : Dialect) (rules : (rule_dialect_of dialect).Rules) (events : List Event) → IsSound (kind.Rules dialect) rules → IsSound kind.Events events
-    → IsSettled (trace_outcomes ((rule_dialect_of dialect).filter rules) events)
-settled_trace Iptables chains events sound packets =
-    let once = chains_answer_once chains in
-    settled_writes _ _ (trace_is_one _ (PassesChains chains) once events (any_known events)) (reports_run _ (PassesChains chains) once events (any_known events))
-settled_trace OpenFlow entries events sound packets =
-    let once = table_answers_once entries sound in
-    settled_writes _ _ (trace_is_one _ (PassesTable entries) once events packets) (reports_run _ (PassesTable entries) once events packets)
+settled_trace : (filter : Filter) (events : List Event) → AnswersOnce IsPacket filter → ArePackets events → IsSettled (trace_outcomes filter events)
+settled_trace filter events once packets =
+    settled_writes _ _ (trace_is_one _ filter once events packets) (reports_run _ filter once events packets)
 
 settled_audit : (d : Network) (rules : AuditedRules) → IsSettled (audit_outcomes d rules)
 settled_audit d rules = record {
@@ -118,10 +113,10 @@ settled (Rules dialect file) = λ d sound. record {
   );
 }
 settled (Repair dialect file) = λ d sound. settled_rules (Unit {0}) dialect d sound
-settled (Trace dialect rules events) = λ said sound es packets. settled_trace dialect said es sound packets
+settled (Trace dialect rules events) = λ said once es packets. settled_trace ((rule_dialect_of dialect).filter said) es once packets
 settled (Sample hosts) = settled_writes _ _ (sample_is_one hosts) (reports_sample hosts)
 settled (Migrate file) = λ text sound. settled_writes _ _ (λ a b p q. p ∙ sym q) (λ text is. is)
-settled (Audit dialect file rules) = λ d sound said fits. settled_audit d (rules_in dialect said)
+settled (Audit dialect file rules) = λ d sound said fits. settled_audit d ((rule_dialect_of dialect).audited said)
 settled (Edit file edits) = λ table sound es known. settled_edits table es
 settled (Local file host) = λ d sound. record {
   owed = (owed_offences _ refl _ d sound, (settled_machines (ListedHolds d) d host sound).owed);

@@ -1,41 +1,63 @@
--- Properties of each dialect by which the rules of a policy have their guarantee.
-use Rattle.std.proofs.Common.{◌≡◌, ℕ, List, ◌++◌, codes, ap, sym, ◌∙◌, arith}
+-- The laws of each dialect: by them rules are parsed in one way, and the rules of a policy have their guarantee.
+use Rattle.std.proofs.Common.{◌≡◌, ◌<◌, ℕ, List, length, ◌++◌, Some, codes, refl, ap, sym, ◌∙◌, arith}
+use Rattle.audit_core.specs.Rules.{filter_of}
 use Rattle.emit_core.specs.FlowTable.{flow_entries}
 use Rattle.emit_core.proofs.ForwardingLaws.{layout_enforces}
 use Rattle.emit_core.proofs.TableLaws.{first_barred_once, first_range_once, flow_entries_arp, flow_entries_enforce, flow_entries_table, none_barred, none_ranging}
 use Rattle.emit_core.proofs.WritableLaws.{layout_short, layout_writable}
 use Rattle.flow_set.specs.declared.flow.Flow.{Flow}
+use Rattle.host_net.specs.Packet.{IsPacket}
 use Rattle.host_net.specs.Site.{Site}
 use Rattle.host_net.specs.inner.Site.{IsSite}
 use Rattle.ipt_read.proofs.AgainLaws.{text_read_again}
-use Rattle.ipt_read.proofs.FaultLaws.{one_reading}
+use Rattle.ipt_read.proofs.FaultLaws.{one_reading, one_fault, no_reading_with_fault}
+use Rattle.ipt_read.specs.TextLines.{HasFault as HasFaultInRules}
+use Rattle.ipt_read.specs.declared.fault.IptWhy.TheVariants.{TooLong as RulesTooLong}
 use Rattle.ofp_read.proofs.AgainLaws.{text_read_again as flows_read_again}
-use Rattle.ofp_read.proofs.FaultLaws.{one_reading as one_reading_of_flows}
+use Rattle.ofp_read.proofs.FaultLaws.{one_reading as one_reading_of_flows, reading_is_table, one_fault as one_fault_in_flows, no_reading_with_fault as no_flows_with_fault}
+use Rattle.ofp_read.specs.TextLines.{HasFault as HasFaultInFlows}
+use Rattle.ofp_read.specs.declared.fault.OfpWhy.TheVariants.{TooLong as FlowsTooLong}
 use Rattle.pkt_core.specs.Filter.{Enforces}
+use Rattle.report_core.proofs.TraceLaws.{AnswersOnce, chains_answer_once, table_answers_once}
 use Rattle.report_core.specs.Names.{flow_text}
+use Rattle.text_core.specs.LineFormat.{too_long}
 use Rattle.topos_top.specs.Dialects.{RuleDialect, NeedsState, RangeOfPorts, TooManyFlows, iptables, openflow, rule_dialect_of, CannotEmitTable}
 use Rattle.topos_top.specs.Reply.{not_emittable}
+use Rattle.topos_top.specs.TextFault.{fault_line, flows_reason, rules_reason}
 use Rattle.topos_top.specs.declared.dialect.Dialect.{Dialect}
 use Rattle.topos_top.specs.declared.dialect.Dialect.TheVariants.{Iptables, OpenFlow}
+use Rattle.topos_top.specs.inner.Forms.{dialect_named}
+use Rattle.topos_top.proofs.TextFaultLaws.{same_line}
 
--- The properties by which rules guarantee a policy.
-pub record KeepsPolicies (language : RuleDialect) : Type 0 where
+-- The laws of a dialect. Bytes parse to unique rules, or have a unique line that reports their fault. Rules forward a packet or do not, in an
+-- audit too. The rules of a policy enforce it and parse back, or a unique line gives the reason why they cannot be emitted.
+pub record IsLawful (language : RuleDialect) : Type 1 where
+  pub one_reading : (bytes : List ℕ) (rules others : language.Rules) → language.IsReading bytes rules → language.IsReading bytes others
+      → rules ≡ others
+  pub reads_or_refuses : (bytes line : List ℕ) (rules : language.Rules) → language.IsReading bytes rules → language.Refuses bytes line → ⊥
+  pub refuses_once : (bytes a b : List ℕ) → language.Refuses bytes a → language.Refuses bytes b → a ≡ b
+  pub too_long : (bytes : List ℕ) → language.byte_limit < length bytes → language.Refuses bytes (fault_line (codes "rules") 0 (codes "TooLong"))
+  pub answers_once : (bytes : List ℕ) (rules : language.Rules) → language.IsReading bytes rules → AnswersOnce IsPacket (language.filter rules)
+  pub audited_filter : (rules : language.Rules) → filter_of (language.audited rules) ≡ language.filter rules
   pub enforces : (site : Site) (p s : List Flow) → IsSite site → language.CanWrite site p s → Enforces (language.filter (language.layout site p s)) site p s
   pub other_frames : (site : Site) (p s : List Flow) → IsSite site → language.CanWrite site p s → language.OtherFrames (language.layout site p s)
   pub read_again : (site : Site) (p s : List Flow) → IsSite site → language.CanWrite site p s
       → language.IsReading (language.text (language.layout site p s)) (language.layout site p s)
-  pub one_reading : (bytes : List ℕ) (rules others : language.Rules) → language.IsReading bytes rules → language.IsReading bytes others
-      → rules ≡ others
   pub one_hindrance : (site : Site) (p s : List Flow) (line other : List ℕ) → language.CannotEmit line site p s
       → language.CannotEmit other site p s → line ≡ other
   pub apart : (site : Site) (p s : List Flow) (line : List ℕ) → language.CanWrite site p s → language.CannotEmit line site p s → ⊥
 
-iptables_keep : KeepsPolicies iptables
-iptables_keep = record {
+iptables_laws : IsLawful iptables
+iptables_laws = record {
+  one_reading = one_reading;
+  reads_or_refuses = λ bytes line chains read refused. no_reading_with_fault bytes chains refused.number refused.why refused.fault read;
+  refuses_once = λ bytes. same_line (codes "rules") rules_reason HasFaultInRules bytes (one_fault bytes);
+  too_long = λ bytes long. record { number = 0; why = RulesTooLong; fault = too_long long; told = refl };
+  answers_once = λ bytes chains read state p a b known. chains_answer_once chains state p a b tt;
+  audited_filter = λ chains. refl;
   enforces = λ site p s known can. layout_enforces site p s known.hosts;
   other_frames = λ site p s known can. tt;
   read_again = λ site p s known can. text_read_again _ (layout_writable site p s known can) (layout_short site p s known can);
-  one_reading = one_reading;
   one_hindrance = λ site p s line other is also. is.1 ∙ sym also.1;
   apart = λ site p s line fits bars. omega (arith, fits, bars.0);
 }
@@ -58,16 +80,26 @@ not_both site p s line fits (NeedsState f bar is) = none_barred site.services p 
 not_both site p s line fits (RangeOfPorts f covered range is) = none_ranging site.services p f fits.1 range
 not_both site p s line fits (TooManyFlows covered none many is) = omega (arith, fits.2, many)
 
-openflow_keep : KeepsPolicies openflow
-openflow_keep = record {
+openflow_laws : IsLawful openflow
+openflow_laws = record {
+  one_reading = one_reading_of_flows;
+  reads_or_refuses = λ bytes line entries read refused. no_flows_with_fault bytes entries refused.number refused.why refused.fault read;
+  refuses_once = λ bytes. same_line (codes "rules") flows_reason HasFaultInFlows bytes (one_fault_in_flows bytes);
+  too_long = λ bytes long. record { number = 0; why = FlowsTooLong; fault = too_long long; told = refl };
+  answers_once = λ bytes entries read. table_answers_once entries (reading_is_table bytes entries read);
+  audited_filter = λ entries. refl;
   enforces = λ site p s known can. flow_entries_enforce site p s known can.1 can.0;
   other_frames = λ site p s known can. flow_entries_arp site p known can.1;
   read_again = λ site p s known can. flows_read_again (flow_entries site p) (flow_entries_table site p known can.1 can.2);
-  one_reading = one_reading_of_flows;
   one_hindrance = one_bar;
   apart = not_both;
 }
 
-pub keeps_policies : (dialect : Dialect) → KeepsPolicies (rule_dialect_of dialect)
-keeps_policies Iptables = iptables_keep
-keeps_policies OpenFlow = openflow_keep
+pub laws_of : (dialect : Dialect) → IsLawful (rule_dialect_of dialect)
+laws_of Iptables = iptables_laws
+laws_of OpenFlow = openflow_laws
+
+-- The names of the dialects are distinct.
+pub named_word : (dialect : Dialect) → dialect_named (rule_dialect_of dialect).word ≡ Some dialect
+named_word Iptables = refl
+named_word OpenFlow = refl

@@ -1,10 +1,10 @@
 -- A list of forms parses a command only from its arguments, if each form does.
-use Rattle.std.proofs.Common.{◌≡◌, ℕ, Bool, true, false, if◌then◌else◌, List, [], ◌∷◌, Option, None, Some, bytes_eq, codes, option_map, refl, sym, subst}
+use Rattle.std.proofs.Common.{◌≡◌, ℕ, Bool, true, false, if◌then◌else◌, List, [], ◌∷◌, Option, None, Some, bytes_eq, option_map, refl, sym, subst}
+use Rattle.std.specs.Prelude.{cond, find}
 use Rattle.std.proofs.lemmas.Slice.Eq.{bytes_eq-Decides}
-use Rattle.topos_top.specs.Command.{dialect_word}
+use Rattle.topos_top.specs.Dialects.{dialects, rule_dialect_of}
 use Rattle.topos_top.specs.declared.dialect.Dialect.{Dialect}
-use Rattle.topos_top.specs.declared.dialect.Dialect.TheVariants.{Iptables, OpenFlow}
-use Rattle.topos_top.specs.inner.Forms.{Form, among, dialect_named, in_dialect, of_file, of_three, of_two, with_two_files}
+use Rattle.topos_top.specs.inner.Forms.{Form, among, in_dialect, of_file, of_three, of_two, with_two_files}
 
 pub none_asked : {A : Type 0} {C : Type 0} (command : C) → ◌≡◌ {A = Option C} None (Some command) → A
 none_asked command is = cc is
@@ -38,35 +38,31 @@ module _ {C : Type 0} (Is : List (List ℕ) → C → Type 0) where
   three_form word make is (a ∷ b ∷ c ∷ []) command made = asked (word ∷ a ∷ b ∷ c ∷ []) (make a b c) command (is a b c) made
   three_form word make is (a ∷ b ∷ c ∷ d ∷ rest) command made = none_asked command made
 
-  -- An argument names the dialect with this name.
-  named : (name : List ℕ) (words : List ℕ → List (List ℕ)) (make : Dialect → C) (command : C) → ((dialect : Dialect) → Is (words (dialect_word dialect)) (make dialect))
-      → option_map make (dialect_named name) ≡ Some command → Is (words name) command
-  named name words make command is made = by_first (bytes_eq name (codes "iptables")) refl made
+  -- An argument names the dialect of that name.
+  named : (name : List ℕ) (words : List ℕ → List (List ℕ)) (make : Dialect → C) (command : C) → ((dialect : Dialect) → Is (words (rule_dialect_of dialect).word) (make dialect))
+      → (among : List Dialect) → option_map make (find (λ dialect. bytes_eq name (rule_dialect_of dialect).word) among) ≡ Some command → Is (words name) command
+  named name words make command is [] made = none_asked command made
+  named name words make command is (dialect ∷ others) made = by_word (named name words make command is others) (bytes_eq name (rule_dialect_of dialect).word) refl made
     where
-      of : (dialect : Dialect) → name ≡ dialect_word dialect → Some (make dialect) ≡ Some command → Is (words name) command
-      of dialect same so = subst (λ (n : List ℕ). Is (words n) command) (sym same) (asked (words (dialect_word dialect)) (make dialect) command (is dialect) so)
+      by_word : (option_map make (find (λ dialect. bytes_eq name (rule_dialect_of dialect).word) others) ≡ Some command → Is (words name) command)
+          → (b : Bool) → bytes_eq name (rule_dialect_of dialect).word ≡ b
+          → option_map make (cond b (Some dialect) (find (λ dialect. bytes_eq name (rule_dialect_of dialect).word) others)) ≡ Some command → Is (words name) command
+      by_word behind true same so =
+          subst (λ (n : List ℕ). Is (words n) command) (sym ((bytes_eq-Decides name (rule_dialect_of dialect).word).0 same)) (asked (words (rule_dialect_of dialect).word) (make dialect) command (is dialect) so)
+      by_word behind false other so = behind so
 
-      by_second : (b : Bool) → bytes_eq name (codes "openflow") ≡ b → option_map make (if b then Some OpenFlow else None) ≡ Some command → Is (words name) command
-      by_second true same so = of OpenFlow ((bytes_eq-Decides name (codes "openflow")).0 same) so
-      by_second false other so = none_asked command so
-
-      by_first : (b : Bool) → bytes_eq name (codes "iptables") ≡ b
-          → option_map make (if b then Some Iptables else if bytes_eq name (codes "openflow") then Some OpenFlow else None) ≡ Some command → Is (words name) command
-      by_first true same so = of Iptables ((bytes_eq-Decides name (codes "iptables")).0 same) so
-      by_first false other so = by_second (bytes_eq name (codes "openflow")) refl so
-
-  pub dialect_form : (word : List ℕ) (make : Dialect → List ℕ → C) → ((dialect : Dialect) (a : List ℕ) → Is (word ∷ dialect_word dialect ∷ a ∷ []) (make dialect a)) → IsForm word (in_dialect make)
+  pub dialect_form : (word : List ℕ) (make : Dialect → List ℕ → C) → ((dialect : Dialect) (a : List ℕ) → Is (word ∷ (rule_dialect_of dialect).word ∷ a ∷ []) (make dialect a)) → IsForm word (in_dialect make)
   dialect_form word make is [] command made = none_asked command made
   dialect_form word make is (name ∷ []) command made = none_asked command made
-  dialect_form word make is (name ∷ a ∷ []) command made = named name (λ n. word ∷ n ∷ a ∷ []) (λ dialect. make dialect a) command (λ dialect. is dialect a) made
+  dialect_form word make is (name ∷ a ∷ []) command made = named name (λ n. word ∷ n ∷ a ∷ []) (λ dialect. make dialect a) command (λ dialect. is dialect a) dialects made
   dialect_form word make is (name ∷ a ∷ b ∷ rest) command made = none_asked command made
 
   pub files_form : (word : List ℕ) (make : Dialect → (first second : List ℕ) → C)
-      → ((dialect : Dialect) (a b : List ℕ) → Is (word ∷ dialect_word dialect ∷ a ∷ b ∷ []) (make dialect a b)) → IsForm word (with_two_files make)
+      → ((dialect : Dialect) (a b : List ℕ) → Is (word ∷ (rule_dialect_of dialect).word ∷ a ∷ b ∷ []) (make dialect a b)) → IsForm word (with_two_files make)
   files_form word make is [] command made = none_asked command made
   files_form word make is (name ∷ []) command made = none_asked command made
   files_form word make is (name ∷ a ∷ []) command made = none_asked command made
-  files_form word make is (name ∷ a ∷ b ∷ []) command made = named name (λ n. word ∷ n ∷ a ∷ b ∷ []) (λ dialect. make dialect a b) command (λ dialect. is dialect a b) made
+  files_form word make is (name ∷ a ∷ b ∷ []) command made = named name (λ n. word ∷ n ∷ a ∷ b ∷ []) (λ dialect. make dialect a b) command (λ dialect. is dialect a b) dialects made
   files_form word make is (name ∷ a ∷ b ∷ c ∷ rest) command made = none_asked command made
 
   abbrev pub AreForms : List (Form C) → Type 0

@@ -7,7 +7,7 @@ use Rattle.net_core.specs.Network.{Network}
 use Rattle.std.specs.FinMap.{get}
 use Rattle.std.specs.Prelude.{IfSome, codes}
 use Rattle.topos_top.specs.Command.{Command, Check, Policy, Rules, Repair, Trace, Sample, Migrate, Audit, Edit, Local, ParseAs}
-use Rattle.topos_top.specs.Audit.{OfSides, audit_outcomes, rules_in}
+use Rattle.topos_top.specs.Audit.{OfSides, audit_outcomes}
 use Rattle.topos_top.specs.Commands.{plan_of}
 use Rattle.topos_top.specs.CommandPlan.{HoldsAtStop}
 use Rattle.topos_top.specs.Dialects.{rule_dialect_of}
@@ -74,7 +74,7 @@ kept (Audit dialect file rules) shelf out (inl stopped) = absurd stopped
 kept (Audit dialect file rules) shelf out (inr on) = elim on.next [
   | inl stopped ↦ absurd stopped
   | inr second ↦
-      let end = by_audit on.said (rules_in dialect second.said) second.next.1.0 second.next.1.1 in
+      let end = by_audit on.said ((rule_dialect_of dialect).audited second.said) second.next.1.0 second.next.1.1 in
       record {
         bytes = on.bytes;
         held = on.held;

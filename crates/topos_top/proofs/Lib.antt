@@ -1,5 +1,6 @@
-pub mod KindLaws
+pub mod TextFaultLaws
 pub mod DialectLaws
+pub mod KindLaws
 pub mod RulesLaws
 pub mod LocalLaws
 pub mod AuditLaws

@@ -10,7 +10,7 @@ use Rattle.topos_top.specs.Shelf.{ShelfChange}
 use Rattle.topos_top.specs.inner.Command.{command_of, forms, parse_host_count}
 use Rattle.topos_top.specs.inner.Forms.{one_word}
 use Rattle.topos_top.specs.inner.Replies.{AllowsReplyTo}
-use Rattle.topos_top.specs.declared.dialect.Dialect.TheVariants.{Iptables, OpenFlow}
+use Rattle.topos_top.proofs.DialectLaws.{named_word}
 use Rattle.topos_top.proofs.FormLaws.{AreForms, IsForm, among_forms, asked, dialect_form, file_form, files_form, none_asked, two_form}
 
 -- ---- the command that the arguments form is parsed
@@ -25,16 +25,12 @@ read_of : (command : Command) → HasFewHosts command → command_of (arguments_
 unfolding command_of
 read_of (Check file) few = refl
 read_of (Policy file) few = refl
-read_of (Rules Iptables file) few = refl
-read_of (Rules OpenFlow file) few = refl
-read_of (Repair Iptables file) few = refl
-read_of (Repair OpenFlow file) few = refl
-read_of (Trace Iptables rules events) few = refl
-read_of (Trace OpenFlow rules events) few = refl
+read_of (Rules dialect file) few = rw (named_word dialect) refl
+read_of (Repair dialect file) few = rw (named_word dialect) refl
+read_of (Trace dialect rules events) few = rw (named_word dialect) refl
 read_of (Sample hosts) few = rw (said hosts few.0 few.1) refl
 read_of (Migrate file) few = refl
-read_of (Audit Iptables file rules) few = refl
-read_of (Audit OpenFlow file rules) few = refl
+read_of (Audit dialect file rules) few = rw (named_word dialect) refl
 read_of (Edit file edits) few = refl
 read_of (Local file host) few = refl
 

@@ -20,7 +20,7 @@ use Rattle.topos_top.specs.Reply.{Reply, error}
 use Rattle.topos_top.specs.Rules.{IsRules, PolicyMeetsInvariants, EnforcesPolicyText, OfPolicy, rules_for}
 use Rattle.topos_top.specs.declared.dialect.Dialect.{Dialect}
 use Rattle.topos_top.specs.declared.status.Status.TheVariants.{NotEmittable}
-use Rattle.topos_top.proofs.DialectLaws.{KeepsPolicies}
+use Rattle.topos_top.proofs.DialectLaws.{IsLawful}
 
 -- The policy of a network has its properties.
 pub policy_keeps : (d : Network) (policy : Policy) → IsNetwork d → IsPolicyOf d policy → PolicyMeetsInvariants d policy
@@ -44,18 +44,18 @@ pub ends_hindered : (dialect : Dialect) (d : Network) (reply : Reply) (line : Li
     → OfPolicy d ((rule_dialect_of dialect).CannotEmit line) → Answers false (repair_outcomes dialect d) reply
 ends_hindered dialect d reply line is hindered = subst (λ (r : Reply). Answers false (repair_outcomes dialect d) r) (sym is) (refl, inl (refl, (tt, line, hindered), hindered))
 
-module _ (language : RuleDialect) (keeps : KeepsPolicies language) (d : Network) where
+module _ (language : RuleDialect) (laws : IsLawful language) (d : Network) where
   pub rules_are_one : (a b : List ℕ) → IsRules language d a → IsRules language d b → a ≡ b
   rules_are_one a b p q =
       moved d (λ site f s. a ≡ language.text (language.layout site f s)) (λ site f s. b ≡ language.text (language.layout site f s)) p q ∙ sym q.so
 
   pub never_both : (line : List ℕ) → OfPolicy d (language.CannotEmit line) → OfPolicy d language.CanWrite → ⊥
   never_both line hindered can =
-      keeps.apart (site_of d) hindered.policy.permitted.flows hindered.policy.stateful.flows line (moved d language.CanWrite (language.CannotEmit line) can hindered) hindered.so
+      laws.apart (site_of d) hindered.policy.permitted.flows hindered.policy.stateful.flows line (moved d language.CanWrite (language.CannotEmit line) can hindered) hindered.so
 
   pub hindrance_is_one : (a b : List ℕ) → OfPolicy d (language.CannotEmit a) → OfPolicy d (language.CannotEmit b) → a ≡ b
   hindrance_is_one a b p q =
-      keeps.one_hindrance (site_of d) q.policy.permitted.flows q.policy.stateful.flows a b (moved d (language.CannotEmit a) (language.CannotEmit b) p q) q.so
+      laws.one_hindrance (site_of d) q.policy.permitted.flows q.policy.stateful.flows a b (moved d (language.CannotEmit a) (language.CannotEmit b) p q) q.so
 
   unfoldable pub rules_keep : (rules : List ℕ) → IsNetwork d → OfPolicy d language.CanWrite → IsRules language d rules → EnforcesPolicyText language d rules
   rules_keep rules network written is =
@@ -64,17 +64,17 @@ module _ (language : RuleDialect) (keeps : KeepsPolicies language) (d : Network)
       let known : IsSite (site_of d) = record { hosts = network.hosts; services = network.services } in
       let own : language.Rules = rules_for language d is.policy in
       let can : language.CanWrite (site_of d) p s = moved d language.CanWrite (λ site f t. rules ≡ language.text (language.layout site f t)) written is in
-      let enforces : Enforces (language.filter own) (site_of d) p s = keeps.enforces (site_of d) p s known can in
+      let enforces : Enforces (language.filter own) (site_of d) p s = laws.enforces (site_of d) p s known can in
       let expected : ForwardsAsExpected (language.filter own) (site_of d) p s =
       enforced_expected (language.filter own) (site_of d) p s (IsSubset-stateful d p s is.is_policy.stateful) enforces in
-      let read : language.IsReading rules own = subst (λ (bytes : List ℕ). language.IsReading bytes own) (sym is.so) (keeps.read_again (site_of d) p s known can) in
+      let read : language.IsReading rules own = subst (λ (bytes : List ℕ). language.IsReading bytes own) (sym is.so) (laws.read_again (site_of d) p s known can) in
       record {
         policy = is.policy;
         invariants = policy_keeps d is.policy network is.is_policy;
         written = is.so;
         read = read;
-        only_reading = λ others reading. keeps.one_reading rules others own reading read;
+        only_reading = λ others reading. laws.one_reading rules others own reading read;
         expected = expected;
         enforces = enforces;
-        other_frames = keeps.other_frames (site_of d) p s known can;
+        other_frames = laws.other_frames (site_of d) p s known can;
       }

@@ -1,12 +1,12 @@
 -- Consequences of the single reply of a run, by the point at which it stopped: a table of the facts for each status.
 use Rattle.std.proofs.Common.{◌≡◌, ◌⊎◌, inl, inr, ℕ, List, None, Some, Bool, true, false, true≢false, refl, ap, sym, subst, ◌∙◌}
 use Rattle.std.specs.Prelude.{◌↔◌}
-use Rattle.topos_top.specs.Command.{Command, ParseAsNothing, ReportsViolationsOnOutput, reports_on_output}
+use Rattle.topos_top.specs.Command.{Command, ParseAsNothing, ReportsViolationsOnOutput, reports_on_output, usage}
 use Rattle.topos_top.specs.Commands.{plan_of}
 use Rattle.topos_top.specs.Outcomes.{Outcomes, Answers, AnyOutcome, EndsWithGuarantee, stream_of}
 use Rattle.topos_top.specs.Promises.{HoldsAtFile, HoldsAtOutcome, DeliversReply, HasCause, HasCauses}
 use Rattle.topos_top.specs.Replies.{StopsRunAt, NoMemory, Stopped, IsPossibleReply}
-use Rattle.topos_top.specs.Reply.{Reply, error, no_memory, usage}
+use Rattle.topos_top.specs.Reply.{Reply, error, no_memory}
 use Rattle.topos_top.specs.Shelf.{Shelf, ShelfChange, since}
 use Rattle.topos_top.specs.SinkChanges.{SinkChange, IsWrittenUpToFault, IsWrittenTo, IsDelivered}
 use Rattle.topos_top.specs.declared.kind.Kind.{Kind}

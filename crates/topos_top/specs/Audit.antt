@@ -1,4 +1,4 @@
--- `audit iptables|openflow FILE RULES`: whether rules forward what the policy of a network expects. The texts of its three outcomes state
+-- `audit DIALECT FILE RULES`: whether rules forward what the policy of a network expects. The texts of its three outcomes state
 -- what an operator may rely on: `run` guarantees it for a text with status done, violated or not emittable, and one of the three is reached
 -- if its files are readable, no error occurs and memory suffices (`complete`).
 use Rattle.std.specs.Prelude.{◌≡◌, ℕ, ◌≤◌, ◌<◌, List, [], ◌∷◌, ◌++◌, codes}
@@ -6,7 +6,7 @@ use Rattle.audit_core.specs.Cuts.{cuts_between}
 use Rattle.audit_core.specs.Findings.{DifferSomewhere, IsFirstTrace, events_of}
 use Rattle.audit_core.specs.FindingText.{classes_line, trace_text}
 use Rattle.audit_core.specs.Places.{class_count, representatives_of, most_classes}
-use Rattle.audit_core.specs.Rules.{Rules, Chains, Entries}
+use Rattle.audit_core.specs.Rules.{Rules}
 use Rattle.audit_core.specs.Sides.{DifferThen, AreEquivalent, Sides, sides_of}
 use Rattle.audit_core.specs.declared.finding.Trace.{Trace}
 use Rattle.host_net.specs.declared.packet.Packet.{Packet}
@@ -14,17 +14,9 @@ use Rattle.net_core.specs.Network.{Network}
 use Rattle.pkt_core.specs.declared.event.Event.{Event}
 use Rattle.pkt_core.specs.declared.event.Event.TheVariants.{Seen}
 use Rattle.pkt_core.specs.Filter.{ArePackets}
-use Rattle.topos_top.specs.Dialects.{rule_dialect_of}
 use Rattle.topos_top.specs.Outcomes.{Outcome, Outcomes, says_why}
 use Rattle.topos_top.specs.Rules.{OfPolicy}
-use Rattle.topos_top.specs.declared.dialect.Dialect.{Dialect}
-use Rattle.topos_top.specs.declared.dialect.Dialect.TheVariants.{Iptables, OpenFlow}
 use Rattle.topos_top.specs.declared.status.Status.TheVariants.{Violated, NotEmittable, Done}
-
--- The rules of a dialect as rules of an audit.
-abbrev pub rules_in : (dialect : Dialect) → (rule_dialect_of dialect).Rules → Rules
-rules_in Iptables chains = Chains chains
-rules_in OpenFlow entries = Entries entries
 
 -- The property holds for the policy of the network and the rules.
 abbrev pub OfSides : Network → Rules → (Sides → Type 0) → Type 0

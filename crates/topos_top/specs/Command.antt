@@ -1,8 +1,10 @@
 -- The commands of the command line (docs/GUIDE.md): one constructor per command form, with all its arguments.
 use Rattle.std.specs.Prelude.{◌≡◌, ℕ, ◌<◌, ◌≤◌, List, [], ◌∷◌, ◌++◌, Bool, true, false, IsTrue, codes, decimal}
 use Rattle.host_net.specs.Limits.{host_limit}
+use Rattle.topos_top.specs.Dialects.{rule_dialect_of}
+use Rattle.topos_top.specs.Reply.{Reply, error}
 use Rattle.topos_top.specs.declared.dialect.Dialect.{Dialect}
-use Rattle.topos_top.specs.declared.dialect.Dialect.TheVariants.{Iptables, OpenFlow}
+use Rattle.topos_top.specs.declared.status.Status.TheVariants as status
 
 pub data Command : Type 0 where
   Check : (file : List ℕ) → Command
@@ -16,21 +18,16 @@ pub data Command : Type 0 where
   Edit : (file edits : List ℕ) → Command
   Local : (file host : List ℕ) → Command
 
--- The name of a dialect on the command line.
-abbrev pub dialect_word : Dialect → List ℕ
-dialect_word Iptables = codes "iptables"
-dialect_word OpenFlow = codes "openflow"
-
 -- The arguments of the command.
 abbrev pub arguments_of : Command → List (List ℕ)
 arguments_of (Check file) = codes "check" ∷ file ∷ []
 arguments_of (Policy file) = codes "policy" ∷ file ∷ []
-arguments_of (Rules dialect file) = codes "rules" ∷ dialect_word dialect ∷ file ∷ []
-arguments_of (Repair dialect file) = codes "repair" ∷ dialect_word dialect ∷ file ∷ []
-arguments_of (Trace dialect rules events) = codes "trace" ∷ dialect_word dialect ∷ rules ∷ events ∷ []
+arguments_of (Rules dialect file) = codes "rules" ∷ (rule_dialect_of dialect).word ∷ file ∷ []
+arguments_of (Repair dialect file) = codes "repair" ∷ (rule_dialect_of dialect).word ∷ file ∷ []
+arguments_of (Trace dialect rules events) = codes "trace" ∷ (rule_dialect_of dialect).word ∷ rules ∷ events ∷ []
 arguments_of (Sample hosts) = codes "sample" ∷ decimal hosts ∷ []
 arguments_of (Migrate file) = codes "migrate" ∷ file ∷ []
-arguments_of (Audit dialect file rules) = codes "audit" ∷ dialect_word dialect ∷ file ∷ rules ∷ []
+arguments_of (Audit dialect file rules) = codes "audit" ∷ (rule_dialect_of dialect).word ∷ file ∷ rules ∷ []
 arguments_of (Edit file edits) = codes "edit" ∷ file ∷ edits ∷ []
 arguments_of (Local file host) = codes "local" ∷ file ∷ host ∷ []
 
@@ -60,6 +57,10 @@ usage_text =
     ++ (codes "       topos audit iptables|openflow FILE RULES\n"
     ++ (codes "       topos edit FILE EDITS\n"
     ++ codes "       topos local FILE HOST\n"))))))))
+
+-- The reply to arguments that form no command.
+abbrev pub usage : Reply
+usage = error status.Usage usage_text
 
 -- The command reports violations on the output. All other commands report them on the error stream.
 abbrev pub reports_on_output : Command → Bool

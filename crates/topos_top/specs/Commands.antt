@@ -2,7 +2,7 @@
 -- finds them.
 use Rattle.std.specs.Prelude.{ℕ, List}
 use Rattle.topos_top.specs.Command.{Command, Check, Policy, Rules, Repair, Trace, Sample, Migrate, Audit, Edit, Local, ParseAs}
-use Rattle.topos_top.specs.Audit.{audit_outcomes, rules_in}
+use Rattle.topos_top.specs.Audit.{audit_outcomes}
 use Rattle.topos_top.specs.Check.{check_outcomes}
 use Rattle.topos_top.specs.CommandPlan.{CommandPlan, reads, ends, ReadsNothing}
 use Rattle.topos_top.specs.Dialects.{rule_dialect_of}
@@ -25,7 +25,7 @@ plan_of (Repair dialect file) = reads kind.Description file (λ d. ends (repair_
 plan_of (Trace dialect rules events) = reads (kind.Rules dialect) rules (λ said. reads kind.Events events (λ es. ends (trace_outcomes ((rule_dialect_of dialect).filter said) es)))
 plan_of (Sample hosts) = ends (sample_outcomes hosts)
 plan_of (Migrate file) = reads kind.Document file (λ text. ends (migrate_outcomes text))
-plan_of (Audit dialect file rules) = reads kind.Description file (λ d. reads (kind.Rules dialect) rules (λ said. ends (audit_outcomes d (rules_in dialect said))))
+plan_of (Audit dialect file rules) = reads kind.Description file (λ d. reads (kind.Rules dialect) rules (λ said. ends (audit_outcomes d ((rule_dialect_of dialect).audited said))))
 plan_of (Edit file edits) = reads kind.Edited file (λ table. reads kind.Edits edits (λ es. ends (edit_outcomes table es)))
 plan_of (Local file host) = reads kind.Description file (λ d. ends (local_outcomes d host))
 

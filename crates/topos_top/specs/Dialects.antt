@@ -1,5 +1,6 @@
 -- The dialects of rules: their texts, their parsers, the packets that rules forward, and the rules of a policy.
-use Rattle.std.specs.Prelude.{◌≡◌, ◌≤◌, ◌<◌, ℕ, List, ◌++◌, length, codes, decimal}
+use Rattle.std.specs.Prelude.{◌≡◌, ◌≤◌, ◌<◌, ℕ, List, [], ◌∷◌, ◌++◌, length, codes, decimal}
+use Rattle.audit_core.specs.Rules.{Rules as AuditedRules, Chains, Entries}
 use Rattle.emit_core.specs.FlowTable.{flow_entries}
 use Rattle.emit_core.specs.EmitRefusals.{rule_limit}
 use Rattle.emit_core.specs.FlowTableEvents.{AnswersAreCovered, IsFirstUncovered}
@@ -25,16 +26,19 @@ use Rattle.topos_top.specs.TextFault.{ReportsFault, rules_reason, flows_reason}
 use Rattle.topos_top.specs.declared.dialect.Dialect.{Dialect}
 use Rattle.topos_top.specs.declared.dialect.Dialect.TheVariants.{Iptables, OpenFlow}
 
--- A dialect: the type of its rules, their text, the size limit of the parser, the rules that a text parses to, the reasons to reject a
--- text, the packets that rules forward in each state, and the treatment of other frames; and, for a site with permitted flows p and
--- stateful flows s, their rules, if they can be emitted, and the line that gives the reason otherwise (docs/TEXTS.md).
+-- A dialect: its name on the command line, the type of its rules, their text, the size limit of the parser, the rules that a text parses
+-- to, the reasons to reject a text, the packets that rules forward in each state, the rules in the form of an audit, and the treatment of
+-- other frames; and, for a site with permitted flows p and stateful flows s, their rules, if they can be emitted, and the line that gives
+-- the reason otherwise (docs/TEXTS.md).
 pub record RuleDialect : Type 1 where
+  pub word : List ℕ
   pub Rules : Type 0
   pub text : Rules → List ℕ
   pub byte_limit : ℕ
   pub IsReading : List ℕ → Rules → Type 0
   pub Refuses : (bytes line : List ℕ) → Type 0
   pub filter : Rules → Filter
+  pub audited : Rules → AuditedRules
   pub OtherFrames : Rules → Type 0
   pub layout : Site → (p s : List Flow) → Rules
   pub CanWrite : Site → (p s : List Flow) → Type 0
@@ -48,12 +52,14 @@ CannotEmitChains line site p s =
 -- Chains of iptables, which process only IPv4 packets.
 abbrev pub iptables : RuleDialect
 iptables = record {
+  word = codes "iptables";
   Rules = List Chain;
   text = chains_text;
   byte_limit = rules_text.byte_limit;
   IsReading = IsReadingOfRules;
   Refuses = ReportsFault (codes "rules") rules_reason HasFaultInRules;
   filter = PassesChains;
+  audited = Chains;
   OtherFrames = λ chains. Unit {0};
   layout = layout;
   CanWrite = λ site p s. rule_count (layout site p s) ≤ rule_limit;
@@ -73,12 +79,14 @@ pub data CannotEmitTable (line : List ℕ) (site : Site) (p s : List Flow) : Typ
 -- A flow table of OpenFlow. It can be emitted unless there is such a reason.
 abbrev pub openflow : RuleDialect
 openflow = record {
+  word = codes "openflow";
   Rules = List Entry;
   text = table_text;
   byte_limit = flows_text.byte_limit;
   IsReading = IsReadingOfFlows;
   Refuses = ReportsFault (codes "rules") flows_reason HasFaultInFlows;
   filter = PassesTable;
+  audited = Entries;
   OtherFrames = ForwardsArpAlone;
   layout = λ site p s. flow_entries site p;
   CanWrite = λ site p s. AnswersAreCovered site.services p s × HasNoRange site.services p × (length (flow_entries site p) ≤ most_entries);
@@ -89,3 +97,7 @@ openflow = record {
 abbrev pub rule_dialect_of : Dialect → RuleDialect
 rule_dialect_of Iptables = iptables
 rule_dialect_of OpenFlow = openflow
+
+-- All dialects.
+abbrev pub dialects : List Dialect
+dialects = Iptables ∷ OpenFlow ∷ []

@@ -1,7 +1,7 @@
-pub mod Command
 pub mod TextFault
 pub mod Reply
 pub mod Dialects
+pub mod Command
 pub mod FileFormats
 pub mod Outcomes
 pub mod Check

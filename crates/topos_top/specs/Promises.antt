@@ -5,7 +5,7 @@ use Rattle.edge_io.specs.Counts.{Rose}
 use Rattle.sample_core.specs.Sample.{IsSample}
 use Rattle.sample_core.specs.SamplePromises.{ReportsSample}
 use Rattle.topos_top.specs.Command.{Command, Rules, Repair, Migrate, Audit, Local, ParseAs, reports_on_output}
-use Rattle.topos_top.specs.Audit.{OfSides, rules_in}
+use Rattle.topos_top.specs.Audit.{OfSides}
 use Rattle.topos_top.specs.Commands.{plan_of}
 use Rattle.topos_top.specs.CommandPlan.{HoldsAtStop}
 use Rattle.topos_top.specs.Dialects.{rule_dialect_of}
@@ -89,7 +89,7 @@ MeetsHeadline (Rules dialect file) shelf out = WasRead shelf kind.Description fi
 MeetsHeadline (Repair dialect file) shelf out = WasRead shelf kind.Description file (λ d. Wrote out (EnforcesPolicyText (rule_dialect_of dialect) d))
 MeetsHeadline (Migrate file) shelf out = WasRead shelf kind.Document file (λ migrated. Appends out migrated)
 MeetsHeadline (Audit dialect file rules) shelf out = WasRead shelf kind.Description file
-    (λ d. WasRead shelf (kind.Rules dialect) rules (λ said. OfSides d (rules_in dialect said) AreEquivalent × Appends out (codes "equal\n")))
+    (λ d. WasRead shelf (kind.Rules dialect) rules (λ said. OfSides d ((rule_dialect_of dialect).audited said) AreEquivalent × Appends out (codes "equal\n")))
 MeetsHeadline (Local file host) shelf out = WasRead shelf kind.Description file (λ d. Wrote out (EnforcesPolicyLocally d host))
 MeetsHeadline _ shelf out = Unit {0}
 

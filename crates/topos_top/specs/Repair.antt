@@ -1,4 +1,4 @@
--- `repair iptables|openflow FILE`: the rules of the permitted policy, whether or not a policy was listed.
+-- `repair DIALECT FILE`: the rules of the permitted policy, whether or not a policy was listed.
 use Rattle.net_core.specs.Network.{Network}
 use Rattle.topos_top.specs.Dialects.{rule_dialect_of}
 use Rattle.topos_top.specs.Outcomes.{Outcomes}

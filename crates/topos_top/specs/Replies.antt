@@ -2,12 +2,12 @@
 use Rattle.std.specs.Prelude.{◌≡◌, ℕ, ◌⊎◌, List, Option, None, Some, Bool, IfSome}
 use Rattle.std.specs.FinMap.{get}
 use Rattle.edge_io.specs.Observable.{Files}
-use Rattle.topos_top.specs.Command.{Command, ParseAs, ParseAsNothing, reports_on_output}
+use Rattle.topos_top.specs.Command.{Command, ParseAs, ParseAsNothing, reports_on_output, usage}
 use Rattle.topos_top.specs.Commands.{plan_of}
 use Rattle.topos_top.specs.CommandPlan.{CommandPlan, HoldsAtStop}
 use Rattle.topos_top.specs.Outcomes.{Answers, AnswersFirst}
 use Rattle.topos_top.specs.FileFormats.{IsRefused}
-use Rattle.topos_top.specs.Reply.{Reply, usage, cannot_read, no_memory}
+use Rattle.topos_top.specs.Reply.{Reply, cannot_read, no_memory}
 use Rattle.topos_top.specs.Shelf.{Shelf, ShelfChange, ObservesFile, BeganOne, since, taken_of}
 use Rattle.topos_top.specs.declared.kind.Kind.{Kind}
 

@@ -1,7 +1,6 @@
 -- The reply of the program to its arguments: the exit status of the run, and a text for one of the two streams (docs/GUIDE.md,
 -- docs/TEXTS.md).
 use Rattle.std.specs.Prelude.{ℕ, List, ◌++◌, codes}
-use Rattle.topos_top.specs.Command.{usage_text}
 use Rattle.topos_top.specs.declared.status.Status.{Status}
 use Rattle.topos_top.specs.declared.status.Status.TheVariants as status
 use Rattle.topos_top.specs.declared.status.Stream.{Stream}
@@ -16,10 +15,6 @@ pub record Reply : Type 0 where
 -- A line on the error stream.
 abbrev pub error : Status → (line : List ℕ) → Reply
 error ended line = record { status = ended; stream = Errors; text = line }
-
--- The reply to arguments that form no command.
-abbrev pub usage : Reply
-usage = error status.Usage usage_text
 
 -- The reply to a file that cannot be read.
 abbrev pub cannot_read : (file : List ℕ) → Reply

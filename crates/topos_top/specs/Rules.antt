@@ -1,4 +1,4 @@
--- `rules iptables|openflow FILE`: the rules of the permitted policy, unless the policy was listed and violates an
+-- `rules DIALECT FILE`: the rules of the permitted policy, unless the policy was listed and violates an
 -- invariant.
 use Rattle.std.specs.Prelude.{◌≡◌, ℕ, List, [], ◌∷◌, IsTrue, IsFalse}
 use Rattle.flow_set.specs.FlowSet.{has, with_flow}

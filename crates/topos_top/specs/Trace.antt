@@ -1,4 +1,4 @@
--- `trace iptables|openflow RULES EVENTS`: the result of each event.
+-- `trace DIALECT RULES EVENTS`: the result of each event.
 use Rattle.std.specs.Prelude.{List}
 use Rattle.pkt_core.specs.Firewall.{Filter}
 use Rattle.pkt_core.specs.declared.event.Event.{Event}

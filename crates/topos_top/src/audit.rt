@@ -1,10 +1,11 @@
-//! `audit iptables|openflow FILE RULES`: whether rules forward what the policy of a network
+//! `audit DIALECT FILE RULES`: whether rules forward what the policy of a network
 //! expects.
 
 ghost use Rattle.std.specs.Prelude.{◌≡◌, IfOk, true};
 ghost use Rattle.audit_core.specs.RulesView.{rules_of};
 ghost use Rattle.topos_top.specs.Command.{Audit};
-ghost use Rattle.topos_top.specs.Audit.{audit_outcomes, rules_in};
+ghost use Rattle.topos_top.specs.Audit.{audit_outcomes};
+ghost use Rattle.topos_top.specs.Dialects.{rule_dialect_of};
 ghost use Rattle.topos_top.specs.Commands.{plan_of};
 ghost use Rattle.topos_top.specs.CommandPlan.{reads, ends};
 ghost use Rattle.topos_top.specs.Outcomes.{Answers};
@@ -48,7 +49,7 @@ fn reply_for<'a, H: Shelf>(
     rules: &'a str,
     shelf: &mut H,
 ) -> Result<Answer<'a>, Answer<'a>>
-    ensures { IsPossibleReply true (reads (Kind.Rules dialect) rules.now (λ said. ends (audit_outcomes description.now (rules_in dialect said))))
+    ensures { IsPossibleReply true (reads (Kind.Rules dialect) rules.now (λ said. ends (audit_outcomes description.now ((rule_dialect_of dialect).audited said))))
         (shelf_change H.Shelf shelf.old shelf.new) (reply_in result) }
 {
     let rules = read_rules(alloc, dialect, rules, shelf)?;

@@ -8,6 +8,7 @@ ghost use Rattle.topos_top.specs.Repair.{repair_outcomes};
 ghost use Rattle.topos_top.specs.declared.dialect.Dialect.TheVariants.{Iptables};
 
 use crate::answer::Answer;
+use crate::dialect::Rules;
 use crate::flow_policy::policy_between;
 use crate::hindrance::rules_line;
 use crate::text::Text;
@@ -28,7 +29,7 @@ pub fn answer<'a>(
     ensures { IfOk result (λ answer. Answers false (repair_outcomes Iptables description.now) (reply_view answer)) }
 {
     match iptables_layout(alloc, &policy_between(description, policy)) {
-        Ok(rules) => Ok(Answer::done(Text::Rules(rules))),
+        Ok(rules) => Ok(Answer::done(Text::Rules(Rules::Chains(rules)))),
         Err(NoChains::TooManyRules { count }) => {
             Ok(Answer::not_emittable(rules_line(alloc, count)?))
         }

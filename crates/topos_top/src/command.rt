@@ -18,18 +18,18 @@ pub enum Command<'a> {
     Check(&'a str),
     /// `policy FILE`: the status of each flow, and the reason.
     Policy(&'a str),
-    /// `rules iptables|openflow FILE`: the rules of the permitted policy, unless the policy was
+    /// `rules DIALECT FILE`: the rules of the permitted policy, unless the policy was
     /// listed and violates an invariant.
     Rules(Dialect, &'a str),
-    /// `repair iptables|openflow FILE`: the rules of the permitted policy.
+    /// `repair DIALECT FILE`: the rules of the permitted policy.
     Repair(Dialect, &'a str),
-    /// `trace iptables|openflow RULES EVENTS`: the result of each event.
+    /// `trace DIALECT RULES EVENTS`: the result of each event.
     Trace(Dialect, &'a str, &'a str),
     /// `sample N`: the results of every command for a network of N hosts, in numbers.
     Sample(u16),
     /// `migrate FILE`: the description in version 2.
     Migrate(&'a str),
-    /// `audit iptables|openflow FILE RULES`: whether rules forward what the policy expects.
+    /// `audit DIALECT FILE RULES`: whether rules forward what the policy expects.
     Audit(Dialect, &'a str, &'a str),
     /// `edit FILE EDITS`: the development of the network edit by edit, and its final policy.
     Edit(&'a str, &'a str),

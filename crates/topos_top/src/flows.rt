@@ -8,6 +8,7 @@ ghost use Rattle.topos_top.specs.Repair.{repair_outcomes};
 ghost use Rattle.topos_top.specs.declared.dialect.Dialect.TheVariants.{OpenFlow};
 
 use crate::answer::Answer;
+use crate::dialect::Rules;
 use crate::flow_policy::policy_between;
 use crate::hindrance::{answers_line, flows_line, ports_line};
 use crate::text::Text;
@@ -35,7 +36,7 @@ pub fn answer<'a>(
         return Ok(Answer::not_emittable(line));
     }
     match flow_table_layout(alloc, &asked) {
-        Ok(table) => Ok(Answer::done(Text::Table(table))),
+        Ok(table) => Ok(Answer::done(Text::Rules(Rules::Table(table)))),
         Err(NoTable::RangeOfPorts { flow }) => {
             let line = ports_line(alloc, hosts, policy.permitted(), flow)?;
             Ok(Answer::not_emittable(line))

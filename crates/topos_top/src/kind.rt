@@ -39,8 +39,7 @@ impl Kind {
     {
         match self {
             Kind::Description | Kind::Document | Kind::Edited => desc_core::BYTE_LIMIT,
-            Kind::Rules(Dialect::Iptables) => ipt_read::BYTE_LIMIT,
-            Kind::Rules(Dialect::OpenFlow) => ofp_read::BYTE_LIMIT,
+            Kind::Rules(dialect) => dialect.byte_limit(),
             Kind::Events => EVENTS_BYTE_LIMIT,
             Kind::Edits => EDITS_BYTE_LIMIT,
         }

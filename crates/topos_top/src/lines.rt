@@ -1,4 +1,4 @@
-//! Writing a text to a sink in blocks of lines, so the text is never stored as a whole and one
+//! Writing rules to a sink in blocks of lines, so the text is never stored as a whole and one
 //! write contains many lines. The block is on the stack.
 
 ghost use Rattle.std.specs.Prelude.{◌≡◌, ◌<◌, ◌≤◌, OnOk, OnErr, IfOk, Some, length, slice_get, take};
@@ -7,10 +7,10 @@ ghost use Rattle.std.specs.Io.KnownBytes.{append_known};
 ghost use Rattle.edge_io.specs.Counts.{Rose};
 ghost use Rattle.edge_io.specs.Observable.{AppendsPrefixOf};
 ghost use Rattle.topos_top.specs.inner.Blocks.{HasRoom};
+ghost use Rattle.topos_top.specs.inner.Views.{rules_lines};
 
+use crate::dialect::Rules;
 use edge_io::{Sink, WriteFault, put_all};
-use ipt_rules::Ruleset;
-use ofp_rules::Table;
 
 /// The greatest length of a line, in bytes.
 const LINE: usize = 320;
@@ -18,83 +18,34 @@ const LINE: usize = 320;
 /// The size of a block: 8 KB and room for a line, so each write except the last has more than 8 KB.
 const BLOCK: usize = 8512;
 
-/// A text that is written line by line.
-pub trait Lines: Sized {
-    ghost use Rattle.std.specs.Prelude.{◌≡◌, ◌≤◌, ◌<◌, ℕ, List, Some, length, slice_get, take};
-
-    /// Its lines, each with its newline.
-    ghost lines_of: { Self → List (List ℕ) };
-
-    /// Returns the number of lines.
-    fn count(&self) -> u32
-        ensures { result ≡ length (lines_of self.now) };
-
-    /// Writes line `i`, from 0, to the front of the buffer, and returns its length.
-    fn write(&self, i: u32, buffer: &mut [u8; 320]) -> usize
-        requires { i < length (lines_of self.now) }
-        ensures line { slice_get (lines_of self.now) i ≡ Some (take result buffer.new) }
-        ensures short { result ≤ 320 };
-}
-
-impl Lines for Ruleset {
-    ghost use Rattle.ipt_rules.specs.Text.{text_lines};
-
-    ghost lines_of = { text_lines };
-
-    fn count(&self) -> u32 {
-        self.lines()
-    }
-
-    fn write(&self, i: u32, buffer: &mut [u8; 320]) -> usize {
-        self.write_line(i, buffer)
-    }
-}
-
-impl Lines for Table {
-    ghost use Rattle.ofp_rules.specs.Text.{text_lines};
-
-    ghost lines_of = { text_lines };
-
-    fn count(&self) -> u32 {
-        self.lines()
-    }
-
-    fn write(&self, i: u32, buffer: &mut [u8; 320]) -> usize {
-        let mut line = [0; 256];
-        let length = self.write_line(i, &mut line);
-        buffer[..length].copy_from_slice(&line[..length]);
-        length
-    }
-}
-
-/// Writes the lines of a text to the sink, in blocks, and stops at the first error. Does not
+/// Writes the lines of rules to the sink, in blocks, and stops at the first error. Does not
 /// allocate.
-pub fn put_lines<T: Lines, O: Sink>(sink: &mut O, text: &T) -> Result<(), WriteFault>
-    ensures prefix { AppendsPrefixOf (O.held sink.old) (O.held sink.new) (concat (T.lines_of text.now)) }
-    ensures whole { OnOk result (O.held sink.new ≡ append_known (O.held sink.old) (concat (T.lines_of text.now))) }
+pub fn put_lines<O: Sink>(sink: &mut O, rules: &Rules) -> Result<(), WriteFault>
+    ensures prefix { AppendsPrefixOf (O.held sink.old) (O.held sink.new) (concat (rules_lines rules.now)) }
+    ensures whole { OnOk result (O.held sink.new ≡ append_known (O.held sink.old) (concat (rules_lines rules.now))) }
     ensures faults_monotone { O.faults sink.old ≤ O.faults sink.new }
     ensures fault { OnErr result (Rose (O.faults sink.old) (O.faults sink.new)) }
 {
     let mut block = [0; BLOCK];
     let mut filled = 0;
-    for i in 0..text.count() {
+    for i in 0..rules.lines() {
         let start = make_room(sink, &block, filled)?;
-        filled = start + write_front(text, i, &mut block[start..]);
+        filled = start + write_front(rules, i, &mut block[start..]);
     }
     put_all(sink, &block[..filled])
 }
 
 /// Writes line `i` to the front of the room, and returns its length.
-fn write_front<T: Lines>(text: &T, i: u32, room: &mut [u8]) -> usize
-    requires there { i < length (T.lines_of text.now) }
+fn write_front(rules: &Rules, i: u32, room: &mut [u8]) -> usize
+    requires there { i < length (rules_lines rules.now) }
     requires fits { 320 ≤ length room.old }
-    ensures line { slice_get (T.lines_of text.now) i ≡ Some (take result room.new) }
+    ensures line { slice_get (rules_lines rules.now) i ≡ Some (take result room.new) }
     ensures short { result ≤ 320 }
 {
     let Some(front) = room.first_chunk_mut::<LINE>() else {
         unreachable!()
     };
-    text.write(i, front)
+    rules.write_line(i, front)
 }
 
 /// Writes the block if its free room may be too small for a line, and returns its filled length.

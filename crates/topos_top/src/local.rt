@@ -14,6 +14,7 @@ ghost use Rattle.topos_top.specs.Shelf.{shelf_change};
 ghost use Rattle.topos_top.specs.inner.Views.{reply_view, reply_in};
 
 use crate::answer::Answer;
+use crate::dialect::Rules;
 use crate::flow_policy::policy_between;
 use crate::listed::listed_offences;
 use crate::reading::read_description;
@@ -84,7 +85,7 @@ fn specific_machines<'a>(
 {
     let policy = policy_of(alloc, description)?;
     let rules = local_rules(alloc, &policy_between(description, &policy), number)?;
-    Ok(Answer::done(Text::Rules(rules)))
+    Ok(Answer::done(Text::Rules(Rules::Chains(rules))))
 }
 
 /// Returns the line that reports that no host has that name.

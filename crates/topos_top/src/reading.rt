@@ -6,16 +6,14 @@ ghost use Rattle.topos_top.specs.Shelf.{shelf_change};
 ghost use Rattle.topos_top.specs.inner.Views.{outcome_view, items_view, rules_outcome, session_view, edits_view};
 
 use crate::answer::Answer;
-use crate::dialect::{Dialect, Rules};
+use crate::dialect::{Dialect, Rules, RulesFault};
 use crate::kind::Kind;
 use crate::status::Status;
 use crate::text::Text;
-use crate::text_fault::{flows_reason, list_reason, rules_reason};
+use crate::text_fault::list_reason;
 use desc_core::{Description, describe, migrate};
 use edge_io::{Shelf, TakeFault, take_all};
 use edit_core::{Edit, EditsFault, Session};
-use ipt_read::IptFault;
-use ofp_read::OfpFault;
 use pkt_core::{Event, EventFault};
 use std::alloc::Global;
 
@@ -42,25 +40,10 @@ pub fn read_rules<'a, H: Shelf>(
     ensures { MayReadRules dialect name.now (shelf_change H.Shelf shelf.old shelf.new) (rules_outcome result) }
 {
     let bytes = take(alloc, Kind::Rules(dialect), name, shelf)?;
-    match dialect {
-        Dialect::Iptables => match ipt_read::read(alloc, &bytes) {
-            Ok(chains) => Ok(Rules::Chains(chains)),
-            Err(IptFault::Refused { line, why }) => Err(Answer::bad_text(
-                b"rules",
-                line,
-                rules_reason(why),
-            )),
-            Err(IptFault::Memory) => Err(Answer::no_memory()),
-        },
-        Dialect::OpenFlow => match ofp_read::read(alloc, &bytes) {
-            Ok(table) => Ok(Rules::Table(table)),
-            Err(OfpFault::Refused { line, why }) => Err(Answer::bad_text(
-                b"rules",
-                line,
-                flows_reason(why),
-            )),
-            Err(OfpFault::Memory) => Err(Answer::no_memory()),
-        },
+    match dialect.read(alloc, &bytes) {
+        Ok(rules) => Ok(rules),
+        Err(RulesFault::Refused(line, reason)) => Err(Answer::bad_text(b"rules", line, reason)),
+        Err(RulesFault::Memory) => Err(Answer::no_memory()),
     }
 }
 

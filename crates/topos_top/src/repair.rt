@@ -1,4 +1,4 @@
-//! `repair iptables|openflow FILE`: the rules of the permitted policy, whether or not a policy was
+//! `repair DIALECT FILE`: the rules of the permitted policy, whether or not a policy was
 //! listed.
 
 ghost use Rattle.std.specs.Prelude.{false};

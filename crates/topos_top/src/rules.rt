@@ -1,4 +1,4 @@
-//! `rules iptables|openflow FILE`: the rules of the permitted policy, unless the policy was listed
+//! `rules DIALECT FILE`: the rules of the permitted policy, unless the policy was listed
 //! and violates an invariant.
 
 ghost use Rattle.std.specs.Prelude.{IfOk, false};
@@ -17,7 +17,6 @@ use crate::listed::listed_offences;
 use crate::reading::read_description;
 use crate::status::Status;
 use crate::text::Text;
-use crate::{chains, flows};
 use desc_core::Description;
 use edge_io::Shelf;
 use net_core::policy_of;
@@ -60,8 +59,5 @@ pub fn policy_rules<'a>(
     ensures { IfOk result (λ answer. Answers false (repair_outcomes dialect description.now) (reply_view answer)) }
 {
     let policy = policy_of(alloc, description)?;
-    match dialect {
-        Dialect::Iptables => chains::answer(alloc, description, &policy),
-        Dialect::OpenFlow => flows::answer(alloc, description, &policy),
-    }
+    dialect.emit(alloc, description, &policy)
 }

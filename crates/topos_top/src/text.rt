@@ -8,13 +8,12 @@ ghost use Rattle.report_core.specs.RefusalLine.{refusal_text};
 ghost use Rattle.topos_top.specs.TextFault.{fault_line, edit_fault_line};
 ghost use Rattle.topos_top.specs.inner.Views.{text_view};
 
+use crate::dialect::Rules;
 use crate::lines::put_lines;
 use crate::text_fault::edit_reason;
 use desc_core::Refusal;
 use edge_io::{Sink, WriteFault, put_all, put_pieces};
 use edit_core::EditWhy;
-use ipt_rules::Ruleset;
-use ofp_rules::Table;
 use report_core::{Report, refusal_line};
 
 /// The text for a stream.
@@ -35,10 +34,8 @@ pub enum Text<'a> {
     Fixed(&'static [u8]),
     /// A text that is already formatted.
     Bytes(Vec<u8>),
-    /// The chains of iptables, which are formatted line by line.
-    Rules(Ruleset),
-    /// The flow table of OpenFlow, which is formatted line by line.
-    Table(Table),
+    /// Rules, which are formatted line by line.
+    Rules(Rules),
 }
 
 impl<'a> Text<'a> {
@@ -61,7 +58,6 @@ impl<'a> Text<'a> {
             Text::Report(report) => put_all(sink, report.bytes()),
             Text::Bytes(bytes) => put_all(sink, bytes),
             Text::Rules(rules) => put_lines(sink, rules),
-            Text::Table(table) => put_lines(sink, table),
         }
     }
 }

@@ -1,8 +1,7 @@
-//! `trace iptables|openflow RULES EVENTS`: the result of each event.
+//! `trace DIALECT RULES EVENTS`: the result of each event.
 
 ghost use Rattle.std.specs.Prelude.{IfOk, false};
 ghost use Rattle.audit_core.specs.Rules.{filter_of};
-ghost use Rattle.report_core.specs.Trace.{IsTrace};
 ghost use Rattle.topos_top.specs.Command.{Trace};
 ghost use Rattle.topos_top.specs.Commands.{plan_of};
 ghost use Rattle.topos_top.specs.CommandPlan.{reads, ends};
@@ -19,7 +18,6 @@ use crate::reading::{read_events, read_rules};
 use crate::text::Text;
 use edge_io::Shelf;
 use pkt_core::Event;
-use report_core::{trace_rules, trace_table};
 use std::alloc::{AllocError, Global};
 
 /// Returns the reply for the files of those names.
@@ -55,16 +53,6 @@ fn reply_for<'a, H: Shelf>(
 fn answer<'a>(alloc: Global, rules: &Rules, events: &[Event]) -> Result<Answer<'a>, AllocError>
     ensures { IfOk result (λ answer. Answers false (trace_outcomes (filter_of (rules_view rules.now)) events.now) (reply_view answer)) }
 {
-    let text = trace_text(alloc, rules, events)?;
+    let text = rules.trace(alloc, events)?;
     Ok(Answer::done(Text::Bytes(text)))
-}
-
-/// Returns the result of the rules for each event, one line per event.
-fn trace_text(alloc: Global, rules: &Rules, events: &[Event]) -> Result<Vec<u8>, AllocError>
-    ensures { IfOk result (λ text. IsTrace (filter_of (rules_view rules.now)) events.now text.items) }
-{
-    match rules {
-        Rules::Chains(chains) => trace_rules(alloc, chains, events),
-        Rules::Table(table) => trace_table(alloc, table, events),
-    }
 }

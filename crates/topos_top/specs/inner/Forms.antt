@@ -1,9 +1,9 @@
 -- Command forms over any type of commands, and the command that a list of forms parses. No promise of `run` depends on it.
-use Rattle.std.specs.Prelude.{ℕ, List, [], ◌∷◌, Option, None, Some, option_map, codes, if◌then◌else◌}
+use Rattle.std.specs.Prelude.{ℕ, List, [], ◌∷◌, Option, None, Some, option_map, find, if◌then◌else◌}
 use Rattle.std.specs.Option.{option_and_then}
 use Rattle.std.specs.Str.{bytes_eq}
+use Rattle.topos_top.specs.Dialects.{dialects, rule_dialect_of}
 use Rattle.topos_top.specs.declared.dialect.Dialect.{Dialect}
-use Rattle.topos_top.specs.declared.dialect.Dialect.TheVariants.{Iptables, OpenFlow}
 
 -- The single argument, if there is exactly one.
 abbrev pub one_word : List (List ℕ) → Option (List ℕ)
@@ -30,9 +30,9 @@ abbrev pub among : {C : Type 0} → List (Form C) → (word : List ℕ) → (res
 among [] word rest = None
 among (form ∷ forms) word rest = if bytes_eq word form.word then form.asks rest else among forms word rest
 
--- The dialects by their names on the command line.
+-- The dialect with this name on the command line.
 abbrev pub dialect_named : (word : List ℕ) → Option Dialect
-dialect_named word = if bytes_eq word (codes "iptables") then Some Iptables else if bytes_eq word (codes "openflow") then Some OpenFlow else None
+dialect_named word = find (λ dialect. bytes_eq word (rule_dialect_of dialect).word) dialects
 
 -- The command for one file.
 abbrev pub of_file : {C : Type 0} → (List ℕ → C) → List (List ℕ) → Option C

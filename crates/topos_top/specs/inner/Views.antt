@@ -1,5 +1,6 @@
 -- The models of the code's commands and replies. No promise of `run` depends on it.
 use Rattle.std.specs.Prelude.{◌≤◌, ℕ, List, Result, Ok, Err, map}
+use Rattle.std.specs.List.{concat}
 use Rattle.std.specs.Result.{result_map_both}
 use Rattle.std.specs.Global.{Global}
 use Rattle.std.specs.declared.vec.Vec.{Vec}
@@ -11,8 +12,8 @@ use Rattle.edit_core.specs.Edit as meant
 use Rattle.edit_core.specs.inner.EditView.{edit_view}
 use Rattle.edit_core.specs.declared.edit.Edit.{Edit as CodeEdit}
 use Rattle.host_net.specs.Limits.{host_limit}
-use Rattle.ipt_rules.specs.Text.{text as rules_text}
-use Rattle.ofp_rules.specs.Text.{text as table_text}
+use Rattle.ipt_rules.specs.Text.{text_lines as chains_lines}
+use Rattle.ofp_rules.specs.Text.{text_lines as table_lines}
 use Rattle.report_core.specs.RefusalLine.{refusal_text}
 use Rattle.toml.specs.Data.{Members}
 use Rattle.toml.specs.declared.value.Value.{Value}
@@ -47,6 +48,16 @@ abbrev pub IsWithinHosts : Command → Type 0
 IsWithinHosts (Sample hosts) = hosts ≤ host_limit
 IsWithinHosts _ = Unit {0}
 
+-- Parsed rules, in the form of an audit.
+abbrev pub rules_view : CodeRules → AuditedRules
+rules_view (rules.Chains chains) = Chains chains
+rules_view (rules.Table table) = Entries table
+
+-- The lines of the text of rules.
+abbrev pub rules_lines : CodeRules → List (List ℕ)
+rules_lines (rules.Chains chains) = chains_lines chains
+rules_lines (rules.Table table) = table_lines table
+
 -- The bytes of a text.
 abbrev pub text_view : Text → List ℕ
 text_view (text.Fixed bytes) = bytes.now
@@ -56,8 +67,7 @@ text_view (text.Fault of line reason) = fault_line of.now line reason.now
 text_view (text.RefusedEdit line why) = edit_fault_line line why
 text_view (text.Report report) = report
 text_view (text.Bytes bytes) = bytes.items
-text_view (text.Rules rules) = rules_text rules
-text_view (text.Table table) = table_text table
+text_view (text.Rules rules) = concat (rules_lines rules)
 
 abbrev pub reply_on : Status → Stream → (text : List ℕ) → Reply
 reply_on ended stream text = record { status = ended; stream = stream; text = text }
@@ -83,11 +93,7 @@ outcome_view outcome = result_map_both (λ x. x) reply_view outcome
 abbrev pub items_view : {A : Type 0} → Result (Vec A Global) Answer → Result (List A) Reply
 items_view outcome = result_map_both (λ xs. xs.items) reply_view outcome
 
--- Parsed rules, in the form of an audit.
-abbrev pub rules_view : CodeRules → AuditedRules
-rules_view (rules.Chains chains) = Chains chains
-rules_view (rules.Table table) = Entries table
-
+-- The result of reading a file of rules, in the form of an audit.
 abbrev pub rules_outcome : Result CodeRules Answer → Result AuditedRules Reply
 rules_outcome outcome = result_map_both rules_view reply_view outcome
 

@@ -1,6 +1,7 @@
 use Rattle.std.proofs.Common.{inl, true}
 use Rattle.std.proofs.lemmas.Result.{err_from_is_err_and}
-use Rattle.topos_top.specs.Audit.{audit_outcomes, rules_in}
+use Rattle.topos_top.specs.Audit.{audit_outcomes}
+use Rattle.topos_top.specs.Dialects.{rule_dialect_of}
 use Rattle.topos_top.specs.CommandPlan.{reads, ends}
 use Rattle.topos_top.specs.inner.Views.{reply_in}
 use Rattle.topos_top.specs.declared.kind.Kind.TheVariants.{Description, Rules}
@@ -14,5 +15,5 @@ returns-in_err-description g c =
 
 pub returns : goal.returns
 returns g c =
-    went_on true Description c.args.file.now (λ x. reads (Rules c.args.dialect) c.args.rules.now (λ said. ends (audit_outcomes x (rules_in c.args.dialect said)))) _ _ _
+    went_on true Description c.args.file.now (λ x. reads (Rules c.args.dialect) c.args.rules.now (λ said. ends (audit_outcomes x ((rule_dialect_of c.args.dialect).audited said)))) _ _ _
     c.in_ok-description.description (reply_in c.reply_for.result) c.in_ok-description.ensures c.reply_for.ensures

@@ -1,15 +1,16 @@
 use Rattle.std.proofs.Common.{◌+◌, ◌-◌, take, arith}
+use Rattle.topos_top.specs.inner.Views.{rules_lines}
 use Rattle.topos_top.proofs.PutBlocks.{sofar_as, sofar_room, sofar_line, written_behind, cut_in_block}
 use borrow.Rule.Slice.PartMut.{mid_len}
 use Rattle.topos_top.proofs.lines.put_lines.Goals as goal
 
 pub returns-in_err-start-clause-prefix : goal.returns-in_err-start-clause-prefix
 returns-in_err-start-clause-prefix g c =
-    cut_in_block _ _ _ (g.T.Lines.lines_of c.args.text.now) c.loop-i.i (take c.loop-i.filled c.loop-i.block) c.loop-i.invariant.sofar c.in_err-start.ensures.prefix
+    cut_in_block _ _ _ (rules_lines c.args.rules.now) c.loop-i.i (take c.loop-i.filled c.loop-i.block) c.loop-i.invariant.sofar c.in_err-start.ensures.prefix
 
 pub loop-i-preserved : goal.loop-i-preserved
 loop-i-preserved g c =
-    let lines = g.T.Lines.lines_of c.args.text.now in
+    let lines = rules_lines c.args.rules.now in
     let start = c.in_ok-start.start in
     let new = c.write_front.new.room in
     let room = sofar_room _ _ _ lines c.loop-i.i (take c.loop-i.filled c.loop-i.block) (take start c.loop-i.block) c.loop-i.invariant.sofar c.in_ok-start.ensures.left in
@@ -23,4 +24,4 @@ loop-i-preserved g c =
 
 pub returns-clause-prefix : goal.returns-clause-prefix
 returns-clause-prefix g c =
-    cut_in_block _ _ _ (g.T.Lines.lines_of c.args.text.now) c.loop-i.i (take c.loop-i.filled c.loop-i.block) c.loop-i.invariant.sofar c.put_all.ensures.prefix
+    cut_in_block _ _ _ (rules_lines c.args.rules.now) c.loop-i.i (take c.loop-i.filled c.loop-i.block) c.loop-i.invariant.sofar c.put_all.ensures.prefix

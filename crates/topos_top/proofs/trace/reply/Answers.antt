@@ -10,8 +10,8 @@ use Rattle.topos_top.specs.Shelf.{ShelfChange}
 use Rattle.topos_top.specs.Trace.{trace_outcomes}
 use Rattle.topos_top.specs.inner.Views.{reply_in}
 use Rattle.topos_top.specs.declared.kind.Kind.TheVariants.{Events, Rules}
-use Rattle.topos_top.proofs.AuditLaws.{filter_in}
 use Rattle.topos_top.proofs.CommandPlanLaws.{went_on}
+use Rattle.topos_top.proofs.DialectLaws.{laws_of}
 use Rattle.topos_top.proofs.trace.reply.Goals as goal
 
 by_filter : (f g : Filter) (file : List ℕ) (shelf : ShelfChange) (given : Reply) → f ≡ g → IsPossibleReply false (reads Events file (λ es. ends (trace_outcomes f es))) shelf given
@@ -28,4 +28,4 @@ returns g c =
     let rules = c.in_ok-rules.ensures in
     went_on false (Rules c.args.dialect) c.args.rules.now (λ said. reads Events c.args.events.now (λ es. ends (trace_outcomes ((rule_dialect_of c.args.dialect).filter said) es))) _ _ _
     rules.said (reply_in c.reply_for.result) rules.read
-    (by_filter _ _ _ _ _ (ap filter_of rules.told ∙ filter_in c.args.dialect rules.said) c.reply_for.ensures)
+    (by_filter _ _ _ _ _ (ap filter_of rules.told ∙ (laws_of c.args.dialect).audited_filter rules.said) c.reply_for.ensures)
