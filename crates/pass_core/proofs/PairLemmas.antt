@@ -1,9 +1,10 @@
 -- Services by pair: lists, sources, and equivalent questions.
-use Rattle.std.proofs.Common.{◌≡◌, ◌⊎◌, ◌↔◌, inl, inr, ℕ, zero, suc, ◌+◌, ◌<◌, ◌≤◌, Bool, true, false, IsTrue, List, [], ◌∷◌, ◌++◌, map, take, length, get_or, Option, Some, None, is_some, refl, sym, ap, subst, ◌∙◌, arith, append_assoc, append-nil, true≢false, if◌then◌else◌}
+use Rattle.std.proofs.Common.{◌≡◌, ◌↔◌, inl, inr, ℕ, zero, suc, ◌+◌, ◌<◌, ◌≤◌, Bool, true, false, IsTrue, List, [], ◌∷◌, ◌++◌, map, take, length, get_or, Option, Some, None, is_some, refl, sym, ap, subst, ◌∙◌, arith, append_assoc, append-nil, true≢false, if◌then◌else◌}
 use Rattle.std.specs.Prelude.{IfSome}
 use Rattle.std.specs.Bool.{Decides}
 use Rattle.std.specs.List.{All}
 use Rattle.std.proofs.lemmas.List.{take_all, take_more}
+use Rattle.std.proofs.lemmas.Option.{IfSome_then}
 use Rattle.std.proofs.lemmas.List.Elements.{All-head, All-nil, All-push, All-tail, All-weaker}
 use Rattle.host_net.specs.declared.packet.Packet.{Packet}
 use Rattle.host_net.specs.Packet.{IsPacket}
@@ -14,7 +15,8 @@ use Rattle.pass_core.specs.declared.pairs.PairServices.{PairServices}
 use Rattle.pass_core.specs.declared.passing_range.PassingRange.{PassingRange}
 use Rattle.host_net.specs.Host.{Host}
 use Rattle.header_space.specs.Owners.{AreOwned, GoesBetween, IsOfPair, IsOwned, IsRange, LiesIn, LiesInOne, owners_of}
-use Rattle.header_space.proofs.OwnersLaws.{covered_owned}
+use Rattle.header_space.proofs.OwnersLaws.{covered_cases, covered_left, covered_only, covered_owned, covered_right}
+use Rattle.audit_core.proofs.NamedLemmas.{take_at}
 use Rattle.pass_core.specs.Pairs.{AreListed, AreListedByOwners, AreListedFor, AreListedFrom, IsListedFor}
 use Rattle.pass_core.specs.Passing.{ArePassing, IsExampleOf, IsOfService, IsShown}
 use Rattle.pass_core.specs.Services.{service_count, service_of}
@@ -45,8 +47,7 @@ module _ (Holds Others Between Among : Packet → Type 0) (between : (p : Packet
 
   examples_alike : (r : PassingRange) (o : Option Packet) → IfSome o (λ p. IsExampleOf Holds Between r false p)
       → IfSome o (λ p. IsExampleOf Others Among r false p)
-  examples_alike r None is = tt
-  examples_alike r (Some p) is = example_alike r false p is
+  examples_alike r o is = IfSome_then o is (λ p example. example_alike r false p example)
 
   shown_alike : (r : PassingRange) → IsShown Holds Between r → IsShown Others Among r
   shown_alike r is = record {
@@ -107,20 +108,10 @@ listed_push Listed (y ∷ ys) x ss one are listed = (
   listed_push Listed ys x are.1 one are.4 listed,
 )
 
--- An element at a valid index does not depend on the default.
-pub at_self : {A : Type 0} (xs : List A) (i : ℕ) (d e : A) → i < length xs → get_or xs i d ≡ get_or xs i e
-at_self [] i d e within = absurd (omega (arith, within))
-at_self (x ∷ xs) zero d e within = refl
-at_self (x ∷ xs) (suc i) d e within = at_self xs i d e (omega (arith, within))
-
--- A prefix grows by one element.
-more_at : {A : Type 0} (xs : List A) (i : ℕ) (x : A) → i < length xs → x ≡ get_or xs i x → take (i + 1) xs ≡ take i xs ++ x ∷ []
-more_at xs i x within read = take_more xs i x within ∙ ap (λ y. take i xs ++ y ∷ []) (sym read)
-
 pub listed_step : {A : Type 0} (Listed : A → List PairServices → Type 0) (xs : List A) (i : ℕ) (x : A) (old new : List PairServices) → i < length xs
     → x ≡ get_or xs i x → AreListedFor Listed (take i xs) old → IsAdded (Listed x) old new → AreListedFor Listed (take (i + 1) xs) new
 listed_step Listed xs i x old new within read are added =
-    subst (λ l. AreListedFor Listed l new) (sym (more_at xs i x within read))
+    subst (λ l. AreListedFor Listed l new) (sym (take_at xs i x within read))
     (subst (λ (ss : List PairServices). AreListedFor Listed (take i xs ++ x ∷ []) ss) (sym added.1) (listed_push Listed (take i xs) x old added.0 are added.2))
 
 pub added_step : {A : Type 0} (Listed : A → List PairServices → Type 0) (xs : List A) (i : ℕ) (x : A) (old mid new : List PairServices) → i < length xs
@@ -167,33 +158,18 @@ from_part Holds Part owned from old new agree added = (
 
 -- ---- addresses in ranges
 
-lies_first : (xs ys : List AddressRange) (a : ℕ) → LiesInOne xs a → LiesInOne (xs ++ ys) a
-lies_first [] ys a there = absurd there
-lies_first (x ∷ xs) ys a there = elim there [ inl here ↦ inl here | inr later ↦ inr (lies_first xs ys a later) ]
+in_at : (areas : List Area) (i : ℕ) (d : Area) (p : Packet) → i < length areas → IsInArea (get_or areas i d) p → IsInOne areas p
+in_at [] i d p within here = absurd (omega (arith, within))
+in_at (x ∷ areas) zero d p within here = inl here
+in_at (x ∷ areas) (suc i) d p within here = inr (in_at areas i d p (omega (arith, within)) here)
 
-lies_last : (xs : List AddressRange) (x : AddressRange) (a : ℕ) → LiesIn x a → LiesInOne (xs ++ x ∷ []) a
-lies_last [] x a here = inl here
-lies_last (y ∷ xs) x a here = inr (lies_last xs x a here)
-
-lies_either : (xs : List AddressRange) (x : AddressRange) (a : ℕ) → LiesInOne (xs ++ x ∷ []) a → LiesInOne xs a ⊎ LiesIn x a
-lies_either [] x a there = elim there [ inl here ↦ inr here | inr none ↦ absurd none ]
-lies_either (y ∷ xs) x a there = elim there [
-  | inl here ↦ inl (inl here)
-  | inr later ↦ elim (lies_either xs x a later) [ inl first ↦ inl (inr first) | inr last ↦ inr last ]
-]
-
-in_at : (areas : List Area) (i : ℕ) (a : Area) (p : Packet) → i < length areas → a ≡ get_or areas i a → IsInArea a p → IsInOne areas p
-in_at [] i a p within read here = absurd (omega (arith, within))
-in_at (x ∷ areas) zero a p within read here = inl (subst (λ (y : Area). IsInArea y p) read here)
-in_at (x ∷ areas) (suc i) a p within read here = inr (in_at areas i a p (omega (arith, within)) read here)
-
-pub hull_step : (ranges : List AddressRange) (i : ℕ) (r old new : AddressRange) → i < length ranges → r ≡ get_or ranges i r
-    → ((a : ℕ) → LiesInOne (take i ranges) a → LiesIn old a) → ((a : ℕ) → LiesIn old a → LiesIn new a) → ((a : ℕ) → LiesIn r a → LiesIn new a)
-    → (a : ℕ) → LiesInOne (take (i + 1) ranges) a → LiesIn new a
-hull_step ranges i r old new within read before left right a there =
-    elim (lies_either (take i ranges) r a (subst (λ (l : List AddressRange). LiesInOne l a) (more_at ranges i r within read) there)) [
+pub hull_step : (ranges : List AddressRange) (i : ℕ) (d old new : AddressRange) → i < length ranges
+    → ((a : ℕ) → LiesInOne (take i ranges) a → LiesIn old a) → ((a : ℕ) → LiesIn old a → LiesIn new a)
+    → ((a : ℕ) → LiesIn (get_or ranges i d) a → LiesIn new a) → (a : ℕ) → LiesInOne (take (i + 1) ranges) a → LiesIn new a
+hull_step ranges i d old new within before left right a there =
+    elim (covered_cases (take i ranges) (get_or ranges i d ∷ []) a (subst (λ (l : List AddressRange). LiesInOne l a) (take_more ranges i d within) there)) [
       | inl first ↦ left a (before a first)
-      | inr last ↦ right a last
+      | inr last ↦ right a (covered_only (get_or ranges i d) a last)
     ]
 
 -- The question restricted to the packets of an owner.
@@ -212,37 +188,7 @@ part_agrees {Q = Q} HoldsOf q t found ranges given range every b some agree same
 
 pub no_sources : (Holds : Packet → Type 0) (sources : List AddressRange) → sources ≡ [] → AreSources Holds [] sources
 no_sources Holds sources none =
-    subst (λ (l : List AddressRange). AreSources Holds [] l) (sym none)
-    (record { each = All-nil IsRange; within = λ a there. there; covered = λ p is there held. there })
-
-module _ (Holds : Packet → Type 0) (ranges : List AddressRange) (r : AddressRange) (old new : List AddressRange) (range : IsRange r)
-    (are : AreSources Holds ranges old) where
-  wanted_source : new ≡ old ++ r ∷ [] → AreSources Holds (ranges ++ r ∷ []) new
-  wanted_source same =
-      subst (λ (l : List AddressRange). AreSources Holds (ranges ++ r ∷ []) l) (sym same)
-      (record {
-        each = All-push IsRange old r are.each range;
-        within = λ a there. elim (lies_either old r a there) [
-          | inl first ↦ lies_first ranges (r ∷ []) a (are.within a first)
-          | inr last ↦ lies_last ranges r a last
-        ];
-        covered = λ p is there held. elim (lies_either ranges r p.src there) [
-          | inl first ↦ lies_first old (r ∷ []) p.src (are.covered p is first held)
-          | inr last ↦ lies_last old r p.src last
-        ];
-      })
-
-  other_source : new ≡ old ++ [] → ((p : Packet) → IsPacket p → LiesIn r p.src → Holds p → ⊥) → AreSources Holds (ranges ++ r ∷ []) new
-  other_source same none =
-      subst (λ (l : List AddressRange). AreSources Holds (ranges ++ r ∷ []) l) (sym (same ∙ append-nil old))
-      (record {
-        each = are.each;
-        within = λ a there. lies_first ranges (r ∷ []) a (are.within a there);
-        covered = λ p is there held. elim (lies_either ranges r p.src there) [
-          | inl first ↦ are.covered p is first held
-          | inr last ↦ absurd (none p is last held)
-        ];
-      })
+    subst (AreSources Holds []) (sym none) (record { each = All-nil IsRange; within = λ a there. there; covered = λ p is there held. there })
 
 in_range : (r : AddressRange) (p : Packet) → IsPacket p → LiesIn r p.src → IsPacketIn (record { from = r; to = every_address }) p
 in_range r p is src = record { packet = is; inside = (src, (omega arith, let small = is.1 in omega (arith, small))) }
@@ -250,18 +196,38 @@ in_range r p is src = record { packet = is; inside = (src, (omega arith, let sma
 source_if : (Holds : Packet → Type 0) (ranges : List AddressRange) (r : AddressRange) (old new : List AddressRange) (wanted : Bool) → IsRange r
     → AreSources Holds ranges old → (IsTrue wanted ↔ PassesSome Holds (IsPacketIn (record { from = r; to = every_address })))
     → new ≡ old ++ (if wanted then r ∷ [] else []) → AreSources Holds (ranges ++ r ∷ []) new
-source_if Holds ranges r old new true range are some same = wanted_source Holds ranges r old new range are same
+source_if Holds ranges r old new true range are some same =
+    subst (AreSources Holds (ranges ++ r ∷ [])) (sym same)
+    (record {
+      each = All-push IsRange old r are.each range;
+      within = λ a there. elim (covered_cases old (r ∷ []) a there) [
+        | inl first ↦ covered_left ranges (r ∷ []) a (are.within a first)
+        | inr last ↦ covered_right ranges (r ∷ []) a last
+      ];
+      covered = λ p is there held. elim (covered_cases ranges (r ∷ []) p.src there) [
+        | inl first ↦ covered_left old (r ∷ []) p.src (are.covered p is first held)
+        | inr last ↦ covered_right old (r ∷ []) p.src last
+      ];
+    })
 source_if Holds ranges r old new false range are some same =
-    other_source Holds ranges r old new range are same (λ p is src held. true≢false (sym (some.1 (p, in_range r p is src, held))))
+    subst (AreSources Holds (ranges ++ r ∷ [])) (sym (same ∙ append-nil old))
+    (record {
+      each = are.each;
+      within = λ a there. covered_left ranges (r ∷ []) a (are.within a there);
+      covered = λ p is there held. elim (covered_cases ranges (r ∷ []) p.src there) [
+        | inl first ↦ are.covered p is first held
+        | inr last ↦ absurd (true≢false (sym (some.1 (p, in_range r p is (covered_only r p.src last), held))))
+      ];
+    })
 
-pub source_step : (Holds : Packet → Type 0) (ranges : List AddressRange) (i : ℕ) (r : AddressRange) (every : AddressRange) (old new : List AddressRange)
-    (wanted : Bool) → i < length ranges → r ≡ get_or ranges i r → every ≡ every_address → All IsRange ranges → AreSources Holds (take i ranges) old
-    → (IsTrue wanted ↔ PassesSome Holds (IsPacketIn (record { from = r; to = every })))
-    → new ≡ old ++ (if wanted then r ∷ [] else []) → AreSources Holds (take (i + 1) ranges) new
-source_step Holds ranges i r every old new wanted within read all each are some same =
-    subst (λ (l : List AddressRange). AreSources Holds l new) (sym (more_at ranges i r within read))
-    (source_if Holds (take i ranges) r old new wanted (subst IsRange (sym read) (each i r within)) are
-    (subst (λ (e : AddressRange). IsTrue wanted ↔ PassesSome Holds (IsPacketIn (record { from = r; to = e }))) all some) same)
+pub source_step : (Holds : Packet → Type 0) (ranges : List AddressRange) (i : ℕ) (d every : AddressRange) (old new : List AddressRange) (wanted : Bool)
+    → i < length ranges → every ≡ every_address → All IsRange ranges → AreSources Holds (take i ranges) old
+    → (IsTrue wanted ↔ PassesSome Holds (IsPacketIn (record { from = get_or ranges i d; to = every })))
+    → new ≡ old ++ (if wanted then get_or ranges i d ∷ [] else []) → AreSources Holds (take (i + 1) ranges) new
+source_step Holds ranges i d every old new wanted within all each are some same =
+    subst (λ (l : List AddressRange). AreSources Holds l new) (sym (take_more ranges i d within))
+    (source_if Holds (take i ranges) (get_or ranges i d) old new wanted (each i d within) are
+    (subst (λ (e : AddressRange). IsTrue wanted ↔ PassesSome Holds (IsPacketIn (record { from = get_or ranges i d; to = e }))) all some) same)
 
 -- ---- whether some packet passes
 
@@ -278,34 +244,28 @@ found_in Holds area b (Some q) some same inside packets least = (
   λ pass. same,
 )
 
-module _ (Holds : Packet → Type 0) (areas : List Area) (i : ℕ) (a : Area) (some : Bool) (within : i < length areas) (read : a ≡ get_or areas i a)
-    (passes : IsTrue some ↔ PassesSome Holds (IsPacketIn a)) where
-  in_more : (p : Packet) → IsInOne (take (i + 1) areas) p → IsInOne (take i areas) p ⊎ IsInArea a p
-  in_more p there =
-      elim (in_either (take i areas) (a ∷ []) p (subst (λ (l : List Area). IsInOne l p) (more_at areas i a within read) there)) [
-        | inl first ↦ inl first
-        | inr last ↦ elim (in_one p last) [ inl here ↦ inr here | inr none ↦ absurd none ]
-      ]
-    where
-      in_one : (p : Packet) → IsInOne (a ∷ []) p → IsInArea a p ⊎ IsInOne [] p
-      in_one p there = there
-
+module _ (Holds : Packet → Type 0) (areas : List Area) (i : ℕ) (d : Area) (some : Bool) (within : i < length areas)
+    (passes : IsTrue some ↔ PassesSome Holds (IsPacketIn (get_or areas i d))) where
   pub none_step : some ≡ false → ((p : Packet) → IsPacket p → IsInOne (take i areas) p → Holds p → ⊥)
       → (p : Packet) → IsPacket p → IsInOne (take (i + 1) areas) p → Holds p → ⊥
-  none_step off none p is there held = elim (in_more p there) [
-    | inl first ↦ none p is first held
-    | inr here ↦ true≢false (sym (passes.1 (p, record { packet = is; inside = here }, held)) ∙ off)
-  ]
+  none_step off none p is there held =
+      elim (in_either (take i areas) (get_or areas i d ∷ []) p (subst (λ (l : List Area). IsInOne l p) (take_more areas i d within) there)) [
+        | inl first ↦ none p is first held
+        | inr last ↦ elim last [
+          | inl here ↦ true≢false (sym (passes.1 (p, record { packet = is; inside = here }, held)) ∙ off)
+          | inr other ↦ other
+        ]
+      ]
 
   pub some_at : (from to : List AddressRange) → areas ≡ areas_between from to → some ≡ true → PassesSome Holds (GoesBetween from to)
   some_at from to same on =
       let found = passes.0 on in
-      (found.0, goes_between from to areas found.0 same found.1.packet (in_at areas i a found.0 within read found.1.inside), found.2)
+      (found.0, goes_between from to areas found.0 same found.1.packet (in_at areas i d found.0 within found.1.inside), found.2)
 
-pub area_at : (from to : List AddressRange) (areas : List Area) (i : ℕ) (a : Area) → areas ≡ areas_between from to → i < length areas → a ≡ get_or areas i a
-    → All IsRange from → All IsRange to → IsArea a
-area_at from to areas i a same within read sources targets =
-    subst IsArea (sym read) (subst (λ (l : List Area). All IsArea l) (sym same) (all_areas from to sources targets) i a within)
+pub area_at : (from to : List AddressRange) (areas : List Area) (i : ℕ) (d : Area) → areas ≡ areas_between from to → i < length areas
+    → All IsRange from → All IsRange to → IsArea (get_or areas i d)
+area_at from to areas i d same within sources targets =
+    subst (λ (l : List Area). All IsArea l) (sym same) (all_areas from to sources targets) i d within
 
 pub none_between : (Holds : Packet → Type 0) (from to : List AddressRange) (areas : List Area) (i : ℕ) (some : Bool) → areas ≡ areas_between from to
     → length areas ≤ i → some ≡ false → ((p : Packet) → IsPacket p → IsInOne (take i areas) p → Holds p → ⊥)

@@ -4,6 +4,7 @@ use Rattle.std.specs.Prelude.{IfSome}
 use Rattle.std.specs.Bool.{Decides}
 use Rattle.std.specs.List.{All}
 use Rattle.std.proofs.lemmas.Bool.Decides.{not_from_Decides}
+use Rattle.std.proofs.lemmas.Option.{IfSome_then}
 use Rattle.host_net.specs.declared.packet.Packet.{Packet}
 use Rattle.host_net.specs.Packet.{IsPacket}
 use Rattle.header_space.specs.declared.packet_box.PacketBox.{PacketBox}
@@ -104,8 +105,6 @@ module _ (Holds : Packet → Type 0) (within part : PacketBox) (s : Survey) (end
   pub answer_known : (q : Packet) → IsIn part q → IsKnown Holds (noted (up_to s last) passes within.least) q
   answer_known = known_noted Holds part s last passes within.least all_alike
 
--- ---- a packet of another service
-
 -- ---- one area after another
 
 there_known : (Holds : Packet → Type 0) (s : Survey) (p : Packet) → IsRecorded Holds s p → HasFound s
@@ -113,13 +112,12 @@ there_known Holds s p recorded = elim recorded [ inl passes ↦ inl passes.1 | i
 
 fewer_found : (Holds : Packet → Type 0) (areas : List Area) (first last less : ℕ) (passes : Bool) (o : Option Packet) → less ≤ last
     → IsFoundIf Holds areas first last passes o → IsFoundIf Holds areas first less passes o
-fewer_found Holds areas first last less passes None low found = tt
-fewer_found Holds areas first last less passes (Some p) low found = record {
-  inside = found.inside;
-  packet = found.packet;
-  service = found.service;
-  alike = λ f fellows is from to. found.alike f fellows is from (omega (arith, low, to));
-}
+fewer_found Holds areas first last less passes o low found = IfSome_then o found (λ p at. record {
+  inside = at.inside;
+  packet = at.packet;
+  service = at.service;
+  alike = λ f fellows is from to. at.alike f fellows is from (omega (arith, low, to));
+})
 
 module _ (Holds Part : Packet → Type 0) (areas : List Area) (first : Service) (a : Area) (rest left : List Area) (x y : Survey) (same : left ≡ a ∷ rest)
     (all : (f : Packet) → IsInOne left f → IsInOne areas f) (area : IsArea a) (packets : (p : Packet) → IsIn (box_of a first) p → IsPacket p)
@@ -233,8 +231,6 @@ module _ {Q : Type 0} (HoldsOf : Q → Packet → Type 0) where
       → IfSome part (λ t. (p : Packet) → IsIn b p → (HoldsOf t p ↔ HoldsOf q p)) → IsAsked (HoldsOf q) a (HoldsOf (part_or q part))
   asked_part q a b None area inside agree = record { packets = area; same = λ p is here. (λ holds. holds, λ holds. holds) }
   asked_part q a b (Some t) area inside agree = record { packets = area; same = λ p is here. agree p (inside p is here.0 here.1) }
-
--- ---- the first area, and the last one
 
 -- ---- the area at an index
 

@@ -4,6 +4,7 @@ use Rattle.std.specs.Prelude.{IfSome, IfNone}
 use Rattle.std.specs.List.{All}
 use Rattle.std.proofs.lemmas.Bool.Decides.{not_from_Decides}
 use Rattle.std.proofs.lemmas.List.Elements.{All-weaker}
+use Rattle.std.proofs.lemmas.Option.{IfSome_then}
 use Rattle.header_space.proofs.SplitLaws.{le_or_lt}
 use Rattle.host_net.specs.declared.packet.Packet.{Packet}
 use Rattle.host_net.specs.Packet.{IsPacket}
@@ -140,8 +141,7 @@ module _ (Holds : Packet → Type 0) (Between : Packet → Type 0) (areas : List
 
   examples_of : (q : Packet) (o : Option Packet) → IsFoundIf Holds areas (number s.first) (number s.last) false o
       → IfSome o (λ p. IsExampleOf Holds Between (range_of s q) false p)
-  examples_of q None found = tt
-  examples_of q (Some p) found = example_of q false p found
+  examples_of q o found = IfSome_then o found (λ p at. example_of q false p at)
 
   shown_range : (q : Packet) → s.passes ≡ Some q → IsShown Holds Between (range_of s q)
   shown_range q passes = record {

@@ -1,5 +1,5 @@
 -- Results of a survey. Internal: callers use `Passing`.
-use Rattle.std.specs.Prelude.{◌≡◌, ◌⊎◌, ℕ, ◌≤◌, Bool, true, false, List, Option, Some, None}
+use Rattle.std.specs.Prelude.{◌≡◌, ◌⊎◌, ℕ, ◌≤◌, Bool, true, false, List, Option, Some, None, IfSome}
 use Rattle.std.specs.Bool.{Decides}
 use Rattle.host_net.specs.declared.packet.Packet.{Packet}
 use Rattle.host_net.specs.Packet.{IsPacket}
@@ -91,8 +91,7 @@ pub record IsFound (Holds : Packet → Type 0) (areas : List Area) (first last :
   pub alike : AreAlike Holds first last passes p
 
 abbrev pub IsFoundIf : (Packet → Type 0) → List Area → (first last : ℕ) → Bool → Option Packet → Type 0
-IsFoundIf Holds areas first last passes None = Unit {0}
-IsFoundIf Holds areas first last passes (Some p) = IsFound Holds areas first last passes p
+IsFoundIf Holds areas first last passes o = IfSome o (IsFound Holds areas first last passes)
 
 -- The survey is a partial result for the areas: only packets of the areas `left` may lack a recorded result.
 pub record IsUnderWay (Holds : Packet → Type 0) (areas left : List Area) (s : Survey) : Type 0 where

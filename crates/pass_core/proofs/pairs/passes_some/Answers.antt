@@ -1,31 +1,25 @@
-use Rattle.std.proofs.Common.{◌∙◌, false, get_or, refl}
-use Rattle.pass_core.proofs.PairLemmas.{area_at, at_self, none_between, none_step, some_at}
+use Rattle.std.proofs.Common.{◌∙◌, false, refl}
+use Rattle.pass_core.proofs.PairLemmas.{area_at, none_between, none_step, some_at}
 use Rattle.pass_core.proofs.pairs.passes_some.Goals as goal
 
 pub passes_in-requires : goal.passes_in-requires
 passes_in-requires g c =
-    let areas = c.deref-area-items.result.now in
-    let i = c.loop-area.area-index in
-    area_at c.args.from.now c.args.to.now areas i (get_or areas i _) (c.deref-area-items.ensures.value ∙ c.in_ok-areas.ensures) c.loop-area-test.true
-    (at_self areas i _ _ c.loop-area-test.true) c.requires.from c.requires.to
+    area_at c.args.from.now c.args.to.now c.deref-area-items.result.now c.loop-area.area-index _
+    (c.deref-area-items.ensures.value ∙ c.in_ok-areas.ensures) c.loop-area-test.true c.requires.from c.requires.to
 
 pub loop-area-init : goal.loop-area-init
 loop-area-init g c = λ p is there held. there
 
 pub loop-area-preserved : goal.loop-area-preserved
 loop-area-preserved g c =
-    let areas = c.deref-area-items.result.now in
-    let i = c.loop-area.area-index in
-    none_step (g.Q.Question.holds_of c.args.question.now) areas i (get_or areas i _) c.in_ok-passes.passes c.loop-area-test.true
-    (at_self areas i _ _ c.loop-area-test.true) c.in_ok-passes.ensures c.if-passes.false c.loop-area.invariant
+    none_step (g.Q.Question.holds_of c.args.question.now) c.deref-area-items.result.now c.loop-area.area-index _ c.in_ok-passes.passes
+    c.loop-area-test.true c.in_ok-passes.ensures c.if-passes.false c.loop-area.invariant
 
 pub returns-then-passes : goal.returns-then-passes
 returns-then-passes g c =
-    let areas = c.deref-area-items.result.now in
-    let i = c.loop-area.area-index in
     let some =
-    some_at (g.Q.Question.holds_of c.args.question.now) areas i (get_or areas i _) c.in_ok-passes.passes c.loop-area-test.true
-    (at_self areas i _ _ c.loop-area-test.true) c.in_ok-passes.ensures c.args.from.now c.args.to.now
+    some_at (g.Q.Question.holds_of c.args.question.now) c.deref-area-items.result.now c.loop-area.area-index _ c.in_ok-passes.passes
+    c.loop-area-test.true c.in_ok-passes.ensures c.args.from.now c.args.to.now
     (c.deref-area-items.ensures.value ∙ c.in_ok-areas.ensures) c.if-passes.true in
     (λ _. some, λ _. refl)
 
