@@ -1,5 +1,5 @@
 mod AreaLemmas
-mod DeadLemmas
+pub mod DeadLemmas
 mod MeetingLemmas
 mod NewPacketsLemmas
 pub mod PairLemmas

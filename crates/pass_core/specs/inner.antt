@@ -5,5 +5,6 @@ pub mod Joining
 pub mod Listing
 pub mod Meeting
 pub mod Numbers
+pub mod Places
 pub mod Surveying
 pub mod Sweeping

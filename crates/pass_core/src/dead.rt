@@ -2,7 +2,8 @@
 
 ghost use Rattle.std.specs.Prelude.{◌≡◌, ◌+◌, ◌<◌, length, IfOk};
 ghost use Rattle.pass_core.specs.Dead.{AreDead, AreRemovable};
-ghost use Rattle.pass_core.specs.inner.Meeting.{AreUnmarkedBefore, with_unmarked};
+ghost use Rattle.pass_core.specs.inner.Meeting.{IsUnmarked};
+ghost use Rattle.pass_core.specs.inner.Places.{AreBefore};
 
 use crate::met_rules::MetRules;
 use header_space::{PacketBox, visit_all};
@@ -31,7 +32,7 @@ pub fn dead_rules(alloc: Global, rules: &Ruleset) -> Result<Vec<Place>, AllocErr
 
 /// Returns the places of the unmarked rules, in all chains except `INPUT` and `OUTPUT`.
 fn unmarked(alloc: Global, rules: &Ruleset, marks: &Marks) -> Result<Vec<Place>, AllocError>
-    ensures { IfOk result (λ places. AreUnmarkedBefore rules.now marks.now (record { chain = length rules.now; rule = 0 }) places.items) }
+    ensures { IfOk result (λ places. AreBefore (IsUnmarked rules.now marks.now) (record { chain = length rules.now; rule = 0 }) places.items) }
 {
     let mut places = Vec::new(alloc);
     for chain in 0..rules.chains() {
@@ -48,8 +49,8 @@ fn push_unmarked(
     chain: u16,
 ) -> Result<(), AllocError>
     requires there { chain < length rules.now }
-    requires before { AreUnmarkedBefore rules.now marks.now (record { chain = chain; rule = 0 }) places.old.items }
-    ensures { IfOk result (λ _. AreUnmarkedBefore rules.now marks.now (record { chain = chain + 1; rule = 0 }) places.new.items) }
+    requires before { AreBefore (IsUnmarked rules.now marks.now) (record { chain = chain; rule = 0 }) places.old.items }
+    ensures { IfOk result (λ _. AreBefore (IsUnmarked rules.now marks.now) (record { chain = chain + 1; rule = 0 }) places.new.items) }
 {
     if chain == INPUT || chain == OUTPUT {
         return Ok(());
@@ -62,17 +63,9 @@ fn push_unmarked(
             chain,
             rule: rule as u32,
         };
-        push_unless(places, place, marks.is_marked(place))?;
-    }
-    Ok(())
-}
-
-/// Appends a place, unless its rule is marked.
-fn push_unless(places: &mut Vec<Place>, place: Place, marked: bool) -> Result<(), AllocError>
-    ensures { IfOk result (λ _. places.new.items ≡ with_unmarked places.old.items place marked) }
-{
-    if !marked {
-        places.push(place)?;
+        if !marks.is_marked(place) {
+            places.push(place)?;
+        }
     }
     Ok(())
 }

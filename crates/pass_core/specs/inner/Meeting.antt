@@ -1,5 +1,5 @@
--- Marks on the rules that packets meet, and the places of unmarked rules. Internal: callers use `Dead`.
-use Rattle.std.specs.Prelude.{◌≡◌, ◌⊎◌, ◌↔◌, Bool, true, false, IsTrue, List, [], ◌∷◌, ◌++◌}
+-- Marks on the rules that packets meet. Internal: callers use `Dead`.
+use Rattle.std.specs.Prelude.{◌≡◌, ◌⊎◌, Bool, false, IsTrue, List}
 use Rattle.host_net.specs.declared.packet.Packet.{Packet}
 use Rattle.host_net.specs.declared.packet.CtState.{CtState}
 use Rattle.header_space.specs.declared.packet_box.PacketBox.{PacketBox}
@@ -8,7 +8,7 @@ use Rattle.ipt_rules.specs.declared.marks.Place.{Place}
 use Rattle.ipt_rules.specs.Chain.{Chain}
 use Rattle.ipt_rules.specs.Marks.{is_marked}
 use Rattle.ipt_rules.specs.Meets.{IsMet}
-use Rattle.pass_core.specs.Dead.{AreAscending, ComesBefore, HasForwardRule, is_listed}
+use Rattle.pass_core.specs.Dead.{HasForwardRule}
 
 -- Chains, with marks on the rules that some packets meet.
 pub record MetRules : Type 0 where
@@ -32,18 +32,6 @@ pub record MarksMore (b : PacketBox) (old new : MetRules) : Type 0 where
   pub kept : (place : Place) → IsTrue (is_marked old.marks place) → IsTrue (is_marked new.marks place)
   pub only : (place : Place) → IsTrue (is_marked new.marks place) → IsTrue (is_marked old.marks place) ⊎ IsMetWithin old.chains b place
 
--- The place precedes the limit, and has an unmarked rule of FORWARD or of a user chain.
-pub record IsUnmarkedBefore (chains : List Chain) (marks : List (List Bool)) (limit place : Place) : Type 0 where
-  pub rule : HasForwardRule chains place
-  pub before : ComesBefore place limit
-  pub unmarked : is_marked marks place ≡ false
-
--- The places are those of the unmarked rules before the limit, in ascending order.
-pub record AreUnmarkedBefore (chains : List Chain) (marks : List (List Bool)) (limit : Place) (places : List Place) : Type 0 where
-  pub ascending : AreAscending places
-  pub exact : (place : Place) → IsTrue (is_listed places place) ↔ IsUnmarkedBefore chains marks limit place
-
--- The places with one more place, unless its rule is marked.
-abbrev pub with_unmarked : List Place → Place → Bool → List Place
-with_unmarked places place true = places
-with_unmarked places place false = places ++ place ∷ []
+-- The place has an unmarked rule of FORWARD or of a user chain.
+abbrev pub IsUnmarked : List Chain → List (List Bool) → Place → Type 0
+IsUnmarked chains marks place = HasForwardRule chains place × (is_marked marks place ≡ false)

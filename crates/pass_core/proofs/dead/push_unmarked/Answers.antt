@@ -1,9 +1,13 @@
-use Rattle.std.proofs.Common.{◌≡◌, ◌<◌, ◌^◌, ◌∙◌, length, ap, arith}
+use Rattle.std.proofs.Common.{◌≡◌, ◌+◌, ◌<◌, ◌^◌, ◌∙◌, length, ap, arith, sym, subst, true≢false, List}
+use Rattle.ipt_rules.specs.declared.marks.Place.{Place}
 use Rattle.ipt_rules.specs.ChainTable.{rule_count}
 use Rattle.ipt_rules.proofs.NextLemmas.{chain_few}
 use Rattle.ipt_rules.proofs.RuleLemmas.{length-all_rules}
-use Rattle.pass_core.proofs.DeadLemmas.{goes_on}
+use Rattle.pass_core.specs.inner.Meeting.{IsUnmarked}
+use Rattle.pass_core.specs.inner.Places.{AreBefore}
+use Rattle.pass_core.proofs.PlaceLaws.{at, passes_place, pushes}
 use Rattle.pass_core.proofs.dead.push_unmarked.Goals as goal
+use Rattle.pass_core.proofs.dead.push_unmarked.Goals.{then-not-is_marked+in_ok-push, else-not-is_marked}
 
 pub overflow_cast-place : goal.overflow_cast-place
 overflow_cast-place c =
@@ -15,10 +19,21 @@ overflow_cast-place c =
 
 pub loop-rule-preserved : goal.loop-rule-preserved
 loop-rule-preserved c =
+    let Holds = IsUnmarked c.args.rules.now c.args.marks.now in
     let same = ap length c.rules_in-count.ensures in
-    goes_on c.args.rules.now c.args.marks.now c.loop-rule.places.items c.push_unless.new.places.items c.args.chain c.loop-rule.rule c.is_marked.result
-    (record {
-      there = omega (arith, same, c.loop-rule-test.true);
-      not_input = c.if-chain-eq-INPUT.false;
-      not_output = c.if-chain-eq-OUTPUT.false;
-    }) c.is_marked.ensures c.in_ok-push_unless.ensures c.loop-rule.invariant
+    elim c.if-not-is_marked.branch [
+      | then-not-is_marked+in_ok-push w ↦
+          pushes Holds c.loop-rule.places.items c.if-not-is_marked.places.items c.args.chain c.loop-rule.rule (
+            record {
+              there = omega (arith, same, c.loop-rule-test.true);
+              not_input = c.if-chain-eq-INPUT.false;
+              not_output = c.if-chain-eq-OUTPUT.false;
+            },
+            sym c.is_marked.ensures ∙ w.if-not-is_marked.true,
+          )
+          ((λ i. (w.places-is i).items) ∙ w.in_ok-push.ensures.items) c.loop-rule.invariant
+      | else-not-is_marked w ↦
+          subst (λ (l : List Place). AreBefore Holds (at c.args.chain (c.loop-rule.rule + 1)) l) (λ i. (sym w.places-is i).items)
+          (passes_place Holds c.loop-rule.places.items c.args.chain c.loop-rule.rule
+          (λ is. true≢false (sym w.if-not-is_marked.false ∙ c.is_marked.ensures ∙ is.1)) c.loop-rule.invariant)
+    ]
