@@ -1,10 +1,11 @@
 -- The results of a classifier, and marks for its rules, none of them set.
-use Rattle.std.proofs.Common.{◌≡◌, ◌↔◌, inl, inr, ℕ, zero, suc, ◌+◌, ◌<◌, ◌≤◌, ◌∙◌, Bool, true, false, IsTrue, List, [], ◌∷◌, ◌++◌, Option, Some, None, length, replicate, slice_get, refl, sym, ap, subst, arith, length-append}
+use Rattle.std.proofs.Common.{◌≡◌, ◌↔◌, inl, inr, ℕ, zero, suc, ◌+◌, ◌<◌, ◌≤◌, ◌∙◌, Bool, true, false, IsTrue, List, [], ◌∷◌, ◌++◌, Option, Some, None, length, replicate, slice_get, refl, sym, ap, subst, arith}
 use Rattle.std.specs.Prelude.{IfSome, IsSome}
 use Rattle.std.specs.Option.{option_and_then, option_map_or, unwrap_or}
 use Rattle.std.proofs.lemmas.Bool.{cases_lt}
 use Rattle.std.proofs.lemmas.List.{length-replicate}
-use Rattle.std.proofs.lemmas.Option.{slice_get_within}
+use Rattle.std.proofs.lemmas.List.FromFn.{get_or-map-range_with_len, length-map-range_with_len, map-range_with_len_more}
+use Rattle.std.proofs.lemmas.Option.{slice_get-get_or, slice_get_past, slice_get_within}
 use Rattle.host_net.specs.declared.packet.Packet.{Packet}
 use Rattle.host_net.specs.declared.packet.CtState.TheVariants.{New}
 use Rattle.host_net.specs.Packet.{IsPacket}
@@ -13,7 +14,6 @@ use Rattle.ipt_rules.specs.declared.rule.Rule.{Rule}
 use Rattle.ipt_rules.specs.Chain.{Chain, rules_of}
 use Rattle.ipt_rules.specs.Marks.{is_marked}
 use Rattle.ipt_rules.specs.Meets.{target_verdict, IsDecider as IsRuleDecider}
-use Rattle.ipt_rules.proofs.Gets.{get_front, get_last}
 use Rattle.ipt_rules.proofs.WalkingLemmas.{none_returns}
 use Rattle.ofp_rules.specs.declared.entry.Entry.{Entry}
 use Rattle.ofp_rules.specs.declared.entry.Frame.{Frame}
@@ -21,6 +21,7 @@ use Rattle.ofp_rules.specs.declared.entry.Frame.TheVariants.{Ipv4}
 use Rattle.ofp_rules.specs.Deciders.{IsDecider as IsEntryDecider}
 use Rattle.audit_core.specs.Rules.{Rules, Chains, Entries, filter_of}
 use Rattle.audit_core.specs.Verdicts.{GivesOne}
+use Rattle.pass_core.proofs.DeadLemmas.{no_rules}
 use Rattle.decide_core.specs.Deciders.{IsDecider}
 use Rattle.decide_core.specs.inner.Classifying.{HasMarks, HasRule, chain_count, count_in, entry_place, unset_marks}
 
@@ -66,38 +67,20 @@ entry_only entries p d only (Some place) is = same_entry place is.0 ∙ ap entry
 
 -- ---- marks, none of them set
 
-pub unset_next : (rules : Rules) (n : ℕ) → unset_marks rules (n + 1) ≡ unset_marks rules n ++ replicate (count_in rules n) false ∷ []
-unset_next rules n = let next : n + 1 ≡ suc n = omega arith in ap (unset_marks rules) next
+abbrev unset_row : Rules → ℕ → List Bool
+unset_row rules c = replicate (count_in rules c) false
 
-unset_length : (rules : Rules) (n : ℕ) → length (unset_marks rules n) ≡ n
-unset_length rules zero = refl
-unset_length rules (suc n) =
-    let before = unset_length rules n in
-    let whole = length-append (unset_marks rules n) (replicate (count_in rules n) false ∷ []) in
-    omega (arith, before, whole)
+pub unset_next : (rules : Rules) (n : ℕ) → unset_marks rules (n + 1) ≡ unset_marks rules n ++ unset_row rules n ∷ []
+unset_next rules n = map-range_with_len_more (unset_row rules) 0 n n (omega arith)
 
-get_past : {A : Type 0} (xs : List A) (c : ℕ) → length xs ≤ c → slice_get xs c ≡ None
-get_past [] c past = refl
-get_past (x ∷ xs) zero past = absurd (omega (arith, past))
-get_past (x ∷ xs) (suc c) past = get_past xs c (omega (arith, past))
+get_row : (rules : Rules) (n c : ℕ) → c < n → slice_get (unset_marks rules n) c ≡ Some (unset_row rules c)
+get_row rules n c low =
+    let long = length-map-range_with_len (unset_row rules) 0 n in
+    slice_get-get_or (unset_marks rules n) c [] (omega (arith, long, low))
+    ∙ ap (λ (row : List Bool). Some row) (get_or-map-range_with_len (unset_row rules) 0 n c c [] low (omega arith))
 
-get_row : (rules : Rules) (n c : ℕ) → c < n → slice_get (unset_marks rules n) c ≡ Some (replicate (count_in rules c) false)
-get_row rules zero c low = absurd (omega (arith, low))
-get_row rules (suc n) c low = elim (cases_lt c n) [
-  | inl less ↦
-      get_front (unset_marks rules n) (replicate (count_in rules n) false ∷ []) c (replicate (count_in rules c) false) (get_row rules n c less)
-  | inr more ↦
-      let long = unset_length rules n in
-      let place : c ≡ length (unset_marks rules n) = omega (arith, low, more, long) in
-      let same : n ≡ c = omega (arith, low, more) in
-      ap (slice_get (unset_marks rules n ++ replicate (count_in rules n) false ∷ [])) place
-      ∙ get_last (unset_marks rules n) (replicate (count_in rules n) false) ∙ ap (λ (k : ℕ). Some (replicate (count_in rules k) false)) same
-]
-
-no_rules : (chains : List Chain) (c : ℕ) → length chains ≤ c → length (rules_of chains c) ≡ 0
-no_rules [] c few = refl
-no_rules (x ∷ chains) zero few = absurd (omega (arith, few))
-no_rules (x ∷ chains) (suc c) few = no_rules chains c (omega (arith, few))
+no_row : (rules : Rules) (n c : ℕ) → n ≤ c → slice_get (unset_marks rules n) c ≡ None
+no_row rules n c past = let long = length-map-range_with_len (unset_row rules) 0 n in slice_get_past (unset_marks rules n) c (omega (arith, long, past))
 
 pub none_past : (rules : Rules) (c : ℕ) → chain_count rules ≤ c → count_in rules c ≡ 0
 none_past (Chains chains) c past = no_rules chains c past
@@ -113,18 +96,13 @@ mark_in row n = unwrap_or (slice_get (row_in row) n) false
 unset_has : (rules : Rules) → HasMarks rules (unset_marks rules (chain_count rules))
 unset_has rules c = elim (cases_lt c (chain_count rules)) [
   | inl low ↦ ap (λ (o : Option (List Bool)). length (row_in o)) (get_row rules (chain_count rules) c low) ∙ length-replicate (count_in rules c) false
-  | inr past ↦
-      let long = unset_length rules (chain_count rules) in
-      ap (λ (o : Option (List Bool)). length (row_in o)) (get_past (unset_marks rules (chain_count rules)) c (omega (arith, long, past)))
-      ∙ sym (none_past rules c past)
+  | inr past ↦ ap (λ (o : Option (List Bool)). length (row_in o)) (no_row rules (chain_count rules) c past) ∙ sym (none_past rules c past)
 ]
 
 unset_none : (rules : Rules) (n : ℕ) (place : Place) → is_marked (unset_marks rules n) place ≡ false
 unset_none rules n place = elim (cases_lt place.chain n) [
   | inl low ↦ ap (λ (o : Option (List Bool)). mark_in o place.rule) (get_row rules n place.chain low) ∙ none_returns (count_in rules place.chain) place.rule
-  | inr past ↦
-      let long = unset_length rules n in
-      ap (λ (o : Option (List Bool)). mark_in o place.rule) (get_past (unset_marks rules n) place.chain (omega (arith, long, past)))
+  | inr past ↦ ap (λ (o : Option (List Bool)). mark_in o place.rule) (no_row rules n place.chain past)
 ]
 
 pub has_marks : (rules : Rules) (marks : List (List Bool)) → marks ≡ unset_marks rules (chain_count rules) → HasMarks rules marks

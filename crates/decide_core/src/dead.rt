@@ -5,6 +5,7 @@ ghost use Rattle.std.specs.List.{All};
 ghost use Rattle.audit_core.specs.RulesView.{rules_of};
 ghost use Rattle.decide_core.specs.DeadEntries.{AreDeadEntries};
 ghost use Rattle.decide_core.specs.DeadPlaces.{AreDeadPlaces};
+ghost use Rattle.decide_core.specs.inner.Marked.{entry_at};
 
 use crate::deciding::Deciding;
 use audit_core::Text;
@@ -48,15 +49,13 @@ fn dead_entry_places(alloc: Global, table: &Table) -> Result<Vec<Place>, AllocEr
 
 /// Returns the places of the entries with these numbers.
 fn entry_places(alloc: Global, entries: &[u32]) -> Result<Vec<Place>, AllocError>
-    ensures chain { IfOk result (λ places. All (λ place. place.chain ≡ 0) places.items) }
-    ensures rule { IfOk result (λ places. map (λ place. place.rule) places.items ≡ entries.now) }
+    ensures { IfOk result (λ places. places.items ≡ map entry_at entries.now) }
 {
-    let mut places = Vec::new(alloc);
-    for entry in entries {
-        places.push(Place {
+    entries
+        .iter()
+        .map(|entry| Place {
             chain: 0,
             rule: *entry,
-        })?;
-    }
-    Ok(places)
+        })
+        .collect(alloc)
 }

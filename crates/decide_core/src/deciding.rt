@@ -9,7 +9,7 @@ ghost use Rattle.ipt_rules.specs.Marks.{marks_of};
 ghost use Rattle.audit_core.specs.RulesView.{rules_of};
 ghost use Rattle.decide_core.specs.Deciders.{IsDecider, IsInOne};
 ghost use Rattle.decide_core.specs.inner.Deciding.{Counts, HasNoted, IsKnown, NotesMoreIn, is_noted, noted};
-ghost use Rattle.decide_core.specs.inner.Marked.{AreMarked, AreUnmarkedBelow};
+ghost use Rattle.decide_core.specs.inner.Marked.{AreMarked, unmarked_below};
 
 use crate::classifier::Classifier;
 use crate::marked::{marked_places, unmarked_entries};
@@ -99,7 +99,7 @@ impl<'a> Deciding<'a> {
 
     /// Returns the numbers of the unmarked entries among the first `count` entries of a flow table.
     pub(crate) fn unmarked_entries(&self, alloc: Global, count: u32) -> Result<Vec<u32>, AllocError>
-        ensures { IfOk result (λ entries. AreUnmarkedBelow self.now.marks count entries.items) }
+        ensures { IfOk result (λ entries. entries.items ≡ unmarked_below self.now.marks count) }
     {
         unmarked_entries(alloc, &self.marks, count)
     }

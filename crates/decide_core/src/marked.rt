@@ -3,7 +3,8 @@
 ghost use Rattle.std.specs.Prelude.{◌≡◌, ◌+◌, ◌<◌, length, IfOk};
 ghost use Rattle.ipt_rules.specs.Marks.{marks_of};
 ghost use Rattle.decide_core.specs.inner.Classifying.{HasMarks, chain_count, rules_by};
-ghost use Rattle.decide_core.specs.inner.Marked.{AreMarked, AreMarkedBefore, AreUnmarkedBelow, with_marked, with_unmarked};
+ghost use Rattle.decide_core.specs.inner.Marked.{AreMarked, IsMarked, unmarked_below};
+ghost use Rattle.pass_core.specs.inner.Places.{AreBefore};
 
 use crate::classifier::Classifier;
 use crate::rule_marks::RuleMarks;
@@ -34,51 +35,33 @@ fn push_marked(
     count: u32,
 ) -> Result<(), AllocError>
     requires count { length (marks_of marks.now chain) ≡ count }
-    requires before { AreMarkedBefore marks.now (record { chain = chain; rule = 0 }) places.old.items }
-    ensures { IfOk result (λ _. AreMarkedBefore marks.now (record { chain = chain + 1; rule = 0 }) places.new.items) }
+    requires before { AreBefore (IsMarked marks.now) (record { chain = chain; rule = 0 }) places.old.items }
+    ensures { IfOk result (λ _. AreBefore (IsMarked marks.now) (record { chain = chain + 1; rule = 0 }) places.new.items) }
 {
     for rule in 0..count {
         let place = Place { chain, rule };
-        push_if(places, place, marks.is_marked(place))?;
-    }
-    Ok(())
-}
-
-/// Appends a place, if its rule is marked.
-fn push_if(places: &mut Vec<Place>, place: Place, marked: bool) -> Result<(), AllocError>
-    ensures { IfOk result (λ _. places.new.items ≡ with_marked places.old.items place marked) }
-{
-    if marked {
-        places.push(place)?;
+        if marks.is_marked(place) {
+            places.push(place)?;
+        }
     }
     Ok(())
 }
 
 /// Returns the numbers of the unmarked entries among the first `count` entries of a flow table.
+#[tactic(auto, unfolding(audit_core::specs::Classes::numbers_where))]
 pub(crate) fn unmarked_entries(
     alloc: Global,
     marks: &RuleMarks,
     count: u32,
 ) -> Result<Vec<u32>, AllocError>
-    ensures { IfOk result (λ entries. AreUnmarkedBelow marks.now count entries.items) }
+    ensures { IfOk result (λ entries. entries.items ≡ unmarked_below marks.now count) }
 {
-    let mut entries = Vec::new(alloc);
-    for entry in 0..count {
-        let place = Place {
-            chain: 0,
-            rule: entry,
-        };
-        push_unless(&mut entries, entry, marks.is_marked(place))?;
-    }
-    Ok(entries)
-}
-
-/// Appends the number of an entry, unless it is marked.
-fn push_unless(entries: &mut Vec<u32>, entry: u32, marked: bool) -> Result<(), AllocError>
-    ensures { IfOk result (λ _. entries.new.items ≡ with_unmarked entries.old.items entry marked) }
-{
-    if !marked {
-        entries.push(entry)?;
-    }
-    Ok(())
+    (0..count)
+        .filter(|entry| {
+            !marks.is_marked(Place {
+                chain: 0,
+                rule: *entry,
+            })
+        })
+        .collect(alloc)
 }

@@ -34,7 +34,6 @@ impl RuleMarks {
         RuleMarks::unset(alloc, classifier)
     }
 
-    #[tactic(auto, using(crate::proofs::ClassifyingLemmas::unset_next))]
     fn unset(alloc: Global, classifier: &Classifier<'_>) -> Result<RuleMarks, AllocError>
         ensures { IfOk result (λ marks. marks ≡ unset_marks (rules_by classifier.now) (chain_count (rules_by classifier.now))) }
     {

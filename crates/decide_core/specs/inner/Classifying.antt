@@ -1,5 +1,6 @@
 -- Number of rules, and marks for them. Internal: callers use `Deciders`.
-use Rattle.std.specs.Prelude.{◌≡◌, ℕ, zero, suc, ◌<◌, ◌++◌, Bool, false, List, [], ◌∷◌, length, Option, Some, None, replicate}
+use Rattle.std.specs.Prelude.{◌≡◌, ℕ, zero, suc, ◌<◌, Bool, false, List, length, map, Option, Some, None, replicate}
+use Rattle.std.specs.List.{range_with_len}
 use Rattle.ipt_rules.specs.declared.marks.Place.{Place}
 use Rattle.ipt_rules.specs.Chain.{rules_of}
 use Rattle.ipt_rules.specs.Marks.{marks_of}
@@ -33,8 +34,7 @@ HasMarks rules marks = (c : ℕ) → length (marks_of marks c) ≡ count_in rule
 
 -- Marks for the rules of the first n chains, none of them set.
 abbrev pub unset_marks : Rules → ℕ → List (List Bool)
-unset_marks rules zero = []
-unset_marks rules (suc n) = unset_marks rules n ++ replicate (count_in rules n) false ∷ []
+unset_marks rules n = map (λ c. replicate (count_in rules c) false) (range_with_len 0 n)
 
 -- The place of an entry of a flow table, if there is an entry.
 abbrev pub entry_place : Option ℕ → Option Place

@@ -1,13 +1,26 @@
-use Rattle.std.proofs.Common.{arith}
-use Rattle.decide_core.proofs.MarkedLemmas.{goes_on, passes_chain}
+use Rattle.std.proofs.Common.{◌+◌, ◌∙◌, List, sym, subst, arith, true≢false}
+use Rattle.ipt_rules.specs.declared.marks.Place.{Place}
+use Rattle.pass_core.specs.inner.Places.{AreBefore}
+use Rattle.pass_core.proofs.PlaceLaws.{at, passes_chain, passes_place, pushes}
+use Rattle.decide_core.specs.inner.Marked.{IsMarked}
+use Rattle.decide_core.proofs.MarkedLemmas.{marked_rules}
 use Rattle.decide_core.proofs.marked.push_marked.Goals as goal
+use Rattle.decide_core.proofs.marked.push_marked.Goals.{then-is_marked+in_ok-push, else-is_marked}
 
 pub loop-rule-preserved : goal.loop-rule-preserved
 loop-rule-preserved c =
-    goes_on c.args.marks.now c.loop-rule.places.items c.push_if.new.places.items c.args.chain c.loop-rule.rule c.is_marked.result c.is_marked.ensures
-    c.in_ok-push_if.ensures c.loop-rule.invariant
+    let Holds = IsMarked c.args.marks.now in
+    elim c.if-is_marked.branch [
+      | then-is_marked+in_ok-push w ↦
+          pushes Holds c.loop-rule.places.items c.if-is_marked.places.items c.args.chain c.loop-rule.rule (sym c.is_marked.ensures ∙ w.if-is_marked.true)
+          ((λ i. (w.places-is i).items) ∙ w.in_ok-push.ensures.items) c.loop-rule.invariant
+      | else-is_marked w ↦
+          subst (λ (l : List Place). AreBefore Holds (at c.args.chain (c.loop-rule.rule + 1)) l) (λ i. (sym w.places-is i).items)
+          (passes_place Holds c.loop-rule.places.items c.args.chain c.loop-rule.rule
+          (λ on. true≢false (sym on ∙ sym c.is_marked.ensures ∙ w.if-is_marked.false)) c.loop-rule.invariant)
+    ]
 
 pub returns : goal.returns
 returns c =
-    passes_chain c.args.marks.now c.loop-rule.places.items c.args.chain c.loop-rule.rule (omega (arith, c.requires.count, c.loop-rule-test.false))
-    c.loop-rule.invariant
+    passes_chain (IsMarked c.args.marks.now) c.loop-rule.places.items c.args.chain c.loop-rule.rule
+    (marked_rules c.args.marks.now c.args.chain c.loop-rule.rule (omega (arith, c.requires.count, c.loop-rule-test.false))) c.loop-rule.invariant
