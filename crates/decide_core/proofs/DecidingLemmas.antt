@@ -1,5 +1,5 @@
 -- Marks on the rules that decide packets, box by box.
-use Rattle.std.proofs.Common.{◌≡◌, ◌⊎◌, ◌↔◌, inl, inr, ℕ, zero, suc, ◌+◌, ◌<◌, ◌∙◌, Bool, true, false, IsTrue, List, [], ◌∷◌, ◌++◌, Option, Some, None, get_or, length, take, refl, sym, ap, subst, arith}
+use Rattle.std.proofs.Common.{◌≡◌, ◌⊎◌, ◌↔◌, inl, inr, ℕ, zero, suc, ◌+◌, ◌<◌, ◌∙◌, Bool, true, false, IsTrue, List, [], ◌∷◌, Option, Some, None, get_or, length, take, refl, sym, ap, subst, arith}
 use Rattle.std.specs.Prelude.{IfSome}
 use Rattle.std.proofs.lemmas.Bool.{true≢false}
 use Rattle.std.proofs.lemmas.List.{take_more}
@@ -15,6 +15,7 @@ use Rattle.decide_core.specs.Deciders.{AreDeciders, DecidesOne, IsDecider, IsInO
 use Rattle.decide_core.specs.inner.Deciding.{Counts, CountsAmong, Deciding, HasNoted, IsKnown, NotesMore, NotesMoreIn, is_noted, noted}
 use Rattle.decide_core.specs.inner.Marked.{AreMarked}
 use Rattle.decide_core.specs.laws.DecidingLaws.{known_still, same_one}
+use Rattle.decide_core.proofs.ServiceLemmas.{in_either}
 
 -- The rule at the place has a mark, set or not. The default always has.
 abbrev pub IsThere : Deciding → Option Place → Type 0
@@ -83,13 +84,6 @@ module _ (x : Deciding) where
   not_counted p b off iff = λ counts other decides. absurd (true≢false (sym (iff.1 counts) ∙ off))
 
 -- ---- boxes
-
-in_either : (xs : List PacketBox) (b : PacketBox) (p : Packet) → IsInOne (xs ++ b ∷ []) p → IsInOne xs p ⊎ IsIn b p
-in_either [] b p inside = elim inside [ inl here ↦ inr here | inr none ↦ absurd none ]
-in_either (x ∷ xs) b p inside = elim inside [
-  | inl here ↦ inl (inl here)
-  | inr later ↦ elim (in_either xs b p later) [ inl first ↦ inl (inr first) | inr last ↦ inr last ]
-]
 
 in_whole : (boxes : List PacketBox) (i : ℕ) (d : PacketBox) (p : Packet) → i < length boxes → IsIn (get_or boxes i d) p → IsInOne boxes p
 in_whole [] i d p low inside = absurd (omega (arith, low))

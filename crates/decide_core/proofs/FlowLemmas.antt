@@ -9,6 +9,7 @@ use Rattle.header_space.specs.declared.address_range.AddressRange.{AddressRange}
 use Rattle.header_space.specs.Owners.{HaveAddresses, IsOfPair, IsRange, owners_of}
 use Rattle.header_space.proofs.OwnersLaws.{covered_owned, ranges_some}
 use Rattle.audit_core.specs.Rules.{Rules}
+use Rattle.audit_core.proofs.NamedLemmas.{take_at}
 use Rattle.pass_core.specs.Pairs.{AreListedByOwners, AreListedFor, IsListedFor}
 use Rattle.pass_core.specs.Passing.{IsShown}
 use Rattle.pass_core.specs.Services.{service_count}
@@ -29,9 +30,6 @@ pub mapped_more : {X Y : Type 0} (f : X → Y) (ys : List Y) (i : ℕ) (d : Y) (
 mapped_more {Y = Y} f ys i d old new x within is pushed before =
     ap (map f) pushed ∙ map_push f old x ∙ ap (λ (l : List Y). l ++ f x ∷ []) before ∙ ap (λ (y : Y). take i ys ++ y ∷ []) is
     ∙ sym (take_more ys i d within)
-
-pub mapped_all : {X Y : Type 0} (f : X → Y) (ys : List Y) (i : ℕ) (xs : List X) → length ys ≤ i → map f xs ≡ take i ys → map f xs ≡ ys
-mapped_all f ys i xs past are = are ∙ take_all i ys past
 
 pub all_more : {X : Type 0} (P : X → Type 0) (old new : List X) (x : X) → new ≡ old ++ x ∷ [] → All P old → P x → All P new
 all_more P old new x pushed all is = subst (All P) (sym pushed) (All-push P old x all is)
@@ -84,7 +82,7 @@ module _ (rules : Rules) (hosts : List Host) where
       → AreFlowsOfEach rules hosts (take (i + 1) ss) new
   flows_more ss i s old new f within read pushed each are =
       subst (λ (l : List PairServices). AreFlowsOfEach rules hosts l new)
-      (sym (take_more ss i s within ∙ ap (λ (x : PairServices). take i ss ++ x ∷ []) (sym read)))
+      (sym (take_at ss i s within read))
       (subst (λ (l : List PairFlows). AreFlowsOfEach rules hosts (take i ss ++ s ∷ []) l) (sym pushed) (flows_push (take i ss) old s f each are))
 
   pub flows_all : (ss : List PairServices) (i : ℕ) (fs : List PairFlows) → length ss ≤ i → AreFlowsOfEach rules hosts (take i ss) fs

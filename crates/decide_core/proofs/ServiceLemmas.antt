@@ -1,14 +1,15 @@
 -- Boxes of services, added one by one.
-use Rattle.std.proofs.Common.{◌≡◌, ◌⊎◌, ◌↔◌, inl, inr, ℕ, zero, suc, ◌+◌, ◌-◌, ◌*◌, ◌<◌, ◌≤◌, ◌∙◌, Bool, false, IsTrue, List, [], ◌∷◌, ◌++◌, get_or, length, take, refl, sym, subst, arith}
+use Rattle.std.proofs.Common.{◌≡◌, ◌⊎◌, ◌↔◌, inl, inr, ℕ, ◌+◌, ◌-◌, ◌*◌, ◌<◌, ◌≤◌, ◌∙◌, Bool, false, IsTrue, List, [], ◌∷◌, ◌++◌, get_or, length, take, sym, subst, arith}
 use Rattle.std.specs.List.{All}
 use Rattle.std.proofs.lemmas.Bool.{cases_eq, true≢false}
-use Rattle.std.proofs.lemmas.List.{take_more}
+use Rattle.std.proofs.lemmas.List.{take_all, take_more}
 use Rattle.std.proofs.lemmas.List.Elements.{All-nil, All-push}
 use Rattle.host_net.specs.declared.packet.Packet.{Packet}
 use Rattle.header_space.specs.declared.packet_box.PacketBox.{PacketBox}
 use Rattle.header_space.specs.Boxes.{IsBox, IsIn}
 use Rattle.header_space.specs.declared.address_range.AddressRange.{AddressRange}
-use Rattle.header_space.specs.Owners.{LiesIn, LiesInOne}
+use Rattle.header_space.specs.Owners.{LiesInOne}
+use Rattle.header_space.proofs.OwnersLaws.{covered_cases, covered_left, covered_only, covered_right}
 use Rattle.pass_core.specs.Services.{service_of}
 use Rattle.audit_core.specs.Rules.{Rules}
 use Rattle.decide_core.specs.declared.deciders.Deciders.{Deciders}
@@ -29,7 +30,7 @@ in_last : (xs : List PacketBox) (b : PacketBox) (p : Packet) → IsIn b p → Is
 in_last [] b p inside = inl inside
 in_last (x ∷ xs) b p inside = inr (in_last xs b p inside)
 
-in_either : (xs : List PacketBox) (b : PacketBox) (p : Packet) → IsInOne (xs ++ b ∷ []) p → IsInOne xs p ⊎ IsIn b p
+pub in_either : (xs : List PacketBox) (b : PacketBox) (p : Packet) → IsInOne (xs ++ b ∷ []) p → IsInOne xs p ⊎ IsIn b p
 in_either [] b p inside = elim inside [ inl here ↦ inr here | inr none ↦ absurd none ]
 in_either (x ∷ xs) b p inside = elim inside [
   | inl here ↦ inl (inl here)
@@ -191,49 +192,32 @@ module _ (from to : AddressRange) (low high : ℕ) where
 
 -- ---- between sets of addresses
 
-lies_either : (rs : List AddressRange) (r : AddressRange) (n : ℕ) → LiesInOne (rs ++ r ∷ []) n → LiesInOne rs n ⊎ LiesIn r n
-lies_either [] r n lies = elim lies [ inl here ↦ inr here | inr none ↦ absurd none ]
-lies_either (x ∷ rs) r n lies = elim lies [
-  | inl here ↦ inl (inl here)
-  | inr later ↦ elim (lies_either rs r n later) [ inl first ↦ inl (inr first) | inr last ↦ inr last ]
-]
-
-lies_first : (rs : List AddressRange) (r : AddressRange) (n : ℕ) → LiesInOne rs n → LiesInOne (rs ++ r ∷ []) n
-lies_first [] r n lies = absurd lies
-lies_first (x ∷ rs) r n lies = elim lies [ inl here ↦ inl here | inr later ↦ inr (lies_first rs r n later) ]
-
-lies_last : (rs : List AddressRange) (r : AddressRange) (n : ℕ) → LiesIn r n → LiesInOne (rs ++ r ∷ []) n
-lies_last [] r n lies = inl lies
-lies_last (x ∷ rs) r n lies = inr (lies_last rs r n lies)
-
-lies_only : (r : AddressRange) (n : ℕ) → LiesInOne (r ∷ []) n → LiesIn r n
-lies_only r n lies = elim lies [ inl here ↦ here | inr none ↦ absurd none ]
-
 module _ (low high : ℕ) where
+  moved : (from to sources targets : List AddressRange) (p : Packet) → (LiesInOne from p.src → LiesInOne sources p.src)
+      → (LiesInOne to p.dst → LiesInOne targets p.dst) → HasServiceBetween from to low high p → HasServiceBetween sources targets low high p
+  moved from to sources targets p src dst has = record {
+    between = record { packet = has.between.packet; src = src has.between.src; dst = dst has.between.dst };
+    low = has.low;
+    high = has.high;
+  }
+
   -- One more range of destinations.
   target_more : (s : AddressRange) (to : List AddressRange) (r : AddressRange) (p : Packet)
       → (HasServiceBetween (s ∷ []) to low high p ⊎ HasServiceFrom s r low high p) ↔ HasServiceBetween (s ∷ []) (to ++ r ∷ []) low high p
   target_more s to r p = (
     λ either. elim either [
-      | inl has ↦
-          let between = has.between in
-          record {
-            between = record { packet = between.packet; src = between.src; dst = lies_first to r p.dst between.dst };
-            low = has.low;
-            high = has.high;
-          }
+      | inl has ↦ moved (s ∷ []) to (s ∷ []) (to ++ r ∷ []) p (λ src. src) (covered_left to (r ∷ []) p.dst) has
       | inr has ↦
           record {
-            between = record { packet = has.packet; src = inl has.src; dst = lies_last to r p.dst has.dst };
+            between = record { packet = has.packet; src = inl has.src; dst = covered_right to (r ∷ []) p.dst (inl has.dst) };
             low = has.low;
             high = has.high;
           }
     ],
-    λ has. let between = has.between in elim (lies_either to r p.dst between.dst) [
-      | inl first ↦
-          inl (record { between = record { packet = between.packet; src = between.src; dst = first }; low = has.low; high = has.high })
+    λ has. let between = has.between in elim (covered_cases to (r ∷ []) p.dst between.dst) [
+      | inl first ↦ inl (moved (s ∷ []) (to ++ r ∷ []) (s ∷ []) to p (λ src. src) (λ dst. first) has)
       | inr last ↦
-          inr (record { packet = between.packet; src = lies_only s p.src between.src; dst = last; low = has.low; high = has.high })
+          inr (record { packet = between.packet; src = covered_only s p.src between.src; dst = covered_only r p.dst last; low = has.low; high = has.high })
     ],
   )
 
@@ -242,26 +226,12 @@ module _ (low high : ℕ) where
       → (HasServiceBetween from to low high p ⊎ HasServiceBetween (s ∷ []) to low high p) ↔ HasServiceBetween (from ++ s ∷ []) to low high p
   source_more from s to p = (
     λ either. elim either [
-      | inl has ↦
-          let between = has.between in
-          record {
-            between = record { packet = between.packet; src = lies_first from s p.src between.src; dst = between.dst };
-            low = has.low;
-            high = has.high;
-          }
-      | inr has ↦
-          let between = has.between in
-          record {
-            between = record { packet = between.packet; src = lies_last from s p.src (lies_only s p.src between.src); dst = between.dst };
-            low = has.low;
-            high = has.high;
-          }
+      | inl has ↦ moved from to (from ++ s ∷ []) to p (covered_left from (s ∷ []) p.src) (λ dst. dst) has
+      | inr has ↦ moved (s ∷ []) to (from ++ s ∷ []) to p (covered_right from (s ∷ []) p.src) (λ dst. dst) has
     ],
-    λ has. let between = has.between in elim (lies_either from s p.src between.src) [
-      | inl first ↦
-          inl (record { between = record { packet = between.packet; src = first; dst = between.dst }; low = has.low; high = has.high })
-      | inr last ↦
-          inr (record { between = record { packet = between.packet; src = inl last; dst = between.dst }; low = has.low; high = has.high })
+    λ has. elim (covered_cases from (s ∷ []) p.src has.between.src) [
+      | inl first ↦ inl (moved (from ++ s ∷ []) to from to p (λ src. first) (λ dst. dst) has)
+      | inr last ↦ inr (moved (from ++ s ∷ []) to (s ∷ []) to p (λ src. last) (λ dst. dst) has)
     ],
   )
 
@@ -294,22 +264,15 @@ module _ (low high : ℕ) where
       subst (λ (ys : List PacketBox). AddsBoxes (HasServiceBetween [] to low high) [] ys) (sym none)
       (adds_none (HasServiceBetween [] to low high) [] (no_sources to))
 
-take_past : (rs : List AddressRange) (i : ℕ) → length rs ≤ i → take i rs ≡ rs
-take_past [] zero past = refl
-take_past [] (suc i) past = refl
-take_past (r ∷ rs) zero past = absurd (omega (arith, past))
-take_past (r ∷ rs) (suc i) past = λ j. r ∷ take_past rs i (omega (arith, past)) j
-
-module _ (low high : ℕ) where
   pub all_targets : (s : AddressRange) (to : List AddressRange) (i : ℕ) (xs ys : List PacketBox) → length to ≤ i
       → AddsBoxes (HasServiceBetween (s ∷ []) (take i to) low high) xs ys → AddsBoxes (HasServiceBetween (s ∷ []) to low high) xs ys
   all_targets s to i xs ys past adds =
-      subst (λ (rs : List AddressRange). AddsBoxes (HasServiceBetween (s ∷ []) rs low high) xs ys) (take_past to i past) adds
+      subst (λ (rs : List AddressRange). AddsBoxes (HasServiceBetween (s ∷ []) rs low high) xs ys) (take_all i to past) adds
 
   pub all_sources : (from to : List AddressRange) (i : ℕ) (xs ys : List PacketBox) → length from ≤ i
       → AddsBoxes (HasServiceBetween (take i from) to low high) xs ys → AddsBoxes (HasServiceBetween from to low high) xs ys
   all_sources from to i xs ys past adds =
-      subst (λ (rs : List AddressRange). AddsBoxes (HasServiceBetween rs to low high) xs ys) (take_past from i past) adds
+      subst (λ (rs : List AddressRange). AddsBoxes (HasServiceBetween rs to low high) xs ys) (take_all i from past) adds
 
 -- ---- deciders of the same packets
 

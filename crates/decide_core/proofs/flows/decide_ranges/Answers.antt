@@ -1,11 +1,12 @@
-use Rattle.std.proofs.Common.{refl, sym, ap, map, subst}
+use Rattle.std.proofs.Common.{refl, sym, ap, map, subst, ◌∙◌}
 use Rattle.std.specs.List.{All}
+use Rattle.std.proofs.lemmas.List.{take_all}
 use Rattle.std.proofs.lemmas.List.Elements.{All-nil}
 use Rattle.audit_core.specs.RulesView.{rules_of}
 use Rattle.decide_core.specs.declared.flows.FlowRange.{FlowRange}
 use Rattle.decide_core.specs.Deciders.{AreDeciders}
 use Rattle.decide_core.specs.ServiceRanges.{HasServiceBetween}
-use Rattle.decide_core.proofs.FlowLemmas.{all_more, mapped_all, mapped_more}
+use Rattle.decide_core.proofs.FlowLemmas.{all_more, mapped_more}
 use Rattle.decide_core.proofs.flows.decide_ranges.Goals as goal
 
 pub loop-range-init : goal.loop-range-init
@@ -32,6 +33,4 @@ loop-range-preserved c =
     }
 
 pub returns-clause-ranges : goal.returns-clause-ranges
-returns-clause-ranges c =
-    mapped_all (λ (r : FlowRange). r.range) c.args.ranges.now c.loop-range.range-index c.loop-range.list.items c.loop-range-test.false
-    c.loop-range.invariant.ranges
+returns-clause-ranges c = c.loop-range.invariant.ranges ∙ take_all c.loop-range.range-index c.args.ranges.now c.loop-range-test.false
