@@ -1,7 +1,6 @@
 -- Marks on the rules that decide packets, box by box.
-use Rattle.std.proofs.Common.{◌≡◌, ◌⊎◌, ◌↔◌, inl, inr, ℕ, zero, suc, ◌+◌, ◌<◌, ◌∙◌, Bool, true, false, IsTrue, List, [], ◌∷◌, Option, Some, None, get_or, length, take, refl, sym, ap, subst, arith}
+use Rattle.std.proofs.Common.{◌≡◌, ◌⊎◌, ◌↔◌, inl, inr, ℕ, zero, suc, ◌+◌, ◌<◌, ◌∙◌, Bool, true, IsTrue, List, [], ◌∷◌, Option, Some, None, get_or, length, take, refl, sym, ap, subst, arith}
 use Rattle.std.specs.Prelude.{IfSome}
-use Rattle.std.proofs.lemmas.Bool.{true≢false}
 use Rattle.std.proofs.lemmas.List.{take_more}
 use Rattle.host_net.specs.declared.packet.Packet.{Packet}
 use Rattle.header_space.specs.declared.packet_box.PacketBox.{PacketBox}
@@ -79,9 +78,6 @@ module _ (x : Deciding) where
   pub visit_known : (y : Deciding) (d : Option Place) (p : Packet) → y ≡ noted x d → IsThere x d
       → ((other : Option Place) → IsDecider x.rules p other → other ≡ d) → IsKnown y p
   visit_known y d p is there only = subst (λ (z : Deciding). IsKnown z p) (sym is) (noted_known d p there only)
-
-  pub not_counted : (p : Packet) (b : Bool) → b ≡ false → (IsTrue b ↔ Counts x.rules x.passing p) → IsKnown x p
-  not_counted p b off iff = λ counts other decides. absurd (true≢false (sym (iff.1 counts) ∙ off))
 
 -- ---- boxes
 

@@ -93,15 +93,10 @@ exactly_added Among xs ys none adds p = (
 
 pub no_block : (from to : AddressRange) (block : ServiceBlock) (b : Bool)
     → (IsTrue b ↔ ((block.low_proto ≤ block.high_proto) × (block.low_port ≤ block.high_port))) → b ≡ false → (p : Packet) → HasServiceOf from to block p → ⊥
-no_block from to block b iff off p has =
-    let low_proto = has.low_proto in
-    let high_proto = has.high_proto in
-    let low_port = has.low_port in
-    let high_port = has.high_port in
-    true≢false (sym (iff.1 (omega (arith, low_proto, high_proto), omega (arith, low_port, high_port))) ∙ off)
+no_block from to block b iff off p has = true≢false (sym (iff.1 (omega arith, omega arith)) ∙ off)
 
 pub no_services : (from to : AddressRange) (low high : ℕ) → high < low → (p : Packet) → HasServiceFrom from to low high p → ⊥
-no_services from to low high none p has = let above = has.low in let below = has.high in omega (arith, none, above, below)
+no_services from to low high none p has = omega arith
 
 module _ (from to : AddressRange) (low high : ℕ) where
   -- A packet with the protocol and the port of a block is a packet of the range, if its service is from `low` to `high`.
@@ -127,18 +122,8 @@ module _ (from to : AddressRange) (low high : ℕ) where
 
     pub one_block : a ≡ b → (p : Packet) → HasServiceOf from to (block_of a b m n) p ↔ HasServiceFrom from to low high p
     one_block same p = (
-      λ has.
-          let low_proto = has.low_proto in
-          let high_proto = has.high_proto in
-          let low_port = has.low_port in
-          let high_port = has.high_port in
-          of_block (block_of a b m n) p has (omega (arith, same, low_is, low_proto, high_proto, low_port)) (omega (arith, same, high_is, low_proto, high_proto, high_port)),
-      λ has.
-          let above = has.low in
-          let below = has.high in
-          let port = has.packet.4 in
-          to_block (block_of a b m n) p has (omega (arith, low_is, above, port, small)) (omega (arith, high_is, below, small_too))
-          (omega (arith, same, low_is, high_is, above, below, port, small, small_too)) (omega (arith, same, low_is, high_is, above, below, port, small, small_too)),
+      λ has. of_block (block_of a b m n) p has (omega arith) (omega arith),
+      λ has. let port = has.packet.4 in to_block (block_of a b m n) p has (omega arith) (omega arith) (omega arith) (omega arith),
     )
 
     abbrev InOne : Packet → Type 0
@@ -149,41 +134,22 @@ module _ (from to : AddressRange) (low high : ℕ) where
     into_services : a < b → (p : Packet) → InOne p → HasServiceFrom from to low high p
     into_services less p either = elim either [
       | inl early ↦ elim early [
-        | inl has ↦
-            let low_proto = has.low_proto in
-            let high_proto = has.high_proto in
-            let low_port = has.low_port in
-            let high_port = has.high_port in
-            of_block (block_of a a m 65535) p has (omega (arith, low_is, low_proto, low_port)) (omega (arith, less, high_is, high_proto, high_port))
-        | inr has ↦
-            let low_proto = has.low_proto in
-            let high_proto = has.high_proto in
-            let high_port = has.high_port in
-            of_block (block_of (a + 1) (b - 1) 0 65535) p has (omega (arith, low_is, small, low_proto)) (omega (arith, less, high_is, high_proto, high_port))
+        | inl has ↦ of_block (block_of a a m 65535) p has (omega arith) (omega arith)
+        | inr has ↦ of_block (block_of (a + 1) (b - 1) 0 65535) p has (omega arith) (omega arith)
       ]
-      | inr has ↦
-          let low_proto = has.low_proto in
-          let high_proto = has.high_proto in
-          let high_port = has.high_port in
-          of_block (block_of b b 0 n) p has (omega (arith, less, low_is, small, low_proto)) (omega (arith, high_is, high_proto, high_port))
+      | inr has ↦ of_block (block_of b b 0 n) p has (omega arith) (omega arith)
     ]
 
     from_services : a < b → (p : Packet) → HasServiceFrom from to low high p → InOne p
     from_services less p has =
-        let above = has.low in
-        let below = has.high in
         let port = has.packet.4 in
-        let not_before : a ≤ p.proto = omega (arith, low_is, above, port) in
-        let not_behind : p.proto ≤ b = omega (arith, high_is, below, small_too) in
-        let low_port : p.dport ≤ 65535 = omega (arith, port) in
+        let not_before : a ≤ p.proto = omega arith in
+        let not_behind : p.proto ≤ b = omega arith in
         elim (cases_eq p.proto a) [
-          | inl first ↦
-              inl (inl (to_block (block_of a a m 65535) p has not_before (omega (arith, first)) (omega (arith, first, low_is, above)) low_port))
+          | inl first ↦ inl (inl (to_block (block_of a a m 65535) p has not_before (omega arith) (omega arith) (omega arith)))
           | inr after ↦ elim (cases_eq p.proto b) [
-            | inl last ↦
-                inr (to_block (block_of b b 0 n) p has (omega (arith, last)) not_behind (omega arith) (omega (arith, last, high_is, below)))
-            | inr inner ↦
-                inl (inr (to_block (block_of (a + 1) (b - 1) 0 65535) p has (omega (arith, not_before, after)) (omega (arith, not_behind, inner)) (omega arith) low_port))
+            | inl last ↦ inr (to_block (block_of b b 0 n) p has (omega arith) not_behind (omega arith) (omega arith))
+            | inr inner ↦ inl (inr (to_block (block_of (a + 1) (b - 1) 0 65535) p has (omega arith) (omega arith) (omega arith) (omega arith)))
           ]
         ]
 
