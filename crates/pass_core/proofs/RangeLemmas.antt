@@ -1,5 +1,5 @@
 -- Appending a range to a list of ranges.
-use Rattle.std.proofs.Common.{◌≡◌, ◌⊎◌, inl, inr, ℕ, ◌+◌, ◌<◌, ◌≤◌, Bool, true, false, List, [], ◌∷◌, ◌++◌, Some, refl, sym, subst, ◌∙◌, arith}
+use Rattle.std.proofs.Common.{◌≡◌, ◌⊎◌, inl, inr, ℕ, ◌+◌, ◌<◌, ◌≤◌, Bool, true, false, List, [], ◌∷◌, ◌++◌, Some, refl, sym, ◌∙◌, arith}
 use Rattle.std.specs.List.{All}
 use Rattle.std.proofs.lemmas.List.Elements.{All-head, All-nil, All-pop, All-push, All-tail, All-weaker}
 use Rattle.std.proofs.lemmas.Option.{IfSome_then}
@@ -38,8 +38,8 @@ lies_below (r ∷ rs) b next n below from lies = elim lies [
 abbrev pub LiesHere : PassingRange → Bool → ℕ → Type 0
 LiesHere r b n = (is_wholly r ≡ b) × (r.low ≤ n) × (n ≤ r.high)
 
-lies_only : (r : PassingRange) (b : Bool) (n : ℕ) → LiesInRange (r ∷ []) b n → LiesHere r b n ⊎ ⊥
-lies_only r b n lies = lies
+lies_only : (r : PassingRange) (b : Bool) (n : ℕ) → LiesInRange (r ∷ []) b n → LiesHere r b n
+lies_only r b n lies = elim lies [ inl here ↦ here | inr none ↦ absurd none ]
 
 -- ---- maximal ranges
 
@@ -73,7 +73,7 @@ module _ (Holds : Packet → Type 0) (Between : Packet → Type 0) (r : PassingR
     maximal = max_one r;
     shown = All-push (λ (x : PassingRange). IsShown Holds Between x) [] r (All-nil (λ (x : PassingRange). IsShown Holds Between x)) is;
     below = All-push (λ (x : PassingRange). x.high < r.high + 1) [] r (All-nil (λ (x : PassingRange). x.high < r.high + 1)) (omega arith);
-    lies = λ b n lies. elim lies [ inl here ↦ inr here | inr none ↦ absurd none ];
+    lies = λ b n lies. inr (lies_only r b n lies);
     old_lies = λ b n lies. absurd lies;
     new_lies = λ b n here. inl here;
   }
@@ -114,22 +114,17 @@ module _ (Holds : Packet → Type 0) (Between : Packet → Type 0) (r : PassingR
           (All-weaker (λ (x : PassingRange). x.high < r.low) (λ (x : PassingRange). x.high < r.high + 1) lower rest below_parts.0) (omega arith);
       lies = λ b n lies. elim (lies_either rest (extended last r ∷ []) b n lies) [
         | inl first ↦ inl (lies_first rest (last ∷ []) b n first)
-        | inr second ↦ elim (lies_only (extended last r) b n second) [
-          | inl here ↦ elim (le_or_lt n last.high) [
-            | inl low ↦ inl (lies_second rest (last ∷ []) b n (inl (here.0, here.1, low)))
-            | inr high ↦ inr (sym goes.1 ∙ here.0, (let next = goes.0 in omega (arith, next, high)), here.2)
-          ]
-          | inr none ↦ absurd none
+        | inr second ↦ let here = lies_only (extended last r) b n second in elim (le_or_lt n last.high) [
+          | inl low ↦ inl (lies_second rest (last ∷ []) b n (inl (here.0, here.1, low)))
+          | inr high ↦ inr (sym goes.1 ∙ here.0, (let next = goes.0 in omega (arith, next, high)), here.2)
         ]
       ];
       old_lies = λ b n lies. elim (lies_either rest (last ∷ []) b n lies) [
         | inl first ↦ lies_first rest (extended last r ∷ []) b n first
-        | inr second ↦ elim (lies_only last b n second) [
-          | inl here ↦
-              lies_second rest (extended last r ∷ []) b n
-              (inl (here.0, here.1, (let high = here.2 in let low = below_parts.1 in let some = is.some in omega (arith, high, low, some))))
-          | inr none ↦ absurd none
-        ]
+        | inr second ↦
+            let here = lies_only last b n second in
+            let low = below_parts.1 in
+            lies_second rest (extended last r ∷ []) b n (inl (here.0, here.1, omega (arith, here.2, is.some)))
       ];
       new_lies = λ b n here.
           lies_second rest (extended last r ∷ []) b n
@@ -145,7 +140,7 @@ module _ (Holds : Packet → Type 0) (Between : Packet → Type 0) (r : PassingR
           (All-weaker (λ (x : PassingRange). x.high < r.low) (λ (x : PassingRange). x.high < r.high + 1) lower (rest ++ last ∷ []) below) (omega arith);
       lies = λ b n lies. elim (lies_either (rest ++ last ∷ []) (r ∷ []) b n lies) [
         | inl first ↦ inl first
-        | inr second ↦ elim (lies_only r b n second) [ inl here ↦ inr here | inr none ↦ absurd none ]
+        | inr second ↦ inr (lies_only r b n second)
       ];
       old_lies = λ b n lies. lies_first (rest ++ last ∷ []) (r ∷ []) b n lies;
       new_lies = λ b n here. lies_second (rest ++ last ∷ []) (r ∷ []) b n (inl here);
@@ -153,18 +148,8 @@ module _ (Holds : Packet → Type 0) (Between : Packet → Type 0) (r : PassingR
 
   pub joined : (old new : List PassingRange) → AreMaximal old → All (λ x. IsShown Holds Between x) old → All (λ x. x.high < r.low) old → Joins old r new
       → IsAppended Holds Between old r new
-  joined old new are shown below (begins none one) =
-      subst (λ (xs : List PassingRange). IsAppended Holds Between xs r new) (sym none)
-      (subst (λ (ys : List PassingRange). IsAppended Holds Between [] r ys) (sym one) begun)
+  joined old new are shown below (begins none one) = rw (none, one) begun
   joined old new are shown below (extends rest last was goes now) =
-      subst (λ (xs : List PassingRange). IsAppended Holds Between xs r new) (sym was)
-      (subst (λ (ys : List PassingRange). IsAppended Holds Between (rest ++ last ∷ []) r ys) (sym now)
-      (went_on rest last (subst (λ (xs : List PassingRange). AreMaximal xs) was are)
-      (subst (λ (xs : List PassingRange). All (λ x. IsShown Holds Between x) xs) was shown)
-      (subst (λ (xs : List PassingRange). All (λ x. x.high < r.low) xs) was below) goes))
+      rw (was, now) (went_on rest last (rw was at are) (rw was at shown) (rw was at below) goes)
   joined old new are shown below (follows rest last was apart now) =
-      subst (λ (xs : List PassingRange). IsAppended Holds Between xs r new) (sym was)
-      (subst (λ (ys : List PassingRange). IsAppended Holds Between (rest ++ last ∷ []) r ys) (sym now)
-      (followed rest last (subst (λ (xs : List PassingRange). AreMaximal xs) was are)
-      (subst (λ (xs : List PassingRange). All (λ x. IsShown Holds Between x) xs) was shown)
-      (subst (λ (xs : List PassingRange). All (λ x. x.high < r.low) xs) was below) apart))
+      rw (was, now) (followed rest last (rw was at are) (rw was at shown) (rw was at below) apart)

@@ -29,24 +29,12 @@ pub in_part : (old up part new : PacketBox) (q f : Packet) → Raises old up →
     → IsIn new q → AreFellows q f → HasService part f → IsIn part f
 in_part old up part new q f raises narrows least src dst sport inside fellows has =
     let same : part.least ≡ new.least = narrows.least ∙ raises.least ∙ sym least in
-    let low_src : part.least.src ≡ new.least.src = ap (λ (p : Packet). p.src) same in
-    let low_dst : part.least.dst ≡ new.least.dst = ap (λ (p : Packet). p.dst) same in
-    let low_sport : part.least.sport ≡ new.least.sport = ap (λ (p : Packet). p.sport) same in
+    let low_src = ap (λ (p : Packet). p.src) same in
+    let low_dst = ap (λ (p : Packet). p.dst) same in
+    let low_sport = ap (λ (p : Packet). p.sport) same in
     record {
-      above = record {
-        src = omega (arith, low_src, inside.above.src, fellows.src);
-        dst = omega (arith, low_dst, inside.above.dst, fellows.dst);
-        proto = has.from_proto;
-        sport = omega (arith, low_sport, inside.above.sport, fellows.sport);
-        dport = has.from_port;
-      };
-      below = record {
-        src = omega (arith, src, inside.below.src, fellows.src);
-        dst = omega (arith, dst, inside.below.dst, fellows.dst);
-        proto = has.to_proto;
-        sport = omega (arith, sport, inside.below.sport, fellows.sport);
-        dport = has.to_port;
-      };
+      above = record { src = omega arith; dst = omega arith; proto = has.from_proto; sport = omega arith; dport = has.from_port };
+      below = record { src = omega arith; dst = omega arith; proto = has.to_proto; sport = omega arith; dport = has.to_port };
     }
 
 -- ---- a result is recorded

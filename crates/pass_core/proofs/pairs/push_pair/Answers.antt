@@ -1,9 +1,6 @@
-use Rattle.std.proofs.Common.{◌↔◌, ◌∙◌, IsTrue, List, refl, subst, sym, true≢false}
-use Rattle.header_space.specs.declared.address_range.AddressRange.{AddressRange}
+use Rattle.std.proofs.Common.{◌∙◌, refl, sym, true≢false}
 use Rattle.header_space.specs.Owners.{GoesBetween}
 use Rattle.pass_core.specs.Pairs.{IsListedFor}
-use Rattle.pass_core.specs.Passing.{ArePassing}
-use Rattle.pass_core.specs.inner.Listing.{PassesSome}
 use Rattle.pass_core.proofs.PairLemmas.{added_nothing, entry_of, into_pair, none_of_pair}
 use Rattle.pass_core.proofs.pairs.push_pair.Goals as goal
 
@@ -12,9 +9,7 @@ returns-then-not-passes g c =
     let Holds = g.Q.Question.holds_of c.args.question.now in
     let from = c.args.from.now in
     let to = c.args.to.now in
-    let test =
-    subst (λ (l : List AddressRange). IsTrue c.in_ok-passes.passes ↔ PassesSome Holds (GoesBetween c.args.sources.now l)) c.deref.ensures.value
-    c.in_ok-passes.ensures in
+    let test = rw c.deref.ensures.value at c.in_ok-passes.ensures in
     added_nothing (IsListedFor Holds (GoesBetween from.ranges.items to.ranges.items) from.owner to.owner) c.args.list.now.items
     (none_of_pair Holds from.ranges.items c.args.sources.now to.ranges.items c.requires.sources
     (λ pass. true≢false (sym (test.1 pass) ∙ c.if-not-passes.true)))
@@ -24,13 +19,8 @@ returns g c =
     let Holds = g.Q.Question.holds_of c.args.question.now in
     let from = c.args.from.now in
     let to = c.args.to.now in
-    let test =
-    subst (λ (l : List AddressRange). IsTrue c.in_ok-passes.passes ↔ PassesSome Holds (GoesBetween c.args.sources.now l)) c.deref.ensures.value
-    c.in_ok-passes.ensures in
-    let passing =
-    subst (λ (l : List AddressRange). ArePassing Holds (GoesBetween from.ranges.items l) c.in_ok-ranges.ranges.items) c.deref-3.ensures.value
-    (subst (λ (l : List AddressRange). ArePassing Holds (GoesBetween l c.deref-3.result.now) c.in_ok-ranges.ranges.items) c.deref-2.ensures.value
-    c.in_ok-ranges.ensures) in (
+    let test = rw c.deref.ensures.value at c.in_ok-passes.ensures in
+    let passing = rw (c.deref-2.ensures.value, c.deref-3.ensures.value) at c.in_ok-ranges.ensures in (
       _,
       c.in_ok-push.ensures.items,
       entry_of Holds from.ranges.items to.ranges.items from.owner to.owner _
