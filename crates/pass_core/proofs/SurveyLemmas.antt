@@ -206,13 +206,6 @@ module _ {Q : Type 0} (HoldsOf : Q → Packet → Type 0) where
   known_by asked asks b whole x y same grows knows p inside =
       subst (λ (q : Q). IsKnown (HoldsOf q) y p) grows.0 (knows p (subst (λ (c : PacketBox). IsIn c p) (sym same) inside))
 
-  pub grows_at : (t u : Q) (b : PacketBox) (x y : Survey) → t ≡ u → Grows (HoldsOf t) b x y → Grows (HoldsOf u) b x y
-  grows_at t u b x y same grows = subst (λ (q : Q). Grows (HoldsOf q) b x y) same grows
-
-  pub knows_at : (t u : Q) (b : PacketBox) (y : Survey) → t ≡ u → ((p : Packet) → IsIn b p → IsKnown (HoldsOf t) y p)
-      → (p : Packet) → IsIn b p → IsKnown (HoldsOf u) y p
-  knows_at t u b y same knows p inside = subst (λ (q : Q). IsKnown (HoldsOf q) y p) same (knows p inside)
-
   -- The question restricted to an area.
   pub asked_part : (q : Q) (a : Area) (b : PacketBox) (part : Option Q) → IsArea a
       → ((p : Packet) → IsPacket p → LiesIn a.from p.src → LiesIn a.to p.dst → IsIn b p)
@@ -228,9 +221,9 @@ module _ {A : Type 0} (area_of : A → Area) (part_of : A → Packet → Type 0)
   in_dropped (suc i) [] p there = absurd there
   in_dropped (suc i) (a ∷ left) p there = inr (in_dropped i left p there)
 
-  module _ (first : Service) (i : ℕ) (e : A) (x y : Survey) (within : i < length asked) (read : e ≡ get_or asked i e)
-      (are : All (λ a. IsAsked Holds (area_of a) (part_of a)) asked) (has_first : x.first ≡ first)
-      (packets : (p : Packet) → IsIn (box_of (area_of e) x.first) p → IsPacket p) (grows : Grows (part_of e) (box_of (area_of e) x.first) x y)
+  module _ (i : ℕ) (e : A) (x y : Survey) (within : i < length asked) (read : e ≡ get_or asked i e)
+      (are : All (λ a. IsAsked Holds (area_of a) (part_of a)) asked) (packets : (p : Packet) → IsIn (box_of (area_of e) x.first) p → IsPacket p)
+      (grows : Grows (part_of e) (box_of (area_of e) x.first) x y)
       (knows : (p : Packet) → IsIn (box_of (area_of e) x.first) p → IsKnown (part_of e) y p)
       (way : IsUnderWay Holds (map area_of asked) (map area_of (drop i asked)) x) where
     asked_here : IsAsked Holds (area_of e) (part_of e)
@@ -239,28 +232,13 @@ module _ {A : Type 0} (area_of : A → Area) (part_of : A → Packet → Type 0)
     same_left : map area_of (drop i asked) ≡ area_of e ∷ map area_of (drop (suc i) asked)
     same_left = ap (map area_of) (drop-cons asked i e within ∙ ap (λ (a : A). a ∷ drop (suc i) asked) (sym read))
 
-    here_packets : (p : Packet) → IsIn (box_of (area_of e) first) p → IsPacket p
-    here_packets = subst (λ (s : Service). (p : Packet) → IsIn (box_of (area_of e) s) p → IsPacket p) has_first packets
-
-    here_grows : Grows (part_of e) (box_of (area_of e) first) x y
-    here_grows = subst (λ (s : Service). Grows (part_of e) (box_of (area_of e) s) x y) has_first grows
-
-    here_knows : (p : Packet) → IsIn (box_of (area_of e) first) p → IsKnown (part_of e) y p
-    here_knows = subst (λ (s : Service). (p : Packet) → IsIn (box_of (area_of e) s) p → IsKnown (part_of e) y p) has_first knows
-
-    agree : (p : Packet) → IsPacket p → IsInArea (area_of e) p → (part_of e p ↔ Holds p)
-    agree p is inside = asked_here.same p is inside
-
-    pub step_first : y.first ≡ first
-    step_first = grows.first ∙ has_first
-
     pub step_way : IsUnderWay Holds (map area_of asked) (map area_of (drop (i + 1) asked)) y
     step_way =
         subst (λ (n : ℕ). IsUnderWay Holds (map area_of asked) (map area_of (drop n asked)) y) (sym (add-one i))
-        (next_area Holds (part_of e) (map area_of asked) first (area_of e) (map area_of (drop (suc i) asked)) (map area_of (drop i asked)) x y same_left
-        (λ f there. in_dropped i asked f there) asked_here.packets here_packets has_first here_grows here_knows agree way)
+        (next_area Holds (part_of e) (map area_of asked) x.first (area_of e) (map area_of (drop (suc i) asked)) (map area_of (drop i asked)) x y same_left
+        (λ f there. in_dropped i asked f there) asked_here.packets packets refl grows knows asked_here.same way)
 
     pub step_found : HasFound y
     step_found =
-        next_has_found Holds (part_of e) (map area_of asked) first (area_of e) (map area_of (drop (suc i) asked)) (map area_of (drop i asked)) x y same_left
-        (λ f there. in_dropped i asked f there) asked_here.packets here_packets has_first here_grows here_knows agree way
+        next_has_found Holds (part_of e) (map area_of asked) x.first (area_of e) (map area_of (drop (suc i) asked)) (map area_of (drop i asked)) x y same_left
+        (λ f there. in_dropped i asked f there) asked_here.packets packets refl grows knows asked_here.same way

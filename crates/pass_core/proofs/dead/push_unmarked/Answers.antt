@@ -1,11 +1,9 @@
-use Rattle.std.proofs.Common.{◌≡◌, ◌+◌, ◌<◌, ◌^◌, ◌∙◌, length, ap, arith, sym, subst, true≢false, List}
-use Rattle.ipt_rules.specs.declared.marks.Place.{Place}
+use Rattle.std.proofs.Common.{◌≡◌, ◌<◌, ◌^◌, ◌∙◌, length, ap, arith, sym, true≢false}
 use Rattle.ipt_rules.specs.ChainTable.{rule_count}
 use Rattle.ipt_rules.proofs.NextLemmas.{chain_few}
 use Rattle.ipt_rules.proofs.RuleLemmas.{length-all_rules}
 use Rattle.pass_core.specs.inner.Meeting.{IsUnmarked}
-use Rattle.pass_core.specs.inner.Places.{AreBefore}
-use Rattle.pass_core.proofs.PlaceLaws.{at, passes_place, pushes}
+use Rattle.pass_core.proofs.PlaceLaws.{passes_place, pushes}
 use Rattle.pass_core.proofs.dead.push_unmarked.Goals as goal
 use Rattle.pass_core.proofs.dead.push_unmarked.Goals.{then-not-is_marked+in_ok-push, else-not-is_marked}
 
@@ -33,7 +31,7 @@ loop-rule-preserved c =
           )
           ((λ i. (w.places-is i).items) ∙ w.in_ok-push.ensures.items) c.loop-rule.invariant
       | else-not-is_marked w ↦
-          subst (λ (l : List Place). AreBefore Holds (at c.args.chain (c.loop-rule.rule + 1)) l) (λ i. (sym w.places-is i).items)
+          rw w.places-is
           (passes_place Holds c.loop-rule.places.items c.args.chain c.loop-rule.rule
           (λ is. true≢false (sym w.if-not-is_marked.false ∙ c.is_marked.ensures ∙ is.1)) c.loop-rule.invariant)
     ]

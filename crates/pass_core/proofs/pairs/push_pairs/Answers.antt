@@ -1,9 +1,6 @@
-use Rattle.std.proofs.Common.{List, subst}
 use Rattle.std.proofs.lemmas.List.{take_all}
-use Rattle.header_space.specs.declared.owners.Owned.{Owned}
 use Rattle.header_space.specs.Owners.{GoesBetween}
-use Rattle.pass_core.specs.Pairs.{AreListedFor, IsListedFor}
-use Rattle.pass_core.specs.inner.Listing.{IsAdded}
+use Rattle.pass_core.specs.Pairs.{IsListedFor}
 use Rattle.pass_core.proofs.PairLemmas.{added_step}
 use Rattle.pass_core.proofs.pairs.push_pairs.Goals as goal
 
@@ -15,9 +12,4 @@ loop-to-preserved g c =
     c.loop-to.invariant c.in_ok-push_pair.ensures
 
 pub returns : goal.returns
-returns g c =
-    let from = c.args.from.now in
-    subst
-    (λ (l : List Owned). IsAdded (λ ss. AreListedFor (λ to. IsListedFor (g.Q.Question.holds_of c.args.question.now)
-    (GoesBetween from.ranges.items to.ranges.items) from.owner to.owner) l ss) c.args.list.now.items c.loop-to.list.items)
-    (take_all c.loop-to.to-index c.args.owned.now c.loop-to-test.false) c.loop-to.invariant
+returns g c = rw (take_all c.loop-to.to-index c.args.owned.now c.loop-to-test.false) at c.loop-to.invariant

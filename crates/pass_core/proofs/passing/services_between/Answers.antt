@@ -1,7 +1,6 @@
-use Rattle.std.proofs.Common.{ℕ, map, ◌∙◌, sym, ap, subst}
+use Rattle.std.proofs.Common.{map, ◌∙◌, ap}
 use Rattle.header_space.specs.Owners.{GoesBetween}
-use Rattle.pass_core.specs.inner.Numbers.{number, number_before}
-use Rattle.pass_core.specs.inner.Sweeping.{IsSwept}
+use Rattle.pass_core.specs.inner.Numbers.{number}
 use Rattle.pass_core.proofs.AreaLemmas.{are_areas, goes_between, in_areas, some_asked}
 use Rattle.pass_core.proofs.SweepLemmas.{next_number, swept_all, swept_on}
 use Rattle.pass_core.proofs.passing.services_between.Goals as goal
@@ -23,16 +22,14 @@ loop-next-preserved g c =
     let areas = map (λ a. a.area) c.deref-in-Some.result.now in
     let same = ap (map (λ a. a.area)) c.deref-in-Some.ensures.value ∙ c.in_ok-asked.ensures.areas ∙ c.deref.ensures.value ∙ c.in_ok-areas.ensures in
     let found = c.in_ok-found.found in
-    let before = subst (λ (n : ℕ). IsSwept Holds (GoesBetween from to) c.loop-next.ranges.items n) (ap number_before c.in-Some.is) c.loop-next.invariant in
+    let before = rw c.in-Some.is at c.loop-next.invariant in
     let after = swept_on Holds (GoesBetween from to) areas (number c.in-Some.first) found c.in_ok-found.ensures
     (λ p is there. goes_between from to areas p same is there) (λ p goes. goes.packet) (λ p goes. in_areas from to areas p same goes)
     c.next-next.ensures.small c.loop-next.ranges.items c.append.new.ranges.items before c.in_ok-append.ensures in
-    subst (λ (n : ℕ). IsSwept Holds (GoesBetween from to) c.append.new.ranges.items n)
-    (sym (next_number c.next-next.result (number found.last) c.next-next.ensures.next c.next-next.ensures.last)) after
+    rw (next_number c.next-next.result (number found.last) c.next-next.ensures.next c.next-next.ensures.last) after
 
 pub returns : goal.returns
 returns g c =
     let Holds = g.Q.Question.holds_of c.args.question.now in
     let Between = GoesBetween c.args.from.now c.args.to.now in
-    swept_all Holds Between c.loop-next.ranges.items
-    (subst (λ (n : ℕ). IsSwept Holds Between c.loop-next.ranges.items n) (ap number_before c.in_default.is) c.loop-next.invariant)
+    swept_all Holds Between c.loop-next.ranges.items (rw c.in_default.is at c.loop-next.invariant)

@@ -1,8 +1,6 @@
-use Rattle.std.proofs.Common.{◌≤◌, refl, sym, subst}
+use Rattle.std.proofs.Common.{refl}
 use Rattle.std.proofs.Common.{◌∙◌}
-use Rattle.host_net.specs.declared.packet.Packet.{Packet}
 use Rattle.header_space.specs.declared.packet_box.PacketBox.{PacketBox}
-use Rattle.pass_core.specs.Services.{service_of}
 use Rattle.pass_core.proofs.SurveyLemmas.{in_part}
 use Rattle.pass_core.proofs.survey.ask.Goals as goal
 
@@ -15,7 +13,7 @@ returns-clause-alike g c = λ q f inside fellows is from to.
       greatest = record { src = part.greatest.src; dst = part.greatest.dst; proto = old.greatest.proto; sport = part.greatest.sport; dport = old.greatest.dport };
     } in
     let least = c.ask-passes.ensures.part.least ∙ c.raised-part.ensures.least in
-    let start = subst (λ (p : Packet). service_of p ≤ service_of f) (sym least) from in
+    let start = rw (← least) at from in
     c.ask-passes.ensures.alike f
     (in_part old c.raised-part.result part new q f c.raised-part.ensures c.ask-passes.ensures.part refl refl refl refl inside fellows
     (c.last_alike.ensures.inside f is start to))
