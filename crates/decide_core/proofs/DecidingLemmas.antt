@@ -92,12 +92,6 @@ in_more boxes i d p low inside =
     in_either (take i boxes) (get_or boxes i d) p (subst (λ (bs : List PacketBox). IsInOne bs p) (take_more boxes i d low) inside)
 
 module _ (boxes : List PacketBox) (i : ℕ) (d : PacketBox) (low : i < length boxes) (x y : Deciding) (more : NotesMoreIn (get_or boxes i d) x y) where
-  pub rules_more : (rules : Rules) → x.rules ≡ rules → y.rules ≡ rules
-  rules_more rules same = more.rules ∙ same
-
-  pub passing_more : (b : Bool) → x.passing ≡ b → y.passing ≡ b
-  passing_more b same = more.passing ∙ same
-
   pub known_more : ((p : Packet) → IsIn (get_or boxes i d) p → IsKnown y p) → ((p : Packet) → IsInOne (take i boxes) p → IsKnown x p)
       → (p : Packet) → IsInOne (take (i + 1) boxes) p → IsKnown y p
   known_more now before p inside = elim (in_more boxes i d p low inside) [

@@ -2,12 +2,12 @@
 use Rattle.std.proofs.Common.{◌≡◌, ◌↔◌, ℕ, ◌+◌, ◌<◌, ◌≤◌, ◌∙◌, List, [], ◌∷◌, ◌++◌, Option, get_or, length, map, take, sym, ap, subst}
 use Rattle.std.specs.List.{All}
 use Rattle.std.proofs.lemmas.List.{map_push, take_all, take_more}
-use Rattle.std.proofs.lemmas.List.Elements.{All-append, All-cons, All-nil, All-push, All-weaker}
+use Rattle.std.proofs.lemmas.List.Elements.{All-append, All-cons, All-nil, All-weaker}
 use Rattle.host_net.specs.Host.{Host}
 use Rattle.host_net.specs.declared.packet.Packet.{Packet}
 use Rattle.header_space.specs.declared.address_range.AddressRange.{AddressRange}
-use Rattle.header_space.specs.Owners.{HaveAddresses, IsOfPair, IsRange, owners_of}
-use Rattle.header_space.proofs.OwnersLaws.{covered_owned, ranges_some}
+use Rattle.header_space.specs.Owners.{HaveAddresses, IsOfPair, owners_of}
+use Rattle.header_space.proofs.OwnersLaws.{covered_owned}
 use Rattle.audit_core.specs.Rules.{Rules}
 use Rattle.audit_core.proofs.NamedLemmas.{take_at}
 use Rattle.pass_core.specs.Pairs.{AreListedByOwners, AreListedFor, IsListedFor}
@@ -30,9 +30,6 @@ pub mapped_more : {X Y : Type 0} (f : X → Y) (ys : List Y) (i : ℕ) (d : Y) (
 mapped_more {Y = Y} f ys i d old new x within is pushed before =
     ap (map f) pushed ∙ map_push f old x ∙ ap (λ (l : List Y). l ++ f x ∷ []) before ∙ ap (λ (y : Y). take i ys ++ y ∷ []) is
     ∙ sym (take_more ys i d within)
-
-pub all_more : {X : Type 0} (P : X → Type 0) (old new : List X) (x : X) → new ≡ old ++ x ∷ [] → All P old → P x → All P new
-all_more P old new x pushed all is = subst (All P) (sym pushed) (All-push P old x all is)
 
 -- ---- the packets of a pair
 
@@ -81,9 +78,7 @@ module _ (rules : Rules) (hosts : List Host) where
       → new ≡ old ++ f ∷ [] → AreFlowsOfEach rules hosts (take i ss) old → AreFlowsOf rules hosts s f
       → AreFlowsOfEach rules hosts (take (i + 1) ss) new
   flows_more ss i s old new f within read pushed each are =
-      subst (λ (l : List PairServices). AreFlowsOfEach rules hosts l new)
-      (sym (take_at ss i s within read))
-      (subst (λ (l : List PairFlows). AreFlowsOfEach rules hosts (take i ss ++ s ∷ []) l) (sym pushed) (flows_push (take i ss) old s f each are))
+      rw (take_at ss i s within read, pushed) (flows_push (take i ss) old s f each are)
 
   pub flows_all : (ss : List PairServices) (i : ℕ) (fs : List PairFlows) → length ss ≤ i → AreFlowsOfEach rules hosts (take i ss) fs
       → AreFlowsOfEach rules hosts ss fs
@@ -115,12 +110,3 @@ listed_have_services Holds hosts ss are =
     listed_each (λ from. AreListedFor (λ to. IsListedFor Holds (IsOfPair hosts from to) from to) (owners_of hosts))
     (λ from. listed_each (λ to. IsListedFor Holds (IsOfPair hosts from to) from to)
     (λ to. listed_services Holds (IsOfPair hosts from to) from to) (owners_of hosts)) (owners_of hosts) ss are
-
--- ---- slices of vectors
-
-pub ranges_there : (hosts : List Host) (owner : Option ℕ) (items given : List AddressRange) → given ≡ items → HaveAddresses hosts owner items
-    → All IsRange given
-ranges_there hosts owner items given same have = subst (All IsRange) (sym same) (ranges_some hosts owner items have.owned)
-
-pub have_services : (s : PairServices) (given : List PassingRange) → given ≡ s.ranges.items → HasServices s → All (λ r. r.high < service_count) given
-have_services s given same have = subst (All (λ (r : PassingRange). r.high < service_count)) (sym same) have

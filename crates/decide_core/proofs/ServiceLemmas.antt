@@ -242,10 +242,6 @@ module _ (low high : ℕ) where
 
 -- ---- deciders of the same packets
 
-pub in_same_boxes : (xs ys : List PacketBox) (Among : Packet → Type 0) → ys ≡ xs → ((p : Packet) → IsInOne xs p ↔ Among p) → (p : Packet) → IsInOne ys p ↔ Among p
-in_same_boxes xs ys Among same exact =
-    subst (λ (zs : List PacketBox). (p : Packet) → IsInOne zs p ↔ Among p) (sym same) exact
-
 module _ (rules : Rules) (One Two : Packet → Type 0) (same : (p : Packet) → One p ↔ Two p) where
   decides_too : (e : Option Place) → DecidesOne rules (PassesAmong rules One) e ↔ DecidesOne rules (PassesAmong rules Two) e
   decides_too e = (

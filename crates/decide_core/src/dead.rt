@@ -44,7 +44,8 @@ fn dead_entry_places(alloc: Global, table: &Table) -> Result<Vec<Place>, AllocEr
     ensures dead { IfOk result (λ places. AreDeadEntries table.now (map (λ place. place.rule) places.items)) }
 {
     let entries = dead_entries(alloc, table)?;
-    entry_places(alloc, &entries)
+    let places = entry_places(alloc, &entries)?;
+    Ok(places)
 }
 
 /// Returns the places of the entries with these numbers.

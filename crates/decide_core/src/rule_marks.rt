@@ -31,7 +31,8 @@ impl RuleMarks {
         ensures marks { IfOk result (λ marks. HasMarks (rules_by classifier.now) marks) }
         ensures none { IfOk result (λ marks. (place : Place) → is_marked marks place ≡ false) }
     {
-        RuleMarks::unset(alloc, classifier)
+        let marks = RuleMarks::unset(alloc, classifier)?;
+        Ok(marks)
     }
 
     fn unset(alloc: Global, classifier: &Classifier<'_>) -> Result<RuleMarks, AllocError>

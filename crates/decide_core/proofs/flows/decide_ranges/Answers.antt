@@ -1,12 +1,11 @@
-use Rattle.std.proofs.Common.{refl, sym, ap, map, subst, ◌∙◌}
-use Rattle.std.specs.List.{All}
+use Rattle.std.proofs.Common.{refl, ap, map, ◌∙◌}
 use Rattle.std.proofs.lemmas.List.{take_all}
-use Rattle.std.proofs.lemmas.List.Elements.{All-nil}
+use Rattle.std.proofs.lemmas.List.Elements.{All-nil, All-push}
 use Rattle.audit_core.specs.RulesView.{rules_of}
 use Rattle.decide_core.specs.declared.flows.FlowRange.{FlowRange}
 use Rattle.decide_core.specs.Deciders.{AreDeciders}
 use Rattle.decide_core.specs.ServiceRanges.{HasServiceBetween}
-use Rattle.decide_core.proofs.FlowLemmas.{all_more, mapped_more}
+use Rattle.decide_core.proofs.FlowLemmas.{mapped_more}
 use Rattle.decide_core.proofs.flows.decide_ranges.Goals as goal
 
 pub loop-range-init : goal.loop-range-init
@@ -14,7 +13,7 @@ loop-range-init c =
     let Known = λ (r : FlowRange). AreDeciders (rules_of c.args.text.now) (HasServiceBetween c.args.from.now c.args.to.now r.range.low r.range.high) r.deciders in
     record {
       ranges = ap (map (λ (r : FlowRange). r.range)) c.new-list.ensures.items;
-      deciders = subst (All Known) (sym c.new-list.ensures.items) (All-nil Known);
+      deciders = rw c.new-list.ensures.items (All-nil Known);
     }
 
 pub deciders_between-requires-clause-services : goal.deciders_between-requires-clause-services
@@ -28,8 +27,7 @@ loop-range-preserved c =
           mapped_more (λ (r : FlowRange). r.range) c.args.ranges.now c.loop-range.range-index _ c.loop-range.list.items c.push.new.self.items _
           c.loop-range-test.true refl c.in_ok-push.ensures.items c.loop-range.invariant.ranges;
       deciders =
-          all_more Known c.loop-range.list.items c.push.new.self.items _ c.in_ok-push.ensures.items c.loop-range.invariant.deciders
-          c.in_ok-deciders.ensures;
+          rw c.in_ok-push.ensures.items (All-push Known c.loop-range.list.items _ c.loop-range.invariant.deciders c.in_ok-deciders.ensures);
     }
 
 pub returns-clause-ranges : goal.returns-clause-ranges

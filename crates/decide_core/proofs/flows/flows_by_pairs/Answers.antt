@@ -1,18 +1,13 @@
-use Rattle.std.proofs.Common.{List, sym, subst}
-use Rattle.std.specs.List.{All}
 use Rattle.std.proofs.lemmas.Result.{IfOk-weaker}
 use Rattle.audit_core.specs.RulesView.{rules_of}
 use Rattle.pass_core.specs.NewPackets.{LetsPass}
-use Rattle.pass_core.specs.Pairs.{AreListedByOwners}
-use Rattle.pass_core.specs.declared.pairs.PairServices.{PairServices}
 use Rattle.decide_core.specs.Flows.{AreFlows, AreFlowsOfEach}
-use Rattle.decide_core.specs.inner.Flows.{HasServices}
 use Rattle.decide_core.proofs.FlowLemmas.{listed_have_services}
 use Rattle.decide_core.proofs.flows.flows_by_pairs.Goals as goal
 
 pub decide_pairs-requires : goal.decide_pairs-requires
 decide_pairs-requires c =
-    subst (λ (l : List PairServices). All HasServices l) (sym c.deref.ensures.value)
+    rw c.deref.ensures.value
     (listed_have_services (LetsPass (rules_of c.args.text.now)) c.args.hosts.now c.in_ok-pairs.pairs.items c.in_ok-pairs.ensures)
 
 pub returns : goal.returns
@@ -20,8 +15,5 @@ returns c =
     let rules = rules_of c.args.text.now in
     let hosts = c.args.hosts.now in
     IfOk-weaker c.decide_pairs.result (λ flows. AreFlowsOfEach rules hosts c.deref.result.now flows.items) (λ flows. AreFlows rules hosts flows.items)
-    (λ flows each. record {
-      services = c.deref.result.now;
-      listed = subst (λ (l : List PairServices). AreListedByOwners (LetsPass rules) hosts l) (sym c.deref.ensures.value) c.in_ok-pairs.ensures;
-      each = each;
-    }) c.decide_pairs.ensures
+    (λ flows each. record { services = c.in_ok-pairs.pairs.items; listed = c.in_ok-pairs.ensures; each = rw c.deref.ensures.value at each })
+    c.decide_pairs.ensures

@@ -1,7 +1,5 @@
-use Rattle.std.proofs.Common.{◌+◌, ◌∙◌, List, sym, subst, arith, true≢false}
-use Rattle.ipt_rules.specs.declared.marks.Place.{Place}
-use Rattle.pass_core.specs.inner.Places.{AreBefore}
-use Rattle.pass_core.proofs.PlaceLaws.{at, passes_chain, passes_place, pushes}
+use Rattle.std.proofs.Common.{◌∙◌, sym, arith, true≢false}
+use Rattle.pass_core.proofs.PlaceLaws.{passes_chain, passes_place, pushes}
 use Rattle.decide_core.specs.inner.Marked.{IsMarked}
 use Rattle.decide_core.proofs.MarkedLemmas.{marked_rules}
 use Rattle.decide_core.proofs.marked.push_marked.Goals as goal
@@ -15,7 +13,7 @@ loop-rule-preserved c =
           pushes Holds c.loop-rule.places.items c.if-is_marked.places.items c.args.chain c.loop-rule.rule (sym c.is_marked.ensures ∙ w.if-is_marked.true)
           ((λ i. (w.places-is i).items) ∙ w.in_ok-push.ensures.items) c.loop-rule.invariant
       | else-is_marked w ↦
-          subst (λ (l : List Place). AreBefore Holds (at c.args.chain (c.loop-rule.rule + 1)) l) (λ i. (sym w.places-is i).items)
+          rw w.places-is
           (passes_place Holds c.loop-rule.places.items c.args.chain c.loop-rule.rule
           (λ on. true≢false (sym on ∙ sym c.is_marked.ensures ∙ w.if-is_marked.false)) c.loop-rule.invariant)
     ]
