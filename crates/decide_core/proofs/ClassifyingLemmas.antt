@@ -1,7 +1,7 @@
 -- The results of a classifier, and marks for its rules, none of them set.
 use Rattle.std.proofs.Common.{◌≡◌, ◌↔◌, inl, inr, ℕ, zero, suc, ◌+◌, ◌<◌, ◌≤◌, ◌∙◌, Bool, true, false, IsTrue, List, [], ◌∷◌, ◌++◌, Option, Some, None, length, replicate, slice_get, refl, sym, ap, subst, arith}
 use Rattle.std.specs.Prelude.{IfSome, IsSome}
-use Rattle.std.specs.Option.{option_and_then, option_map_or, unwrap_or}
+use Rattle.std.specs.Option.{option_and_then}
 use Rattle.std.proofs.lemmas.Bool.{cases_lt}
 use Rattle.std.proofs.lemmas.List.{length-replicate}
 use Rattle.std.proofs.lemmas.List.FromFn.{get_or-map-range_with_len, length-map-range_with_len, map-range_with_len_more}
@@ -87,26 +87,14 @@ none_past (Chains chains) c past = no_rules chains c past
 none_past (Entries entries) zero past = absurd (omega (arith, past))
 none_past (Entries entries) (suc c) past = refl
 
-abbrev row_in : Option (List Bool) → List Bool
-row_in row = option_map_or (λ (x : List Bool). x) row []
-
-abbrev mark_in : Option (List Bool) → ℕ → Bool
-mark_in row n = unwrap_or (slice_get (row_in row) n) false
-
-unset_has : (rules : Rules) → HasMarks rules (unset_marks rules (chain_count rules))
+pub unset_has : (rules : Rules) → HasMarks rules (unset_marks rules (chain_count rules))
 unset_has rules c = elim (cases_lt c (chain_count rules)) [
-  | inl low ↦ ap (λ (o : Option (List Bool)). length (row_in o)) (get_row rules (chain_count rules) c low) ∙ length-replicate (count_in rules c) false
-  | inr past ↦ ap (λ (o : Option (List Bool)). length (row_in o)) (no_row rules (chain_count rules) c past) ∙ sym (none_past rules c past)
+  | inl low ↦ rw (get_row rules (chain_count rules) c low) (length-replicate (count_in rules c) false)
+  | inr past ↦ rw (no_row rules (chain_count rules) c past) (sym (none_past rules c past))
 ]
 
-unset_none : (rules : Rules) (n : ℕ) (place : Place) → is_marked (unset_marks rules n) place ≡ false
+pub unset_none : (rules : Rules) (n : ℕ) (place : Place) → is_marked (unset_marks rules n) place ≡ false
 unset_none rules n place = elim (cases_lt place.chain n) [
-  | inl low ↦ ap (λ (o : Option (List Bool)). mark_in o place.rule) (get_row rules n place.chain low) ∙ none_returns (count_in rules place.chain) place.rule
-  | inr past ↦ ap (λ (o : Option (List Bool)). mark_in o place.rule) (no_row rules n place.chain past)
+  | inl low ↦ rw (get_row rules n place.chain low) (none_returns (count_in rules place.chain) place.rule)
+  | inr past ↦ rw (no_row rules n place.chain past)
 ]
-
-pub has_marks : (rules : Rules) (marks : List (List Bool)) → marks ≡ unset_marks rules (chain_count rules) → HasMarks rules marks
-has_marks rules marks is = subst (λ (m : List (List Bool)). HasMarks rules m) (sym is) (unset_has rules)
-
-pub none_marked : (rules : Rules) (n : ℕ) (marks : List (List Bool)) → marks ≡ unset_marks rules n → (place : Place) → is_marked marks place ≡ false
-none_marked rules n marks is place = ap (λ (m : List (List Bool)). is_marked m place) is ∙ unset_none rules n place

@@ -12,11 +12,11 @@ use Rattle.ipt_rules.specs.declared.marks.Place.{Place}
 use Rattle.ipt_rules.specs.Marks.{is_marked}
 use Rattle.ofp_rules.specs.declared.entry.Entry.{Entry}
 use Rattle.audit_core.specs.Classes.{numbers_where}
-use Rattle.audit_core.specs.Rules.{Rules, Entries}
+use Rattle.audit_core.specs.Rules.{Entries}
 use Rattle.audit_core.proofs.FaultLaws.{in_every, packet_in_every}
 use Rattle.audit_core.proofs.RepresentativeLemmas.{where_has, where_only}
 use Rattle.decide_core.specs.DeadEntries.{AreDeadEntries, IsDeadEntry}
-use Rattle.decide_core.specs.Deciders.{DecidesOne, IsDecider}
+use Rattle.decide_core.specs.Deciders.{DecidesOne}
 use Rattle.decide_core.specs.inner.Deciding.{Counts, CountsAmong, Deciding, IsKnown, NotesMoreIn, is_noted}
 use Rattle.decide_core.specs.inner.Marked.{entry_at, unmarked_below}
 
@@ -38,16 +38,12 @@ module _ (entries : List Entry) (b : PacketBox) (x y : Deciding) (same : x.rules
 
   unmarked_dead : (k : ℕ) → is_marked y.marks (entry_at k) ≡ false → IsDeadEntry entries k
   unmarked_dead k off p is decides =
-      let inside : IsIn b p = subst (λ (c : PacketBox). IsIn c p) (sym every) (in_every p is) in
-      let decides_by : IsDecider y.rules p (Some (entry_at k)) =
-      subst (λ (r : Rules). IsDecider r p (Some (entry_at k))) (sym (more.rules ∙ same)) (refl, decides)
-      in
-      true≢false (sym (known p inside (counts p) (Some (entry_at k)) decides_by) ∙ off)
+      let inside : IsIn b p = rw every (in_every p is) in
+      true≢false (sym (known p inside (counts p) (Some (entry_at k)) (rw (more.rules, same) (refl, decides))) ∙ off)
 
   dead_decides : (k : ℕ) → IsDeadEntry entries k → DecidesOne x.rules (CountsAmong x (IsIn b)) (Some (entry_at k)) → ⊥
   dead_decides k dead one =
-      dead one.packet (packet_in_every one.packet (subst (λ (c : PacketBox). IsIn c one.packet) every one.among.0))
-      (subst (λ (r : Rules). IsDecider r one.packet (Some (entry_at k))) same one.decides).1
+      let decides = rw same at one.decides in dead one.packet (packet_in_every one.packet (rw every at one.among.0)) decides.1
 
   dead_unmarked : (k : ℕ) → IsDeadEntry entries k → is_marked y.marks (entry_at k) ≡ false
   dead_unmarked k dead =

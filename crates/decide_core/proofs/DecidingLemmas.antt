@@ -1,5 +1,5 @@
 -- Marks on the rules that decide packets, box by box.
-use Rattle.std.proofs.Common.{◌≡◌, ◌⊎◌, ◌↔◌, inl, inr, ℕ, zero, suc, ◌+◌, ◌<◌, ◌∙◌, Bool, true, IsTrue, List, [], ◌∷◌, Option, Some, None, get_or, length, take, refl, sym, ap, subst, arith}
+use Rattle.std.proofs.Common.{◌≡◌, ◌⊎◌, ◌↔◌, inl, inr, ℕ, zero, suc, ◌+◌, ◌<◌, ◌∙◌, true, IsTrue, List, [], ◌∷◌, Option, Some, None, get_or, length, take, refl, sym, ap, subst, arith}
 use Rattle.std.specs.Prelude.{IfSome}
 use Rattle.std.proofs.lemmas.List.{take_more}
 use Rattle.host_net.specs.declared.packet.Packet.{Packet}
@@ -57,11 +57,7 @@ module _ (x : Deciding) where
     only = λ e on. elim (noted_only d there e on) [
       | inl old ↦ inl old
       | inr same ↦
-          inr (record {
-            packet = p;
-            among = (among, counts);
-            decides = subst (λ (o : Option Place). IsDecider x.rules p o) (sym same) decides;
-          })
+          inr (record { packet = p; among = (among, counts); decides = rw same decides })
     ];
   }
 
@@ -72,8 +68,7 @@ module _ (x : Deciding) where
 
   noted_known : (d : Option Place) (p : Packet) → IsThere x d → ((other : Option Place) → IsDecider x.rules p other → other ≡ d) → IsKnown (noted x d) p
   noted_known d p there only = λ counts other decides.
-      let same = only other (subst (λ (r : Rules). IsDecider r p other) (same_rules d) decides) in
-      subst (λ (o : Option Place). IsTrue (is_noted (noted x d) o)) (sym same) (noted_self d there)
+      rw (only other (rw (same_rules d) at decides)) (noted_self d there)
 
   pub visit_known : (y : Deciding) (d : Option Place) (p : Packet) → y ≡ noted x d → IsThere x d
       → ((other : Option Place) → IsDecider x.rules p other → other ≡ d) → IsKnown y p
@@ -114,23 +109,10 @@ module _ (boxes : List PacketBox) (i : ℕ) (d : PacketBox) (low : i < length bo
 -- ---- all deciders of packets that pass
 
 module _ (rules : Rules) (Among : Packet → Type 0) (x : Deciding) (same : x.rules ≡ rules) (passing : x.passing ≡ true) (has : HasNoted Among x) where
-  passes : (e : Option Place) → DecidesOne x.rules (CountsAmong x Among) e → DecidesOne rules (PassesAmong rules Among) e
-  passes e one = record {
-    packet = one.packet;
-    among = (
-      one.among.0,
-      subst (λ (b : Bool). Counts rules b one.packet) passing (subst (λ (r : Rules). Counts r x.passing one.packet) same one.among.1),
-    );
-    decides = subst (λ (r : Rules). IsDecider r one.packet e) same one.decides;
-  }
-
   noted_iff : (e : Option Place) → IsTrue (is_noted x e) ↔ DecidesOne rules (PassesAmong rules Among) e
   noted_iff e = (
-    λ on. passes e (has.only e on),
-    λ one.
-        has.known one.packet one.among.0
-        (subst (λ (r : Rules). Counts r x.passing one.packet) (sym same) (subst (λ (b : Bool). Counts rules b one.packet) (sym passing) one.among.1)) e
-        (subst (λ (r : Rules). IsDecider r one.packet e) (sym same) one.decides),
+    λ on. rw (same, passing) at (has.only e on),
+    λ one. has.known one.packet one.among.0 (rw (same, passing) one.among.1) e (rw same one.decides),
   )
 
   pub are_deciders : (d : Deciders) → AreMarked x.marks d.places.items → d.by_default ≡ x.by_default → AreDeciders rules Among d

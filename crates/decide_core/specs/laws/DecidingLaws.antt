@@ -1,10 +1,9 @@
 -- Laws of added marks on deciders.
-use Rattle.std.proofs.Common.{◌≡◌, inl, inr, ◌∙◌, refl, subst, Bool, Option}
+use Rattle.std.proofs.Common.{◌≡◌, inl, inr, ◌∙◌, refl, Option}
 use Rattle.host_net.specs.declared.packet.Packet.{Packet}
 use Rattle.ipt_rules.specs.declared.marks.Place.{Place}
-use Rattle.audit_core.specs.Rules.{Rules}
-use Rattle.decide_core.specs.Deciders.{DecidesOne, IsDecider}
-use Rattle.decide_core.specs.inner.Deciding.{Counts, CountsAmong, Deciding, IsKnown, NotesMore}
+use Rattle.decide_core.specs.Deciders.{DecidesOne}
+use Rattle.decide_core.specs.inner.Deciding.{CountsAmong, Deciding, IsKnown, NotesMore}
 
 pub notes_by_none : (Among : Packet → Type 0) (x : Deciding) → NotesMore Among x x
 notes_by_none Among x = record { rules = refl; passing = refl; kept = λ decider on. on; only = λ decider on. inl on }
@@ -12,14 +11,7 @@ notes_by_none Among x = record { rules = refl; passing = refl; kept = λ decider
 -- With equal rules, the same deciders have to be marked.
 pub same_one : (Among : Packet → Type 0) (x y : Deciding) (decider : Option Place) → y.rules ≡ x.rules → y.passing ≡ x.passing
     → DecidesOne y.rules (CountsAmong y Among) decider → DecidesOne x.rules (CountsAmong x Among) decider
-same_one Among x y decider rules passing one = record {
-  packet = one.packet;
-  among = (
-    one.among.0,
-    subst (λ (b : Bool). Counts x.rules b one.packet) passing (subst (λ (r : Rules). Counts r y.passing one.packet) rules one.among.1),
-  );
-  decides = subst (λ (r : Rules). IsDecider r one.packet decider) rules one.decides;
-}
+same_one Among x y decider rules passing one = rw (rules, passing) at one
 
 pub notes_by_both : (Among : Packet → Type 0) (x y z : Deciding) → NotesMore Among x y → NotesMore Among y z → NotesMore Among x z
 notes_by_both Among x y z one two = record {
@@ -46,6 +38,4 @@ notes_by_more Among Part x y only more = record {
 
 pub known_still : (Among : Packet → Type 0) (x y : Deciding) (p : Packet) → NotesMore Among x y → IsKnown x p → IsKnown y p
 known_still Among x y p more known = λ counts decider decides.
-    more.kept decider
-    (known (subst (λ (b : Bool). Counts x.rules b p) more.passing (subst (λ (r : Rules). Counts r y.passing p) more.rules counts)) decider
-    (subst (λ (r : Rules). IsDecider r p decider) more.rules decides))
+    more.kept decider (known (rw (more.rules, more.passing) at counts) decider (rw more.rules at decides))
