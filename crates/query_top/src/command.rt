@@ -3,8 +3,7 @@
 ghost use Rattle.std.specs.Prelude.{◌≡◌, map, string_bytes, option_map};
 ghost use Rattle.topos_top.specs.inner.Forms.{among};
 ghost use Rattle.query_top.specs.Command.{usage_text};
-ghost use Rattle.query_top.specs.inner.Command.{command_of, forms};
-ghost use Rattle.query_top.specs.inner.Views.{command_view};
+ghost use Rattle.query_top.specs.inner.Command.{command_of, command_view, forms};
 
 use topos_top::{Dialect, one_word, three_words, two_words};
 

@@ -5,7 +5,7 @@ ghost use Rattle.topos_top.specs.Replies.{IsPossibleReply};
 ghost use Rattle.topos_top.specs.Shelf.{shelf_change};
 ghost use Rattle.topos_top.specs.inner.Views.{reply_in};
 ghost use Rattle.query_top.specs.Commands.{plan_of};
-ghost use Rattle.query_top.specs.inner.Views.{command_view};
+ghost use Rattle.query_top.specs.inner.Command.{command_view};
 
 use crate::command::Command;
 use crate::{changes, compare, flows, network, why};

@@ -3,9 +3,8 @@
 ghost use Rattle.std.specs.Prelude.{◌≡◌, ◌≤◌, map, string_bytes, option_map, IfSome};
 ghost use Rattle.host_net.specs.Limits.{host_limit};
 ghost use Rattle.topos_top.specs.Command.{usage_text};
-ghost use Rattle.topos_top.specs.inner.Command.{command_of, parse_host_count, forms};
+ghost use Rattle.topos_top.specs.inner.Command.{IsWithinHosts, command_of, command_view, parse_host_count, forms};
 ghost use Rattle.topos_top.specs.inner.Forms.{among, one_word, two_words, three_words};
-ghost use Rattle.topos_top.specs.inner.Views.{command_view, IsWithinHosts};
 
 use crate::dialect::Dialect;
 use host_net::HOST_LIMIT;

@@ -6,7 +6,8 @@ ghost use Rattle.topos_top.specs.Commands.{plan_of};
 ghost use Rattle.topos_top.specs.CommandPlan.{ReadsNothing};
 ghost use Rattle.topos_top.specs.Replies.{IsPossibleReply};
 ghost use Rattle.topos_top.specs.Shelf.{shelf_change};
-ghost use Rattle.topos_top.specs.inner.Views.{command_view, reply_in, IsWithinHosts};
+ghost use Rattle.topos_top.specs.inner.Command.{command_view, IsWithinHosts};
+ghost use Rattle.topos_top.specs.inner.Views.{reply_in};
 
 use crate::answer::Answer;
 use crate::command::Command;

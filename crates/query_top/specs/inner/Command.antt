@@ -2,6 +2,8 @@
 use Rattle.std.specs.Prelude.{ℕ, List, [], ◌∷◌, Option, None, codes}
 use Rattle.topos_top.specs.inner.Forms.{Form, among, of_file, of_three, of_two, with_two_files}
 use Rattle.query_top.specs.Command.{Command, Changes, Compare, Flows, Network, Why}
+use Rattle.query_top.specs.declared.command.Command.{Command as CodeCommand}
+use Rattle.query_top.specs.declared.command.Command.TheVariants as command
 
 -- All forms.
 abbrev pub forms : List (Form Command)
@@ -16,3 +18,11 @@ forms =
 unfoldable pub command_of : List (List ℕ) → Option Command
 command_of [] = None
 command_of (word ∷ rest) = among forms word rest
+
+-- The model of a question of the code.
+abbrev pub command_view : CodeCommand → Command
+command_view (command.Why file from to) = Why file.now from.now to.now
+command_view (command.Network file) = Network file.now
+command_view (command.Flows dialect file rules) = Flows dialect file.now rules.now
+command_view (command.Compare dialect file rules) = Compare dialect file.now rules.now
+command_view (command.Changes old new) = Changes old.now new.now

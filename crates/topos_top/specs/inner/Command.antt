@@ -1,9 +1,11 @@
 -- Parsing the arguments of a command line. The promises of `run` use it only through the commands that the arguments form.
-use Rattle.std.specs.Prelude.{ℕ, ◌==◌, List, [], ◌∷◌, Option, None, Some, option_map, codes, if◌then◌else◌}
+use Rattle.std.specs.Prelude.{ℕ, ◌≤◌, ◌==◌, List, [], ◌∷◌, Option, None, Some, option_map, codes, if◌then◌else◌}
 use Rattle.std.specs.Option.{option_and_then}
 use Rattle.host_net.specs.Limits.{host_limit}
 use Rattle.text_core.specs.inner.Decimal.{number}
 use Rattle.topos_top.specs.Command.{Command, Check, Policy, Rules, Repair, Trace, Sample, Migrate, Audit, Edit, Local}
+use Rattle.topos_top.specs.declared.command.Command.{Command as CodeCommand}
+use Rattle.topos_top.specs.declared.command.Command.TheVariants as command
 use Rattle.topos_top.specs.inner.Forms.{Form, among, in_dialect, of_file, of_two, one_word, with_two_files}
 
 -- The number of hosts that an argument denotes: a decimal number from 1 to the host limit.
@@ -28,3 +30,21 @@ forms =
 unfoldable pub command_of : List (List ℕ) → Option Command
 command_of [] = None
 command_of (word ∷ rest) = among forms word rest
+
+-- The model of a command of the code.
+abbrev pub command_view : CodeCommand → Command
+command_view (command.Check file) = Check file.now
+command_view (command.Policy file) = Policy file.now
+command_view (command.Rules dialect file) = Rules dialect file.now
+command_view (command.Repair dialect file) = Repair dialect file.now
+command_view (command.Trace dialect rules events) = Trace dialect rules.now events.now
+command_view (command.Sample hosts) = Sample hosts
+command_view (command.Migrate file) = Migrate file.now
+command_view (command.Audit dialect file rules) = Audit dialect file.now rules.now
+command_view (command.Edit file edits) = Edit file.now edits.now
+command_view (command.Local file host) = Local file.now host.now
+
+-- The number of hosts of a sample is at most the host limit.
+abbrev pub IsWithinHosts : Command → Type 0
+IsWithinHosts (Sample hosts) = hosts ≤ host_limit
+IsWithinHosts _ = Unit {0}

@@ -1,5 +1,5 @@
--- The models of the code's commands and replies. No promise of `run` depends on it.
-use Rattle.std.specs.Prelude.{◌≤◌, ℕ, List, Result, Ok, Err, map}
+-- The models of the code's replies. No promise of `run` depends on it.
+use Rattle.std.specs.Prelude.{ℕ, List, Result, Ok, Err, map}
 use Rattle.std.specs.List.{concat}
 use Rattle.std.specs.Result.{result_map_both}
 use Rattle.std.specs.Global.{Global}
@@ -11,18 +11,14 @@ use Rattle.edit_core.specs.inner.Kept.{table_of}
 use Rattle.edit_core.specs.Edit as meant
 use Rattle.edit_core.specs.inner.EditView.{edit_view}
 use Rattle.edit_core.specs.declared.edit.Edit.{Edit as CodeEdit}
-use Rattle.host_net.specs.Limits.{host_limit}
 use Rattle.ipt_rules.specs.Text.{text_lines as chains_lines}
 use Rattle.ofp_rules.specs.Text.{text_lines as table_lines}
 use Rattle.report_core.specs.RefusalLine.{refusal_text}
 use Rattle.toml.specs.Data.{Members}
 use Rattle.toml.specs.declared.value.Value.{Value}
-use Rattle.topos_top.specs.Command.{Command, Check, Policy, Rules, Repair, Trace, Sample, Migrate, Audit, Edit, Local}
 use Rattle.topos_top.specs.Reply.{Reply, cannot_read, error, no_memory}
 use Rattle.topos_top.specs.TextFault.{fault_line, edit_fault_line}
 use Rattle.topos_top.specs.declared.answer.Answer.{Answer}
-use Rattle.topos_top.specs.declared.command.Command.{Command as CodeCommand}
-use Rattle.topos_top.specs.declared.command.Command.TheVariants as command
 use Rattle.topos_top.specs.declared.dialect.Rules.{Rules as CodeRules}
 use Rattle.topos_top.specs.declared.dialect.Rules.TheVariants as rules
 use Rattle.topos_top.specs.declared.status.Status.{Status}
@@ -30,23 +26,6 @@ use Rattle.topos_top.specs.declared.status.Status.TheVariants.{BadDescription}
 use Rattle.topos_top.specs.declared.status.Stream.{Stream}
 use Rattle.topos_top.specs.declared.text.Text.{Text}
 use Rattle.topos_top.specs.declared.text.Text.TheVariants as text
-
-abbrev pub command_view : CodeCommand → Command
-command_view (command.Check file) = Check file.now
-command_view (command.Policy file) = Policy file.now
-command_view (command.Rules dialect file) = Rules dialect file.now
-command_view (command.Repair dialect file) = Repair dialect file.now
-command_view (command.Trace dialect rules events) = Trace dialect rules.now events.now
-command_view (command.Sample hosts) = Sample hosts
-command_view (command.Migrate file) = Migrate file.now
-command_view (command.Audit dialect file rules) = Audit dialect file.now rules.now
-command_view (command.Edit file edits) = Edit file.now edits.now
-command_view (command.Local file host) = Local file.now host.now
-
--- The number of hosts of a sample is at most the host limit.
-abbrev pub IsWithinHosts : Command → Type 0
-IsWithinHosts (Sample hosts) = hosts ≤ host_limit
-IsWithinHosts _ = Unit {0}
 
 -- Parsed rules, in the form of an audit.
 abbrev pub rules_view : CodeRules → AuditedRules
