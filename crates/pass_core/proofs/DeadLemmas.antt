@@ -1,5 +1,5 @@
 -- The places of unmarked rules are the places of dead rules.
-use Rattle.std.proofs.Common.{◌≡◌, inl, inr, ℕ, zero, suc, ◌<◌, ◌≤◌, Bool, false, List, [], ◌∷◌, length, refl, sym, subst, ◌∙◌, arith}
+use Rattle.std.proofs.Common.{◌≡◌, inl, inr, ℕ, zero, suc, ◌<◌, ◌≤◌, false, List, [], ◌∷◌, length, refl, sym, ◌∙◌, arith}
 use Rattle.std.proofs.lemmas.Bool.{cases_lt, false_from_ne_true, true≢false}
 use Rattle.host_net.specs.declared.packet.Packet.{Packet}
 use Rattle.header_space.specs.declared.packet_box.PacketBox.{PacketBox}
@@ -7,7 +7,6 @@ use Rattle.header_space.specs.Boxes.{IsIn, every_packet}
 use Rattle.ipt_rules.specs.declared.marks.Place.{Place}
 use Rattle.ipt_rules.specs.Chain.{Chain, rules_of}
 use Rattle.ipt_rules.specs.Marks.{is_marked}
-use Rattle.ipt_rules.specs.Meets.{IsMet}
 use Rattle.ipt_rules.specs.inner.OneOutcome.{AreDeterministic}
 use Rattle.ipt_rules.proofs.DeadRuleLaws.{same_verdicts}
 use Rattle.audit_core.proofs.FaultLaws.{in_every, packet_in_every}
@@ -35,14 +34,11 @@ module _ (chains : List Chain) (b : PacketBox) (old new : MetRules) (same : old.
     (none : (place : Place) → is_marked old.marks place ≡ false) (more : MarksMore b old new) (known : (p : Packet) → IsIn b p → AreMarked new p) where
   unmarked_dead : (place : Place) → is_marked new.marks place ≡ false → IsDead chains place
   unmarked_dead place off p state is met =
-      let inside : IsIn b p = subst (λ (x : PacketBox). IsIn x p) (sym every) (in_every p is) in
-      let there : IsMet new.chains p state place = subst (λ (cs : List Chain). IsMet cs p state place) (sym (more.chains ∙ same)) met in
-      true≢false (sym (known p inside state place there) ∙ off)
+      let inside : IsIn b p = rw every (in_every p is) in true≢false (sym (known p inside state place (rw (more.chains, same) met)) ∙ off)
 
   not_met : (place : Place) → IsDead chains place → IsMetWithin old.chains b place → ⊥
   not_met place dead within =
-      dead within.packet within.state (packet_in_every within.packet (subst (λ (x : PacketBox). IsIn x within.packet) every within.inside))
-      (subst (λ (cs : List Chain). IsMet cs within.packet within.state place) same within.met)
+      dead within.packet within.state (packet_in_every within.packet (rw every at within.inside)) (rw same at within.met)
 
   dead_unmarked : (place : Place) → IsDead chains place → is_marked new.marks place ≡ false
   dead_unmarked place dead =
@@ -52,7 +48,7 @@ module _ (chains : List Chain) (b : PacketBox) (old new : MetRules) (same : old.
         | inr within ↦ not_met place dead within
       ])
 
-  are_dead : (places : List Place) → AreBefore (IsUnmarked chains new.marks) (at (length chains) 0) places → AreDead chains places
+  pub are_dead : (places : List Place) → AreBefore (IsUnmarked chains new.marks) (at (length chains) 0) places → AreDead chains places
   are_dead places are = record {
     ascending = are.ascending;
     exact = λ place.
@@ -61,10 +57,6 @@ module _ (chains : List Chain) (b : PacketBox) (old new : MetRules) (same : old.
           λ dead. unmarked.1 (dead.0, dead_unmarked place dead.1),
         );
   }
-
-  pub dead_by : (marks : List (List Bool)) (places : List Place) → marks ≡ new.marks → AreBefore (IsUnmarked chains marks) (at (length chains) 0) places
-      → AreDead chains places
-  dead_by marks places is are = are_dead places (subst (λ (x : List (List Bool)). AreBefore (IsUnmarked chains x) (at (length chains) 0) places) is are)
 
 pub are_removable : (chains : List Chain) (places : List Place) → AreDeterministic chains → AreDead chains places → AreRemovable chains places
 are_removable chains places each dead p state v is =

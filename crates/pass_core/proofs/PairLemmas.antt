@@ -111,8 +111,7 @@ listed_push Listed (y ∷ ys) x ss one are listed = (
 pub listed_step : {A : Type 0} (Listed : A → List PairServices → Type 0) (xs : List A) (i : ℕ) (x : A) (old new : List PairServices) → i < length xs
     → x ≡ get_or xs i x → AreListedFor Listed (take i xs) old → IsAdded (Listed x) old new → AreListedFor Listed (take (i + 1) xs) new
 listed_step Listed xs i x old new within read are added =
-    subst (λ l. AreListedFor Listed l new) (sym (take_at xs i x within read))
-    (subst (λ (ss : List PairServices). AreListedFor Listed (take i xs ++ x ∷ []) ss) (sym added.1) (listed_push Listed (take i xs) x old added.0 are added.2))
+    rw (take_at xs i x within read, added.1) (listed_push Listed (take i xs) x old added.0 are added.2)
 
 pub added_step : {A : Type 0} (Listed : A → List PairServices → Type 0) (xs : List A) (i : ℕ) (x : A) (old mid new : List PairServices) → i < length xs
     → x ≡ get_or xs i x → IsAdded (λ ss. AreListedFor Listed (take i xs) ss) old mid → IsAdded (Listed x) mid new

@@ -173,10 +173,8 @@ module _ (Holds Part : Packet → Type 0) (areas : List Area) (first : Service) 
     passes = next_found true x.passes y.passes grows.passes way.passes;
     stays = next_found false x.stays y.stays grows.stays way.stays;
     covers = λ f is inside between.
-        let lasts = grows.last in
-        let to = between.1 in
-        let from : number x.first ≤ service_of f = subst (λ (t : Service). number t ≤ service_of f) grows.first between.0 in
-        elim (way.covers f is inside (from, omega (arith, lasts, to))) [
+        let from = rw grows.first at between.0 in
+        elim (way.covers f is inside (from, omega (arith, grows.last, between.1))) [
           | inl there ↦ elim (here_or_later f (subst (λ (xs : List Area). IsInOne xs f) same there)) [
             | inl here ↦ inr (recorded_here f is here between)
             | inr later ↦ inl later

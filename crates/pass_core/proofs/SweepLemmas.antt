@@ -112,13 +112,12 @@ module _ (Holds : Packet → Type 0) (Between : Packet → Type 0) (areas : List
       let p = fellow q n in
       let fits : IsPacket p = fellow_packet q n found.packet (omega (arith, to, small)) in
       let service : service_of p ≡ n = fellow_service q n in
-      let start = is.first in
       let fellows : AreFellows q p = record { src = refl; dst = refl; sport = refl } in (
         p,
         record {
           between = into p fits (in_same areas q p refl refl found.inside);
           service = service;
-          decided = found.alike p fellows fits (omega (arith, start, from, service)) (omega (arith, to, service));
+          decided = found.alike p fellows fits (omega (arith, is.first, from, service)) (omega (arith, to, service));
         },
       )
 
@@ -132,11 +131,9 @@ module _ (Holds : Packet → Type 0) (Between : Packet → Type 0) (areas : List
   example_of : (q : Packet) (passes : Bool) (p : Packet) → IsFound Holds areas (number s.first) (number s.last) passes p
       → IsExampleOf Holds Between (range_of s q) passes p
   example_of q passes p found =
-      let service = found.service in
-      let some = is.some in
       let fellows : AreFellows p p = record { src = refl; dst = refl; sport = refl } in
-      let low : number s.first ≤ service_of p = omega (arith, service) in
-      let high : service_of p ≤ number s.last = omega (arith, service, some) in
+      let low : number s.first ≤ service_of p = omega (arith, found.service) in
+      let high : service_of p ≤ number s.last = omega (arith, found.service, is.some) in
       record { between = into p found.packet found.inside; low = low; high = high; decided = found.alike p fellows found.packet low high }
 
   examples_of : (q : Packet) (o : Option Packet) → IsFoundIf Holds areas (number s.first) (number s.last) false o

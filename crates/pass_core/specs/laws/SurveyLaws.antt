@@ -5,7 +5,6 @@ use Rattle.header_space.specs.declared.packet_box.PacketBox.{PacketBox}
 use Rattle.header_space.specs.Visits.{HasOnlyPacketsOf}
 use Rattle.pass_core.specs.declared.service.Service.{Service}
 use Rattle.pass_core.specs.declared.survey.Survey.{Survey}
-use Rattle.pass_core.specs.Services.{service_of}
 use Rattle.pass_core.specs.inner.Numbers.{number}
 use Rattle.pass_core.specs.inner.Surveying.{AreAlike, Grows, GrowsBy, IsFoundIn, IsKnown, IsRecorded, IsThere, Notes}
 
@@ -36,9 +35,7 @@ module _ (Holds : Packet → Type 0) where
   both b x y z one two = record {
     first = two.first ∙ one.first;
     last = omega (arith, one.last, two.last);
-    some = λ low.
-        let mid = one.some low in
-        subst (λ (s : Service). number s ≤ number z.last) one.first (two.some (subst (λ (s : Service). number s ≤ number y.last) (sym one.first) mid));
+    some = λ low. rw (← one.first) (two.some (rw one.first (one.some low)));
     passes = notes_both b y z true x.passes y.passes z.passes two.first two.last one.passes two.passes;
     stays = notes_both b y z false x.stays y.stays z.stays two.first two.last one.stays two.stays;
   }
@@ -67,10 +64,8 @@ module _ (Holds : Packet → Type 0) where
 
   known_still : (b : PacketBox) (x y : Survey) (p : Packet) → Grows Holds b x y → IsKnown Holds x p → IsKnown Holds y p
   known_still b x y p grows known = λ service f fellows is between.
-      let lasts = grows.last in
-      let to = between.1 in
-      let from : number x.first ≤ service_of f = subst (λ (s : Service). number s ≤ service_of f) grows.first between.0 in
-      recorded_still Holds b x y f grows (known (service ∙ ap number grows.first) f fellows is (from, omega (arith, lasts, to)))
+      let from = rw grows.first at between.0 in
+      recorded_still Holds b x y f grows (known (service ∙ ap number grows.first) f fellows is (from, omega (arith, grows.last, between.1)))
 
 -- ---- surveys with an unchanged question
 
