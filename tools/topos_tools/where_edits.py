@@ -23,6 +23,7 @@ class EditsText(LineText):
     def __init__(self, program: Program, page: Page, description: bytes | None = None) -> None:
         super().__init__(program, page)
         self.description, self.hosts = description, list[str]()
+        self.unread = set[int]()  # dropped lines whose hosts are not known
         self.before = (description if description is not None else EMPTY,)
         self.source = (description or b'').decode(errors='replace').lstrip('\ufeff')
         if description is not None and fault_in(self.source) is None:
@@ -64,9 +65,14 @@ class EditsText(LineText):
             is_other = all(words[1:2] and words[1].isdigit() for words in (mine, gone)) and mine[1] != gone[1] or \
                 gone[:1] and gone[0] in self.vocabulary and \
                 (gone[0] in ('add', 'remove')) != (mine[0] in ('add', 'remove'))
-            if (hosts & set(gone) or not set(gone) & set(self.hosts)) and not is_other:
+            is_unread = number in self.unread and gone[1:2] == mine[1:2] != [] and mine[1].isdigit()
+            if (is_unread or hosts & set(gone) or not set(gone) & set(self.hosts)) and not is_other:
                 return True
         return False
+
+    def go_on(self, refusal: Refusal, numbers: set[int] | None) -> bool:
+        self.unread |= (numbers or set()) if refusal.name in PARSED else set()
+        return super().go_on(refusal, numbers)
 
     def known(self) -> Iterable[str]:
         return *self.vocabulary, *self.hosts
