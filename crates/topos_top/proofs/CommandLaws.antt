@@ -26,7 +26,6 @@ use Rattle.topos_top.specs.Local.{machines_when}
 use Rattle.topos_top.specs.Rules.{ListedHolds, rules_when}
 use Rattle.topos_top.specs.Trace.{trace_outcomes}
 use Rattle.topos_top.specs.declared.dialect.Dialect.{Dialect}
-use Rattle.topos_top.specs.declared.kind.Kind.TheVariants as kind
 use Rattle.topos_top.specs.declared.status.Status.{Status}
 use Rattle.topos_top.proofs.AuditLaws.{agreement_tells, differ_or_agree, line_once, many_or_few, trace_once}
 use Rattle.topos_top.proofs.DialectLaws.{laws_of}

@@ -2,7 +2,6 @@
 //! expects.
 
 ghost use Rattle.std.specs.Prelude.{◌≡◌, IfOk, true};
-ghost use Rattle.audit_core.specs.RulesView.{rules_of};
 ghost use Rattle.topos_top.specs.Command.{Audit};
 ghost use Rattle.topos_top.specs.Audit.{audit_outcomes};
 ghost use Rattle.topos_top.specs.Dialects.{rule_dialect_of};
@@ -56,7 +55,7 @@ fn reply_for<'a, H: Shelf>(
     Answer::of_outcomes(answer(alloc, description, &rules))
 }
 
-/// Returns the reply of an audit of these rules.
+/// Returns the finding of an audit, or that there are too many packet classes.
 fn answer<'a>(
     alloc: Global,
     description: &Description,
@@ -64,17 +63,7 @@ fn answer<'a>(
 ) -> Result<Answer<'a>, AllocError>
     ensures { IfOk result (λ answer. Answers true (audit_outcomes description.now (rules_view rules.now)) (reply_view answer)) }
 {
-    finding(alloc, description, rules.audited())
-}
-
-/// Returns the finding of an audit, or that there are too many packet classes.
-fn finding<'a>(
-    alloc: Global,
-    description: &Description,
-    rules: audit_core::Text<'_>,
-) -> Result<Answer<'a>, AllocError>
-    ensures { IfOk result (λ answer. Answers true (audit_outcomes description.now (rules_of rules.entry)) (reply_view answer)) }
-{
+    let rules = rules.audited();
     // The call establishes that the rules have one verdict for each packet in each state.
     let _ = rules.rules();
     let policy = policy_of(alloc, description)?;
