@@ -1,7 +1,6 @@
 //! `compare DIALECT FILE RULES`: whether rules do what the policy of a network says, for each pair of owners.
 
 ghost use Rattle.std.specs.Prelude.{◌≡◌, All, IfOk, true};
-ghost use Rattle.audit_core.specs.RulesView.{rules_of};
 ghost use Rattle.query_core.specs.inner.Fitting.{FitsDifference};
 ghost use Rattle.topos_top.specs.Dialects.{rule_dialect_of};
 ghost use Rattle.topos_top.specs.CommandPlan.{reads, ends};
@@ -62,16 +61,7 @@ fn answer<'a>(
 ) -> Result<Answer<'a>, AllocError>
     ensures { IfOk result (λ answer. Answers true (compare_outcomes description.now (rules_view rules.now)) (reply_view answer)) }
 {
-    comparison(alloc, description, rules.audited())
-}
-
-fn comparison<'a>(
-    alloc: Global,
-    description: &Description,
-    rules: audit_core::Text<'_>,
-) -> Result<Answer<'a>, AllocError>
-    ensures { IfOk result (λ answer. Answers true (compare_outcomes description.now (rules_of rules.entry)) (reply_view answer)) }
-{
+    let rules = rules.audited();
     // The call establishes that the rules have one verdict for each packet in each state.
     let _ = rules.rules();
     let policy = policy_of(alloc, description)?;

@@ -1,7 +1,6 @@
 //! `flows DIALECT FILE RULES`: what rules let pass between the hosts of a network.
 
 ghost use Rattle.std.specs.Prelude.{IfOk, true};
-ghost use Rattle.audit_core.specs.RulesView.{rules_of};
 ghost use Rattle.topos_top.specs.Dialects.{rule_dialect_of};
 ghost use Rattle.topos_top.specs.CommandPlan.{reads, ends};
 ghost use Rattle.topos_top.specs.Outcomes.{Answers};
@@ -11,7 +10,7 @@ ghost use Rattle.topos_top.specs.inner.Views.{reply_in, reply_view, rules_view};
 ghost use Rattle.topos_top.specs.declared.kind.Kind.TheVariants as kind;
 ghost use Rattle.query_top.specs.Command.{Flows};
 ghost use Rattle.query_top.specs.Commands.{plan_of};
-ghost use Rattle.query_top.specs.Flows.{IsFlowsAnswer, flows_outcomes};
+ghost use Rattle.query_top.specs.Flows.{flows_outcomes};
 
 use decide_core::{dead_places, flows_by_pairs};
 use edge_io::Shelf;
@@ -53,18 +52,9 @@ fn reply_for<'a, H: Shelf>(
 fn answer<'a>(alloc: Global, hosts: &Hosts, rules: &Rules) -> Result<Answer<'a>, AllocError>
     ensures { IfOk result (λ answer. Answers true (flows_outcomes hosts.now (rules_view rules.now)) (reply_view answer)) }
 {
-    let text = flows_text(alloc, hosts, rules.audited())?;
-    Ok(Answer::done(Text::Bytes(text)))
-}
-
-fn flows_text(
-    alloc: Global,
-    hosts: &Hosts,
-    rules: audit_core::Text<'_>,
-) -> Result<Vec<u8>, AllocError>
-    ensures { IfOk result (λ text. IsFlowsAnswer hosts.now (rules_of rules.entry) text.items) }
-{
+    let rules = rules.audited();
     let flows = flows_by_pairs(alloc, &rules, hosts)?;
     let dead = dead_places(alloc, &rules)?;
-    flows_json(alloc, &rules, hosts, &flows, &dead)
+    let text = flows_json(alloc, &rules, hosts, &flows, &dead)?;
+    Ok(Answer::done(Text::Bytes(text)))
 }

@@ -1,6 +1,7 @@
 use Rattle.std.proofs.Common.{◌≡◌, ℕ, List, inl, refl, subst, sym, true}
 use Rattle.audit_core.specs.Rules.{Rules}
 use Rattle.host_net.specs.Host.{Host}
+use Rattle.query_core.proofs.FlowsLaws.{flows_fit}
 use Rattle.query_top.specs.Flows.{IsFlowsAnswer, flows_outcomes}
 use Rattle.topos_top.specs.Outcomes.{Answers}
 use Rattle.topos_top.specs.Reply.{Reply}
@@ -15,7 +16,15 @@ answers_flows : (hosts : List Host) (rules : Rules) (text : List ℕ) (given : R
 answers_flows hosts rules text given answer is =
     subst (λ (r : Reply). Answers true (flows_outcomes hosts rules) r) (sym is) (refl, inl (refl, tt, answer))
 
+pub flows_json-requires : goal.flows_json-requires
+flows_json-requires c =
+    let are = rw c.audited-rules.ensures at c.in_ok-flows.ensures in
+    rw c.deref.ensures.value (flows_fit (rules_view c.args.rules.now) c.args.hosts.now c.in_ok-flows.flows.items are)
+
 pub returns : goal.returns
 returns c =
+    let are = rw c.audited-rules.ensures at c.in_ok-flows.ensures in
+    let are_dead = rw c.audited-rules.ensures at c.in_ok-dead.ensures in
+    let written = rw (c.deref.ensures.value, c.deref-2.ensures.value, c.audited-rules.ensures) at c.in_ok-text.ensures in
     answers_flows c.args.hosts.now (rules_view c.args.rules.now) c.in_ok-text.text.items (reply_view c.done.result)
-    (subst (λ (rules : Rules). IsFlowsAnswer c.args.hosts.now rules c.in_ok-text.text.items) c.audited.ensures c.in_ok-text.ensures) c.done.ensures
+    (record { flows = c.in_ok-flows.flows.items; are = are; dead = c.in_ok-dead.dead.items; are_dead = are_dead; written = written }) c.done.ensures
