@@ -3,7 +3,7 @@ import ipaddress
 import re
 
 PREFIX, PORTS, STATE = re.compile(r'( !)? -([sd]) (\S+)'), re.compile(r'( !)? --([sd])port (\S+)'), re.compile(
-    r' -m conntrack --ctstate \w+')
+    r' -m conntrack (! )?--ctstate \w+')
 OTHERWISE = {'ACCEPT': 'DROP', 'DROP': 'ACCEPT', 'REJECT': 'ACCEPT'}
 
 
