@@ -1,3 +1,4 @@
 pub mod AttributeLaws
+pub mod DefaultLaws
 pub mod RuleLaws
 pub mod TemplateLaws

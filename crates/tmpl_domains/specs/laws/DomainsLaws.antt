@@ -1,7 +1,10 @@
--- The default of the domain hierarchy template is secure.
-use Rattle.std.specs.Prelude.{IfSome, Some, None}
+-- The default of the domain hierarchy template is secure, and no other attribute is.
+use Rattle.std.proofs.Common.{ℕ, ◌-◌, length, drop, Some, None, refl, sym}
+use Rattle.std.proofs.lemmas.List.{take-append-drop}
+use Rattle.std.specs.Prelude.{IfSome}
 use Rattle.inv_law.specs.inner.Resets.{IsSecureDefault}
-use Rattle.inv_law.specs.inner.Template.{MayHaveDefault}
+use Rattle.inv_law.specs.inner.Template.{MayHaveDefault, OnlyDefaultIsSecure}
+use Rattle.inv_law.specs.laws.DefaultLaws.{sender_lets_off}
 use Rattle.inv_law.specs.laws.TemplateLaws.{IsLawfulTemplate, lawful_edge}
 use Rattle.inv_law.specs.declared.strategy.Strategy.TheVariants.{Access}
 use Rattle.tmpl_domains.specs.Domains.{DomainsPass, IsPlace, domains}
@@ -16,3 +19,11 @@ domains_lawful = lawful_edge domains.name domains.strategy (λ place. IfSome pla
 
 pub domains_default : MayHaveDefault domains
 domains_default n host within = tt
+
+-- A host with a place reaches that place.
+pub domains_only : OnlyDefaultIsSecure domains
+domains_only n host None two is_host may other = absurd (other refl)
+domains_only n host (Some place) two is_host may other =
+    let kept : ℕ = length place.path - place.trust in
+    sender_lets_off domains.name domains.MayHave None (λ i. DomainsPass) (Some place) (Some place)
+    (λ n k. may) (λ n k. tt) (λ i passes. passes) (λ i. (drop kept place.path, sym (take-append-drop kept place.path))) n host two is_host

@@ -1,7 +1,8 @@
--- Dependability is downward closed and holds for the empty set, and the limit 0 is a secure default.
-use Rattle.std.proofs.Common.{◌≡◌, ℕ, ◌<◌, List, [], ◌∷◌, length, get_or, set, length-set, ◌↔◌, inl, inr, sym, subst, arith}
+-- Dependability is downward closed and holds for the empty set, and the limit 0 is a secure default, the only one.
+use Rattle.std.proofs.Common.{◌≡◌, ◌≢◌, ℕ, ◌<◌, List, [], ◌∷◌, length, replicate, get_or, set, length-set, ◌↔◌, inl, inr, refl, sym, ◌∙◌, subst, arith, get_or-set_same}
 use Rattle.std.specs.Prelude.{IsTrue, slice_index, slice_set}
 use Rattle.std.proofs.lemmas.Bool.{cases_eq}
+use Rattle.std.proofs.lemmas.List.{get_or-replicate, length-replicate}
 use Rattle.flow_set.specs.declared.flow.Flow.{Flow}
 use Rattle.flow_set.specs.Flow.{IsFlow}
 use Rattle.flow_set.specs.FlowSet.{has}
@@ -10,7 +11,8 @@ use Rattle.flow_set.specs.inner.Downward.{IsDownwardClosed}
 use Rattle.inv_law.specs.inner.Invariants.{ResetPreservesViolation}
 use Rattle.inv_law.specs.laws.AttributeLaws.{get_or-set_default}
 use Rattle.inv_law.specs.Template.{AnyAttribute}
-use Rattle.inv_law.specs.inner.Template.{MayHaveDefault}
+use Rattle.inv_law.specs.inner.Template.{MayHaveDefault, OnlyDefaultIsSecure}
+use Rattle.inv_law.specs.laws.DefaultLaws.{Another, another, one_offends}
 use Rattle.inv_law.specs.laws.TemplateLaws.{IsLawfulTemplate, lawful_walk}
 use Rattle.inv_law.specs.declared.strategy.Strategy.TheVariants.{Access}
 use Rattle.reach_core.specs.Walks.{ReachesAtMost}
@@ -70,3 +72,28 @@ dependability_lawful =
 
 pub dependability_default : MayHaveDefault dependability
 dependability_default n host within = tt
+
+-- A host with a limit above 0 may reach one other.
+pub dependability_only : OnlyDefaultIsSecure dependability
+dependability_only n host x two is_host may other =
+    let o : Another n host = another n host two in
+    let hosts : List ℕ = replicate n 0 in
+    let f : Flow = record { from = host; to = o.other } in
+    let sized : length hosts ≡ n = length-replicate n 0 in
+    let after : length (set hosts host x) ≡ n = length-set hosts host x ∙ sized in
+    let apart : host ≢ o.other = λ same. o.apart (sym same) in
+    record {
+      hosts = hosts;
+      sized = sized;
+      may = λ k within. tt;
+      flow = f;
+      is_flow = (is_host, o.within, apart);
+      offends = one_offends (IsDependable hosts) f (IsDependable-none hosts) (λ holds.
+          let some : 0 < slice_index hosts host = (IsDependable-one hosts f (omega (arith, sized), omega (arith, sized), apart)).1 holds in
+          let none : slice_index hosts host ≡ 0 = get_or-replicate n host 0 0 is_host in
+          omega arith);
+      blamed = record { flow = f; offends = has_first f []; blamed = refl };
+      holds_without = (IsDependable-one (set hosts host x) f (omega (arith, after), omega (arith, after), apart)).0
+          (let now : slice_index (set hosts host x) host ≡ x = get_or-set_same hosts host x 0 (omega (arith, sized)) in
+          omega (arith, now));
+    }

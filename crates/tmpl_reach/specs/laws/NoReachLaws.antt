@@ -1,20 +1,22 @@
--- No-reach is downward closed and holds for the empty set, and denying all others is a secure default.
-use Rattle.std.proofs.Common.{◌≡◌, ◌≢◌, ℕ, not, ◌&&◌, nat_eq, nat_lt, List, [], ◌∷◌, length, ◌↔◌, inl, inr, refl, sym, ◌∙◌, ap, subst, get_or-set_same, arith}
+-- No-reach is downward closed and holds for the empty set, and denying all others is a secure default, the only one.
+use Rattle.std.proofs.Common.{◌≡◌, ◌≢◌, ℕ, suc, zero, Bool, true, false, not, ◌&&◌, ◌||◌, nat_eq, nat_lt, List, [], ◌∷◌, length, replicate, ◌↔◌, inl, inr, refl, sym, ◌∙◌, ap, subst, get_or-set_same, length-set, arith}
 use Rattle.std.specs.Ordering.{nat_cmp}
-use Rattle.std.specs.Prelude.{◌<◌, IsTrue, slice_set}
+use Rattle.std.specs.Prelude.{◌⊎◌, ◌<◌, IsTrue, slice_set}
 use Rattle.std.specs.FinSet as set
-use Rattle.std.proofs.lemmas.Bool.{and_from, and_parts, eq-eqb, eqb-true, false≢true, lt-ltb, ltb-true, ne_eqb, not_from_false, not_from_true, or_cases, or_left}
+use Rattle.std.proofs.lemmas.Bool.{and_from, and_parts, cases_Bool, cases_eq, eq-eqb, eqb-false, eqb-true, false_from_ne_true, false≢true, lt-ltb, ltb-true, ne_eqb, not_from_false, not_from_true, or_cases, or_left, or_parts}
+use Rattle.std.proofs.lemmas.List.{length-replicate}
 use Rattle.flow_set.specs.declared.flow.Flow.{Flow}
 use Rattle.flow_set.specs.Flow.{IsFlow}
 use Rattle.flow_set.specs.FlowSet.{has}
 use Rattle.flow_set.specs.laws.FlowLaws.{has_first}
 use Rattle.flow_set.specs.inner.Downward.{IsDownwardClosed}
 use Rattle.inv_law.specs.inner.Invariants.{ResetPreservesViolation}
-use Rattle.inv_law.specs.inner.Template.{MayHaveDefault}
+use Rattle.inv_law.specs.inner.Template.{LetsOff, MayHaveDefault, OnlyDefaultIsSecure}
+use Rattle.inv_law.specs.laws.DefaultLaws.{AllMayHave-one, one_offends}
 use Rattle.inv_law.specs.laws.TemplateLaws.{IsLawfulTemplate, lawful_walk}
 use Rattle.inv_law.specs.declared.strategy.Strategy.TheVariants.{Access}
 use Rattle.flow_set.specs.HostSet.{HostNumbers}
-use Rattle.flow_set.specs.laws.HostSetLaws.{contains-hosts_below, contains-insert}
+use Rattle.flow_set.specs.laws.HostSetLaws.{contains-hosts_below, contains-insert, hosts_ext}
 use Rattle.reach_core.specs.laws.ReachLaws.{Reaches-within, Reaches-none, Reaches-one, reaches_over}
 use Rattle.tmpl_reach.specs.NoReach.{AreOthers, no_reach, others, denied_by, ReachesNoDenied}
 use Rattle.tmpl_reach.specs.inner.Resets.{ReachesNoDeniedAfterReset}
@@ -93,3 +95,64 @@ example_chain holds =
 pub no_reach_lawful : IsLawfulTemplate no_reach
 no_reach_lawful =
     lawful_walk no_reach.name no_reach.strategy AreOthers others ReachesNoDenied ReachesNoDenied-downward ReachesNoDenied-none ReachesNoDenied-reset
+
+-- A test is satisfied by every number below n, or there is one that fails it.
+all_or_one : (test : ℕ → Bool) (n : ℕ) → ((j : ℕ) → j < n → test j ≡ true) ⊎ ((j : ℕ) × (j < n) × (test j ≡ false))
+all_or_one test zero = inl (λ j below. absurd (omega arith))
+all_or_one test (suc n) =
+    elim (all_or_one test n) [
+      | inr one ↦ inr (one.0, omega (arith, one.1), one.2)
+      | inl all ↦ elim (cases_Bool (test n)) [
+        | inr fails ↦ inr (n, omega arith, fails)
+        | inl meets ↦ inl (λ j below. elim (cases_eq j n) [
+          | inl last ↦ ap test last ∙ meets
+          | inr earlier ↦ all j (omega arith)
+        ])
+      ]
+    ]
+
+-- A host that does not deny all others may reach one of them.
+pub no_reach_only : OnlyDefaultIsSecure no_reach
+no_reach_only n host x two is_host may other =
+    elim (all_or_one (λ j. set.contains x j || nat_eq j host) n) [
+      | inl all ↦ absurd (other (hosts_ext x (others n host) (λ j. same_answer j all)))
+      | inr one ↦
+          let parts = or_parts (set.contains x one.0) (nat_eq one.0 host) one.2 in
+          free one.0 one.1 (eqb-false one.0 host parts.1) parts.0
+    ]
+  where
+    same_answer : (j : ℕ) → ((j : ℕ) → j < n → (set.contains x j || nat_eq j host) ≡ true) → set.contains x j ≡ set.contains (others n host) j
+    same_answer j all =
+        elim (cases_Bool (set.contains (others n host) j)) [
+          | inr out ↦ false_from_ne_true (set.contains x j) (λ denies. false≢true (sym out ∙ may j denies)) ∙ sym out
+          | inl among ↦
+              let (below, apart) = and_parts (nat_lt j n) (not (nat_eq j host)) (sym (contains-others n host j) ∙ among) in
+              elim (or_cases (set.contains x j) (nat_eq j host) (all j (ltb-true j n below))) [
+                | inl denies ↦ denies ∙ sym among
+                | inr same ↦ absurd (false≢true (sym (not_from_true (nat_eq j host) same) ∙ apart))
+              ]
+        ]
+
+    free : (j : ℕ) → j < n → j ≢ host → set.contains x j ≡ false → LetsOff no_reach n host x
+    free j within apart passes =
+        let none : List HostNumbers = replicate n set.empty in
+        let hosts : List HostNumbers = slice_set none host (others n host) in
+        let f : Flow = record { from = host; to = j } in
+        let at_none : host < length none = subst (λ m. host < m) (sym (length-replicate n set.empty)) is_host in
+        let sized : length hosts ≡ n = length-set none host (others n host) ∙ length-replicate n set.empty in
+        let after : length (slice_set hosts host x) ≡ n = length-set hosts host x ∙ sized in
+        let away : host ≢ j = λ same. apart (sym same) in
+        record {
+          hosts = hosts;
+          sized = sized;
+          may = AllMayHave-one no_reach n host (others n host) set.empty (no_reach_default n host is_host) (AreOthers-none n);
+          flow = f;
+          is_flow = (is_host, within, away);
+          offends = one_offends (ReachesNoDenied hosts) f (ReachesNoDenied-none hosts) (λ holds.
+              (ReachesNoDenied-one hosts f (omega (arith, sized), omega (arith, sized), away)).1 holds
+              (ap (λ s. set.contains s j) (get_or-set_same none host (others n host) set.empty at_none)
+              ∙ contains-others n host j ∙ and_from _ _ (lt-ltb j n within) (not_from_false _ (ne_eqb j host apart))));
+          blamed = record { flow = f; offends = has_first f []; blamed = refl };
+          holds_without = (ReachesNoDenied-one (slice_set hosts host x) f (omega (arith, after), omega (arith, after), away)).0
+              (λ denies. false≢true (sym passes ∙ (sym (ap (λ s. set.contains s j) (get_or-set_same hosts host x set.empty (omega (arith, sized)))) ∙ denies)));
+        }

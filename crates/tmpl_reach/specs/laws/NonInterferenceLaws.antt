@@ -1,7 +1,8 @@
--- Non-interference is downward closed and holds for the empty set, and to be interfering is a secure default.
-use Rattle.std.proofs.Common.{◌≢◌, ℕ, List, [], ◌∷◌, length, ◌↔◌, inl, inr, refl, sym, ◌∙◌, subst, arith, get_or-set_same, get_or-set_other}
+-- Non-interference is downward closed and holds for the empty set, and to be interfering is a secure default, the only one.
+use Rattle.std.proofs.Common.{◌≡◌, ◌≢◌, ℕ, List, [], ◌∷◌, length, replicate, set, ◌↔◌, inl, inr, refl, sym, ◌∙◌, subst, arith, get_or-set_same, get_or-set_other, length-set}
 use Rattle.std.specs.Prelude.{IsTrue, slice_set}
 use Rattle.std.proofs.lemmas.Bool.{cases_eq, or_cases, and_parts}
+use Rattle.std.proofs.lemmas.List.{get_or-replicate, length-replicate}
 use Rattle.flow_set.specs.declared.flow.Flow.{Flow}
 use Rattle.flow_set.specs.Flow.{IsFlow, same_flow}
 use Rattle.flow_set.specs.FlowSet.{has, with_flow, without}
@@ -9,7 +10,8 @@ use Rattle.flow_set.specs.laws.FlowLaws.{has_first, has-with_flow, has-without, 
 use Rattle.flow_set.specs.inner.Downward.{IsDownwardClosed}
 use Rattle.inv_law.specs.inner.Invariants.{ResetPreservesViolation}
 use Rattle.inv_law.specs.Template.{AnyAttribute}
-use Rattle.inv_law.specs.inner.Template.{MayHaveDefault}
+use Rattle.inv_law.specs.inner.Template.{MayHaveDefault, OnlyDefaultIsSecure}
+use Rattle.inv_law.specs.laws.DefaultLaws.{Another, another, one_offends}
 use Rattle.inv_law.specs.laws.TemplateLaws.{IsLawfulTemplate, lawful_walk}
 use Rattle.inv_law.specs.declared.strategy.Strategy.TheVariants.{Information}
 use Rattle.reach_core.specs.Walks.{Joined, has_either}
@@ -119,3 +121,29 @@ non_interference_lawful =
 
 pub non_interference_default : MayHaveDefault non_interference
 non_interference_default n host within = tt
+
+-- A host that is not interfering may learn of another.
+pub non_interference_only : OnlyDefaultIsSecure non_interference
+non_interference_only n host Interfering two is_host may other = absurd (other refl)
+non_interference_only n host Unrelated two is_host may other =
+    let o : Another n host = another n host two in
+    let hosts : List Interference = replicate n Interfering in
+    let f : Flow = record { from = o.other; to = host } in
+    let sized : length hosts ≡ n = length-replicate n Interfering in
+    let after : length (set hosts host Unrelated) ≡ n = length-set hosts host Unrelated ∙ sized in
+    record {
+      hosts = hosts;
+      sized = sized;
+      may = λ k within. tt;
+      flow = f;
+      is_flow = (o.within, is_host, o.apart);
+      offends = one_offends (IsNonInterfering hosts) f (IsNonInterfering-none hosts) (λ holds.
+          (IsNonInterfering-one hosts f (omega (arith, sized), omega (arith, sized), o.apart)).1 holds
+          (get_or-replicate n o.other Interfering Unrelated o.within) (get_or-replicate n host Interfering Unrelated is_host));
+      blamed = record { flow = f; offends = has_first f []; blamed = refl };
+      holds_without = (IsNonInterfering-one (set hosts host Unrelated) f (omega (arith, after), omega (arith, after), o.apart)).0
+          (λ first second. unrelated (sym (get_or-set_same hosts host Unrelated Unrelated (omega (arith, sized))) ∙ second));
+    }
+  where
+    unrelated : Unrelated ≡ Interfering → ⊥
+    unrelated same = cc

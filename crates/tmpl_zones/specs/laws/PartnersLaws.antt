@@ -1,10 +1,11 @@
--- The default of the partners template is secure.
+-- The default of the partners template is secure, and no other attribute is.
 use Rattle.std.proofs.Common.{ℕ, List, length, refl}
 use Rattle.std.proofs.lemmas.Bool.{false≢true}
 use Rattle.inv_law.specs.laws.AttributeLaws.{ResetPassesNoMore-attributes}
 use Rattle.inv_law.specs.inner.Resets.{IsSecureDefault, ResetPassesNoMore}
 use Rattle.inv_law.specs.laws.RuleLaws.{AllFlowsPass-downward, AllFlowsPass-none, AllFlowsPass-edge_wise, AllFlowsPass-reset}
-use Rattle.inv_law.specs.inner.Template.{MayHaveDefault}
+use Rattle.inv_law.specs.inner.Template.{MayHaveDefault, OnlyDefaultIsSecure}
+use Rattle.inv_law.specs.laws.DefaultLaws.{sender_lets_off}
 use Rattle.inv_law.specs.laws.TemplateLaws.{IsLawfulTemplate}
 use Rattle.inv_law.specs.declared.strategy.Strategy.TheVariants.{Access}
 use Rattle.tmpl_zones.specs.Kinds.{TablePasses}
@@ -32,3 +33,10 @@ partners_lawful hosts = record {
 
 pub partners_default : MayHaveDefault partners
 partners_default n host within = tt
+
+-- All hosts except those with `DontCare` reach a host with `Care`.
+pub partners_only : OnlyDefaultIsSecure partners
+partners_only n host DontCare two is_host may other = absurd (other refl)
+partners_only n host x two is_host may other =
+    sender_lets_off partners.name partners.MayHave DontCare (λ i. TablePasses (partners_passes i)) x Care
+    (λ n k. tt) (λ n k. tt) (λ i passes. false≢true passes) (λ i. refl) n host two is_host

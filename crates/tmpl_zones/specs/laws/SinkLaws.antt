@@ -1,9 +1,10 @@
--- The default of the sink template is secure.
+-- The default of the sink template is secure, and no other attribute is.
 use Rattle.std.specs.Prelude.{refl}
 use Rattle.std.proofs.lemmas.Bool.{false≢true}
 use Rattle.inv_law.specs.inner.Resets.{IsSecureDefault}
 use Rattle.inv_law.specs.Template.{AnyAttribute}
-use Rattle.inv_law.specs.inner.Template.{MayHaveDefault}
+use Rattle.inv_law.specs.inner.Template.{MayHaveDefault, OnlyDefaultIsSecure}
+use Rattle.inv_law.specs.laws.DefaultLaws.{receiver_lets_off}
 use Rattle.inv_law.specs.laws.TemplateLaws.{IsLawfulTemplate, lawful_edge}
 use Rattle.inv_law.specs.declared.strategy.Strategy.TheVariants.{Information}
 use Rattle.tmpl_zones.specs.Kinds.{TablePasses}
@@ -21,3 +22,10 @@ sinks_lawful = lawful_edge sinks.name sinks.strategy AnyAttribute Unassigned (Ta
 
 pub sinks_default : MayHaveDefault sinks
 sinks_default n host within = tt
+
+-- A pool sends to sinks and pools.
+pub sinks_only : OnlyDefaultIsSecure sinks
+sinks_only n host Unassigned two is_host may other = absurd (other refl)
+sinks_only n host x two is_host may other =
+    receiver_lets_off sinks.name sinks.MayHave Unassigned (λ i. TablePasses sink_passes) x Pool
+    (λ n k. tt) (λ n k. tt) (λ i passes. false≢true passes) (λ i. refl) n host two is_host
