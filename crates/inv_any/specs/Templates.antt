@@ -17,8 +17,7 @@ use Rattle.tmpl_zones.specs.Sink.{sinks}
 use Rattle.tmpl_zones.specs.Subnets.{subnets}
 
 -- A case analysis on an invariant: its template, the attributes of its hosts, and the constructor for other attributes. The meaning of an
--- invariant, its name and its reset are defined by this list of the templates; the attribute formats, and the reasons for the defaults, by
--- separate lists.
+-- invariant, its name and its reset are defined by this list of the templates; the attribute formats by a separate list.
 abbrev pub by_template {ℓ} : {C : Type ℓ} → ((t : Template) → List t.Attribute → (List t.Attribute → AnyInv) → C) → AnyInv → C
 by_template say (any.Blp hosts) = say blp hosts any.Blp
 by_template say (any.Tainting hosts) = say tainting hosts any.Tainting

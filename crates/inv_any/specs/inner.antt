@@ -1,4 +1,3 @@
 pub mod AnyTrials
-pub mod OtherDefaults
 pub mod Resets
 pub mod Templates
