@@ -31,26 +31,32 @@ pub enum AnyInv {
     Table(EdgeWise<TableRule>),
 }
 
-// The templates, for the two macros below: the result of the invariant in `any`, here `inv`, and an
-// invariant of the same template.
+// The templates, for the macros below and those of `any_trial`: the edge-wise ones, and those on
+// walks.
 macro_rules! each {
     ($say:ident, $($args:tt)*) => {
-        $say!($($args)*; Blp Tainting Sink Gateway Subnets Partners Domains Dependability NonInterference NoReach Table)
+        $say!($($args)*; Blp Tainting Sink Gateway Subnets Partners Domains Table; Dependability NonInterference NoReach)
     };
 }
 
+pub(crate) use each;
+
+// The result of the invariant in `any`, here `inv`.
 macro_rules! ask {
-    ($any:expr, $inv:ident => $answer:expr; $($template:ident)*) => {
+    ($any:expr, $inv:ident => $answer:expr; $($edge:ident)*; $($walk:ident)*) => {
         match $any {
-            $(AnyInv::$template($inv) => $answer,)*
+            $(AnyInv::$edge($inv) => $answer,)*
+            $(AnyInv::$walk($inv) => $answer,)*
         }
     };
 }
 
+// An invariant of the same template.
 macro_rules! keep {
-    ($any:expr, $inv:ident => $new:expr; $($template:ident)*) => {
+    ($any:expr, $inv:ident => $new:expr; $($edge:ident)*; $($walk:ident)*) => {
         match $any {
-            $(AnyInv::$template($inv) => AnyInv::$template($new),)*
+            $(AnyInv::$edge($inv) => AnyInv::$edge($new),)*
+            $(AnyInv::$walk($inv) => AnyInv::$walk($new),)*
         }
     };
 }
