@@ -15,24 +15,16 @@ use Rattle.flow_set.specs.HostSet.{HostNumbers}
 use Rattle.host_net.specs.Host.{Host, host_named}
 use Rattle.host_net.proofs.NamedLaws.{host_named_within}
 use Rattle.inv_any.specs.inner.Templates.{HostsMayHave}
+use Rattle.inv_any.specs.laws.TemplateLaws.{may_have_default}
 use Rattle.inv_law.specs.inner.Template.{AllMayHave, MayHaveDefault}
 use Rattle.table_core.specs.Listing.{each}
 use Rattle.table_core.specs.Tables.{integer_at, list_at, number_at, number_of, text_at}
 use Rattle.text_core.proofs.StepsLaws.{bind_some}
 use Rattle.tmpl_domains.specs.Domains.{IsPlace, Place}
-use Rattle.tmpl_domains.specs.laws.DomainsLaws.{domains_default}
 use Rattle.tmpl_domains.specs.Path.{is_path, segments}
-use Rattle.tmpl_levels.specs.laws.BlpLaws.{blp_default}
-use Rattle.tmpl_levels.specs.laws.TaintingLaws.{tainting_default}
-use Rattle.tmpl_reach.specs.laws.DependabilityLaws.{dependability_default}
 use Rattle.tmpl_reach.specs.NoReach.{AreOthers}
-use Rattle.tmpl_reach.specs.laws.NoReachLaws.{contains-others, no_reach_default}
-use Rattle.tmpl_reach.specs.laws.NonInterferenceLaws.{non_interference_default}
-use Rattle.tmpl_zones.specs.laws.GatewayLaws.{gateways_default}
+use Rattle.tmpl_reach.specs.laws.NoReachLaws.{contains-others}
 use Rattle.tmpl_zones.specs.Partners.{Partner, DontCare, Care, Master, TakesFromOthers, with_sender}
-use Rattle.tmpl_zones.specs.laws.PartnersLaws.{partners_default}
-use Rattle.tmpl_zones.specs.laws.SinkLaws.{sinks_default}
-use Rattle.tmpl_zones.specs.laws.SubnetsLaws.{subnets_default}
 use Rattle.toml.specs.Data.{Data, Members, as_str}
 use Rattle.attr_core.specs.Assigns.{Given}
 use Rattle.attr_core.specs.Domains.{domains_attribute, domains_form}
@@ -50,7 +42,7 @@ use Rattle.attr_core.specs.Templates.{form}
 use Rattle.attr_core.specs.inner.ReadIn.{invariant_in}
 use Rattle.attr_core.proofs.TemplatesLaws.{invariant_is}
 use Rattle.attr_core.specs.declared.template.Template.{Template}
-use Rattle.attr_core.specs.declared.template.Template.TheVariants.{Blp, Tainting, Sink, Gateway, Subnets, Partners, Domains, Dependability, NonInterference, NoReach}
+use Rattle.attr_core.specs.declared.template.Template.TheVariants.{Blp, Tainting, Partners, Domains, NoReach}
 
 -- Domains: a number at a key is small, and a position is valid if its path is.
 small_by : (most n : ℕ) (b : Bool) → nat_le n most ≡ b → unwrap_or (if b then Some n else None) 0 ≤ most
@@ -349,28 +341,15 @@ kinds_may_have d sized hosts earlier a x = (
 -- The attribute of an assign is one that its host may have.
 pub read_may_have : (t : Template) (hosts : List Host) (earlier : List Given) (a : Given) (x : (form t).template.Attribute)
     → (form t).reads hosts earlier a ≡ Some x → (form t).template.MayHave (length hosts) a.host x
-read_may_have Blp hosts earlier a x is = tt
 read_may_have Tainting hosts earlier a x is = ((tainting_may_have hosts earlier a x).0 is).1
-read_may_have Sink hosts earlier a x is = tt
-read_may_have Gateway hosts earlier a x is = tt
-read_may_have Subnets hosts earlier a x is = tt
 read_may_have Partners hosts earlier a x is = ((partners_may_have hosts earlier a x).0 is).1
 read_may_have Domains hosts earlier a x is = ((domains_may_have hosts earlier a x).0 is).1
-read_may_have Dependability hosts earlier a x is = tt
-read_may_have NonInterference hosts earlier a x is = tt
 read_may_have NoReach hosts earlier a x is = ((noreach_may_have hosts earlier a x).0 is).1
+read_may_have t hosts earlier a x is = tt
 
 default_may_have : (t : Template) → MayHaveDefault (form t).template
-default_may_have Blp = blp_default
-default_may_have Tainting = tainting_default
-default_may_have Sink = sinks_default
-default_may_have Gateway = gateways_default
-default_may_have Subnets = subnets_default
-default_may_have Partners = partners_default
-default_may_have Domains = domains_default
-default_may_have Dependability = dependability_default
-default_may_have NonInterference = non_interference_default
-default_may_have NoReach = no_reach_default
+default_may_have Blp = may_have_default ((form Blp).make [])
+default_may_have t = may_have_default ((form t).make [])
 
 -- The same for each host after all assigns.
 or_some : {A : Type 0} (o p : Option A) (x : A) → option_or o p ≡ Some x → (o ≡ Some x) ⊎ (p ≡ Some x)
