@@ -12,8 +12,8 @@ pub fn only_default_is_secure()
     ensures { (any : AnyInv) → IfOneOfTheTen OnlyDefaultIsSecure any }
 {}
 
-/// The default of a template is an attribute that each host may have. The default of a table is if
-/// it is one of the kinds.
+/// The default of a template is an attribute that each host may have. For a table, this holds if
+/// the default is one of its kinds.
 pub fn hosts_may_have_the_default()
     ensures ten { (any : AnyInv) → IfOneOfTheTen MayHaveDefault any }
     ensures table { (table : KindTable) → table.default < table.kinds → MayHaveDefault (declared table) }
