@@ -19,7 +19,7 @@ use Rattle.inv_any.specs.laws.TemplateLaws.{may_have_default}
 use Rattle.inv_law.specs.inner.Template.{AllMayHave, MayHaveDefault}
 use Rattle.table_core.specs.Listing.{each}
 use Rattle.table_core.specs.Tables.{integer_at, list_at, number_at, number_of, text_at}
-use Rattle.text_core.proofs.StepsLaws.{bind_some}
+use Rattle.text_core.proofs.StepsLaws.{bind_some, map_parts}
 use Rattle.tmpl_domains.specs.Domains.{IsPlace, Place}
 use Rattle.tmpl_domains.specs.Path.{is_path, segments}
 use Rattle.tmpl_reach.specs.NoReach.{AreOthers}
@@ -121,15 +121,11 @@ one_peer hosts host d k = peer_named hosts host (as_str d) k
 known_within : (hosts : List Host) (d : Data) (k : ℕ) → known_host hosts d ≡ Some k → k < length hosts
 known_within hosts d k is = option_and_then_some (host_named hosts) (as_str d) k is (λ name is_name named. host_named_within hosts name k named)
 
-mapped : {A B : Type 0} (f : A → B) (o : Option A) (y : B) → option_map f o ≡ Some y → (x : A) × (o ≡ Some x) × (f x ≡ y)
-mapped f None y is = cc
-mapped f (Some x) y is = (x, refl, cc)
-
 each_cons : {D A : Type 0} (read : D → Option A) (d : D) (ds : List D) (ks : List A) → each read (d ∷ ds) ≡ Some ks
     → (k : A) × (rest : List A) × (read d ≡ Some k) × (each read ds ≡ Some rest) × (k ∷ rest ≡ ks)
 each_cons {A = A} read d ds ks is =
     option_and_then_some (λ (x : A). option_map (λ (xs : List A). x ∷ xs) (each read ds)) (read d) ks is (λ k is_k behind.
-    let (rest, is_rest, same) = mapped (λ (xs : List A). k ∷ xs) (each read ds) ks behind in
+    let (rest, is_rest, same) = map_parts (λ (xs : List A). k ∷ xs) (each read ds) ks behind in
     (k, rest, is_k, is_rest, same))
 
 each_of : {D A : Type 0} (read : D → Option A) (d : D) (ds : List D) (k : A) (rest : List A) → read d ≡ Some k → each read ds ≡ Some rest
@@ -181,13 +177,13 @@ denied_may_have : (hosts : List Host) (host : ℕ) (ds : List Data) (x : HostNum
 unfolding all_denied
 denied_may_have hosts host ds x = (
   λ said.
-      let (ks, is_ks, same) = mapped fin.from_list (each (peer hosts host) ds) x said in
+      let (ks, is_ks, same) = map_parts fin.from_list (each (peer hosts host) ds) x said in
       let (known, others) = (all_peers hosts host ds ks).0 is_ks in (
         ap (option_map fin.from_list) known ∙ ap Some same,
         subst (AreOthers (length hosts) host) same ((among_others (length hosts) host ks).0 others),
       ),
   λ both.
-      let (ks, known, same) = mapped fin.from_list (each (known_host hosts) ds) x both.0 in
+      let (ks, known, same) = map_parts fin.from_list (each (known_host hosts) ds) x both.0 in
       let others = (among_others (length hosts) host ks).1 (subst (AreOthers (length hosts) host) (sym same) both.1) in
       ap (option_map fin.from_list) ((all_peers hosts host ds ks).1 (known, others)) ∙ ap Some same,
 )
@@ -287,13 +283,13 @@ unfolding master_of
 master_may_have hosts host ds x =
     let make : List ℕ → Partner = fold with_sender (Master (replicate (length hosts) false)) in (
       λ said.
-          let (ks, is_ks, same) = mapped make (each (peer hosts host) ds) x said in
+          let (ks, is_ks, same) = map_parts make (each (peer hosts host) ds) x said in
           let (known, others) = (all_peers hosts host ds ks).0 is_ks in (
             ap (option_map make) known ∙ ap Some same,
             subst (TakesFromOthers (length hosts) host) same ((master_others (length hosts) host ks (known_all hosts ds ks known)).0 others),
           ),
       λ both.
-          let (ks, known, same) = mapped make (each (known_host hosts) ds) x both.0 in
+          let (ks, known, same) = map_parts make (each (known_host hosts) ds) x both.0 in
           let others = (master_others (length hosts) host ks (known_all hosts ds ks known)).1 (subst (TakesFromOthers (length hosts) host) (sym same) both.1) in
           ap (option_map make) ((all_peers hosts host ds ks).1 (known, others)) ∙ ap Some same,
     )

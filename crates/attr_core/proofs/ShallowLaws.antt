@@ -14,7 +14,8 @@ use Rattle.attr_core.specs.Forms.{Form, bad_assign, bad_from, says}
 use Rattle.attr_core.specs.NoReach.{all_denied, noreach_attribute, noreach_form}
 use Rattle.attr_core.specs.Partners.{master_of, partner_of, partners_attribute, partners_form}
 use Rattle.tmpl_zones.specs.Partners.{Partner}
-use Rattle.text_core.proofs.StepsLaws.{bind_some}
+use Rattle.text_core.proofs.StepsLaws.{bind_some, map_parts}
+use Rattle.attr_core.proofs.MayHaveLaws.{here_by}
 use Rattle.attr_core.specs.Peers.{peer}
 use Rattle.attr_core.specs.Shapes.{host_key, of_shape}
 use Rattle.attr_core.specs.Templates.{form}
@@ -56,14 +57,10 @@ no_lists (key ∷ keys) ms none =
 
 -- ---- the requirements of a template on a table
 
-said_by : {A : Type 0} (b : Bool) (o : Option A) (x : A) → (if b then o else None) ≡ Some x → (b ≡ true) × (o ≡ Some x)
-said_by true o x said = (refl, said)
-said_by false o x said = cc
-
 without_arrays : (f : Form) → has_no_arrays (host_key ∷ f.keys) ≡ true → (hosts : List Host) (earlier : List Given) (a : Given)
     (x : f.template.Attribute) → says f hosts earlier a ≡ Some x → IsShallowGiven a
 without_arrays f none hosts earlier a x said sorted =
-    let (shaped, _) = said_by (of_shape a.table (host_key ∷ f.keys)) (f.reads hosts earlier a) x said in
+    let (shaped, _) = here_by (of_shape a.table (host_key ∷ f.keys)) (f.reads hosts earlier a) x said in
     shape_shallow (host_key ∷ f.keys) a.table shaped (no_lists (host_key ∷ f.keys) a.table none) sorted
 
 -- A list of other hosts is a list of strings.
@@ -93,17 +90,13 @@ peers_are_texts hosts host (d ∷ ds) xs read =
 listed_texts : (o : Option (List Data)) (ds : List Data) → o ≡ Some ds → list_all is_text ds ≡ true → option_map_or (list_all is_text) o false ≡ true
 listed_texts o ds is all = rw is all
 
-mapped : {A B : Type 0} (f : A → B) (o : Option A) (y : B) → option_map f o ≡ Some y → (x : A) × (o ≡ Some x)
-mapped f None y is = cc
-mapped f (Some x) y is = (x, refl)
-
 noreach_shallow : (hosts : List Host) (earlier : List Given) (a : Given) (x : noreach_form.template.Attribute)
     → says noreach_form hosts earlier a ≡ Some x → IsShallowGiven a
 unfolding noreach_attribute all_denied
 noreach_shallow hosts earlier a x said sorted =
-    let (shaped, read) = said_by (of_shape a.table (host_key ∷ noreach_form.keys)) (noreach_attribute hosts a.host a.table) x said in
+    let (shaped, read) = here_by (of_shape a.table (host_key ∷ noreach_form.keys)) (noreach_attribute hosts a.host a.table) x said in
     let (ds, stands, denied) = bind_some (list_at (codes "deny") a.table) _ x read in
-    let (others, peers) = mapped _ (each (peer hosts a.host) ds) x denied in
+    let (others, peers, _) = map_parts _ (each (peer hosts a.host) ds) x denied in
     let texts = peers_are_texts hosts a.host ds others peers in
     shape_shallow (host_key ∷ noreach_form.keys) a.table shaped
     (λ array there. cc, (λ array there. listed_texts (list_at (codes "deny") a.table) ds stands texts, tt)) sorted
@@ -116,15 +109,15 @@ list_read : (hosts : List Host) (host : ℕ) (o : Option (List Data)) (word : Li
 unfolding master_of
 list_read hosts host None word x read there = cc
 list_read hosts host (Some ds) word x read there =
-    let (_, master) = said_by (bytes_eq word (codes "master")) (master_of hosts host ds) x read in
-    let (others, peers) = mapped _ (each (peer hosts host) ds) x master in
+    let (_, master) = here_by (bytes_eq word (codes "master")) (master_of hosts host ds) x read in
+    let (others, peers, _) = map_parts _ (each (peer hosts host) ds) x master in
     peers_are_texts hosts host ds others peers
 
 partners_shallow : (hosts : List Host) (earlier : List Given) (a : Given) (x : partners_form.template.Attribute)
     → says partners_form hosts earlier a ≡ Some x → IsShallowGiven a
 unfolding partners_attribute
 partners_shallow hosts earlier a x said sorted =
-    let (shaped, read) = said_by (of_shape a.table (host_key ∷ partners_form.keys)) (partners_attribute hosts a.host a.table) x said in
+    let (shaped, read) = here_by (of_shape a.table (host_key ∷ partners_form.keys)) (partners_attribute hosts a.host a.table) x said in
     let from = list_at (codes "from") a.table in
     let (word, is, kind) = bind_some (text_at (codes "kind") a.table) (partner_of hosts a.host from) x read in
     shape_shallow (host_key ∷ partners_form.keys) a.table shaped
