@@ -1,6 +1,6 @@
 //! A refusal of a description: the first condition on descriptions that applies, and its place.
 
-ghost use Rattle.std.specs.Prelude.{◌≡◌};
+ghost use Rattle.std.specs.Prelude.{◌≡◌, ◌≤◌, length};
 ghost use Rattle.desc_form.specs.Refusals.{number, name, refused};
 
 use host_net::Name;
@@ -116,7 +116,8 @@ impl Why {
 
     /// Returns the name of the cause, as it is printed.
     pub fn name(&self) -> &str
-        ensures { result.now ≡ name self.now }
+        ensures text { result.now ≡ name self.now }
+        ensures short { length result.now ≤ 15 }
     {
         match self {
             Why::TooLong => "TooLong",
