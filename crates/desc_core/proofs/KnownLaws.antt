@@ -15,10 +15,9 @@ use Rattle.desc_form.specs.RawTemplate.{RawTemplate}
 use Rattle.desc_core.proofs.ListingLaws.{all_both, all_weaker}
 use Rattle.desc_core.proofs.NamesLaws.{undeclared}
 use Rattle.desc_core.specs.Flows.{flow_of_names}
-use Rattle.desc_core.specs.inner.Parts.{bad_known, ends_of, name_conditions, self_found, twice_found}
+use Rattle.desc_core.specs.inner.Parts.{bad_known, ends_of, self_found, twice_found}
 use Rattle.desc_core.proofs.UseFactsLaws.{PassesUses, assigns_test, ends_test, hosts_declared, templates_known}
-use Rattle.desc_core.specs.UseConditions.{bad_at, bad_attribute, bad_attribute_of, duplicate_flow, is_declared, self_flow, undeclared_host, unknown_template}
-use Rattle.desc_core.specs.inner.Flows.{same_names}
+use Rattle.desc_core.specs.UseConditions.{bad_at, bad_attribute, bad_attribute_of, duplicate_flow, is_declared, name_conditions, same_names, self_flow}
 use Rattle.desc_core.specs.RawNetwork.{Known, asked_of, given_by, invariant_of, invariants_of, known_of, made_of}
 use Rattle.desc_form.specs.Refusals.{refused, refused_by}
 use Rattle.desc_form.specs.RawDescription.{RawDescription, RawAssign, RawInvariant}
@@ -26,6 +25,7 @@ use Rattle.desc_form.specs.RawFlow.{RawFlow}
 use Rattle.desc_form.specs.declared.refusal.Place.TheVariants.{FlowAt}
 use Rattle.desc_form.specs.declared.refusal.Refusal.{Refusal}
 use Rattle.desc_form.specs.declared.refusal.Why.TheVariants.{DuplicateFlow, SelfFlow}
+use Rattle.desc_form.proofs.RowLaws.{in_turn}
 use Rattle.desc_form.specs.RawHosts.{network_hosts}
 use Rattle.flow_set.specs.EveryFlow.{every_flow}
 use Rattle.flow_set.specs.Flow.{IsFlow, same_flow}
@@ -36,7 +36,7 @@ use Rattle.host_net.proofs.NamedLaws.{host_named_within, one_name}
 use Rattle.table_core.specs.Listing.{each}
 use Rattle.text_core.proofs.FirstPairLaws.{told_numbered}
 use Rattle.text_core.specs.FirstMatch.{Numbered, Conflict, first_found, first_of, first_conflict, numbered, numbered_from}
-use Rattle.text_core.proofs.FirstsLaws.{neither, none_mapped, some_same}
+use Rattle.text_core.proofs.FirstsLaws.{none_mapped, some_same}
 
 -- ---- lists that are read element by element
 
@@ -140,26 +140,24 @@ all_known w sound =
 
 -- If all names are known, conditions 15 and 16 refuse nothing.
 pub names_known : (w : RawDescription) (ks : List Known) (es : List Flow) → each (known_of w.templates (network_hosts w)) w.invariants ≡ Some ks → each (ends_of (network_hosts w)) w.flows ≡ Some es
-    → (unknown_template w ≡ None) × (undeclared_host w ≡ None)
+    → first_of (name_conditions w) ≡ None
 names_known w ks es known found =
     let both : list_all (λ i. template_test w i && assigns_test w i) w.invariants ≡ true = sym (known_tests w) ∙ all_read (known_of w.templates (network_hosts w)) w.invariants ks known in
     let ends : list_all (ends_test w) w.flows ≡ true = sym (ends_tests w) ∙ all_read (ends_of (network_hosts w)) w.flows es found in
     let templates = all_weaker (λ i. template_test w i && assigns_test w i) (template_test w) (λ i here. (and_parts (template_test w i) _ here).0) w.invariants both in
     let assigns = all_weaker (λ i. template_test w i && assigns_test w i) (assigns_test w) (λ i here. (and_parts (template_test w i) _ here).1) w.invariants both in
-    ((templates_known w).1 templates, (hosts_declared w).1 (assigns, ends))
+    (in_turn (name_conditions w)).1 ((templates_known w).1 templates, ((hosts_declared w).1 (assigns, ends), tt))
 
 -- If one is unknown, one of them refuses the description.
 pub unknown_invariant : (w : RawDescription) → each (known_of w.templates (network_hosts w)) w.invariants ≡ None → first_of (name_conditions w) ≢ None
 unknown_invariant w none told =
-    let (templates, from_16) = neither (unknown_template w) _ told in
-    let (hosts, _) = neither (undeclared_host w) _ from_16 in
+    let (templates, (hosts, _)) = (in_turn (name_conditions w)).0 told in
     never_none (known_of w.templates (network_hosts w)) w.invariants none
     (known_tests w ∙ all_both (template_test w) (assigns_test w) (λ i. template_test w i && assigns_test w i) (λ i a b. rw (a, b) refl) w.invariants ((templates_known w).0 templates) ((hosts_declared w).0 hosts).0)
 
 pub unknown_end : (w : RawDescription) → each (ends_of (network_hosts w)) w.flows ≡ None → first_of (name_conditions w) ≢ None
 unknown_end w none told =
-    let (_, from_16) = neither (unknown_template w) _ told in
-    let (hosts, _) = neither (undeclared_host w) _ from_16 in
+    let (_, (hosts, _)) = (in_turn (name_conditions w)).0 told in
     never_none (ends_of (network_hosts w)) w.flows none (ends_tests w ∙ ((hosts_declared w).0 hosts).1)
 
 -- ---- 18, and the invariants
@@ -247,8 +245,7 @@ twice_zip hosts ws es zipped =
     ∙ told_numbered same_flow (λ (l : Located hosts). l.flow) tell_twice ls (first_conflict (λ (x y : Numbered (Located hosts)). same_flow x.what.flow y.what.flow) (numbered ls)) refl
     ∙ ap twice_found (flows_are hosts ws es zipped)
 
-pub twice_is : (w : RawDescription) (es : List Flow) → each (ends_of (network_hosts w)) w.flows ≡ Some es → duplicate_flow w ≡ twice_found es
-unfolding duplicate_flow
+pub twice_is : (w : RawDescription) (es : List Flow) → each (ends_of (network_hosts w)) w.flows ≡ Some es → duplicate_flow w.flows ≡ twice_found es
 twice_is w es found = twice_zip (network_hosts w) w.flows es (each_zip (ends_of (network_hosts w)) w.flows es found)
 
 abbrev tell_self : {A : Type 0} → Numbered A → Refusal
@@ -272,8 +269,7 @@ self_zip hosts n (w ∷ ws) (e ∷ es) zipped =
     self_step (bytes_eq w.from w.to) (e.from == e.to) (record { number = n; what = w }) (record { number = n; what = e }) _ _ (one_test hosts w.from w.to e.from e.to from to) refl
     (self_zip hosts (n + 1) ws es zipped.1)
 
-pub self_is : (w : RawDescription) (es : List Flow) → each (ends_of (network_hosts w)) w.flows ≡ Some es → self_flow w ≡ self_found es
-unfolding self_flow
+pub self_is : (w : RawDescription) (es : List Flow) → each (ends_of (network_hosts w)) w.flows ≡ Some es → self_flow w.flows ≡ self_found es
 self_is w es found = self_zip (network_hosts w) 1 w.flows es (each_zip (ends_of (network_hosts w)) w.flows es found)
 
 -- Flows none of which is from a host to itself.

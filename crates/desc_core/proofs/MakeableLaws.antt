@@ -16,11 +16,10 @@ use Rattle.desc_core.proofs.ListingLaws.{all_weaker}
 use Rattle.desc_core.specs.Choices.{Choice, OneOfTen, OwnTable, chosen, number_of_kind, declared_table}
 use Rattle.desc_core.specs.inner.KnownView.{known_view}
 use Rattle.desc_core.specs.inner.Makeable.{CanBeMade, IsMakeable}
-use Rattle.desc_core.specs.inner.Parts.{templates_found}
-use Rattle.desc_core.specs.TemplateConditions.{bad_template, denies, first_bad, has_kinds, has_own_name, has_partner, has_strategy, is_well_formed, not_lawful, uses_kinds}
+use Rattle.desc_core.specs.TemplateConditions.{bad_template, denies, first_bad, has_kinds, has_own_name, has_partner, has_strategy, is_well_formed, not_lawful, template_conditions, uses_kinds}
 use Rattle.desc_core.proofs.TemplateFactsLaws.{good_by}
 use Rattle.desc_core.proofs.UseFactsLaws.{partners_there}
-use Rattle.desc_form.proofs.NoneLaws.{none_of_both}
+use Rattle.desc_form.proofs.RowLaws.{in_turn}
 use Rattle.desc_core.specs.RawNetwork.{Known, given_by, known_of}
 use Rattle.desc_core.specs.declared.known.KnownInvariant.{KnownInvariant}
 use Rattle.desc_form.specs.RawDescription.{RawDescription, RawInvariant}
@@ -28,7 +27,8 @@ use Rattle.desc_form.specs.RawTemplate.{RawPair, RawTemplate}
 use Rattle.host_net.specs.Host.{Host}
 use Rattle.inv_law.specs.declared.strategy.Strategy.TheVariants.{Access, Information}
 use Rattle.table_core.specs.Listing.{each}
-use Rattle.text_core.proofs.FirstsLaws.{neither, none_mapped, some_same}
+use Rattle.text_core.specs.FirstMatch.{first_of}
+use Rattle.text_core.proofs.FirstsLaws.{none_mapped, some_same}
 use Rattle.text_core.specs.Name.{is_name}
 use Rattle.tmpl_table.specs.KindTable.{is_lawful, lists, passes_with}
 
@@ -87,21 +87,20 @@ each_makeable earlier k (t ∷ ts) none all =
     let (here, behind) = and_parts (list_all (has_partner t) t.deny) _ all in
     (makeable earlier t good here, each_makeable (earlier ++ t ∷ []) (k + 1) ts later behind)
 
-all_makeable : (w : RawDescription) → templates_found w ≡ None → AllByRecursion IsMakeable w.templates
-unfolding bad_template
-all_makeable w none =
-    let (bad, unlawful) = neither (bad_template w) (not_lawful w) none in
-    each_makeable [] 1 w.templates (none_mapped _ _ bad) ((partners_there w).0 unlawful)
+all_makeable : (ts : List RawTemplate) → first_of (template_conditions ts) ≡ None → AllByRecursion IsMakeable ts
+all_makeable ts none =
+    let (bad, (unlawful, _)) = (in_turn (template_conditions ts)).0 none in
+    each_makeable [] 1 ts (none_mapped _ _ bad) ((partners_there ts).0 unlawful)
 
 each_lawful : (ts : List RawTemplate) → AllByRecursion IsMakeable ts → AllByRecursion (λ (t : RawTemplate). is_lawful (declared_table t) ≡ true) ts
 each_lawful [] all = tt
 each_lawful (t ∷ ts) (here, behind) = (here.lawful, each_lawful ts behind)
 
 -- Each declared table is lawful.
-pub all_lawful : (w : RawDescription) → bad_template w ≡ None → not_lawful w ≡ None → All (λ (t : RawTemplate). is_lawful (declared_table t) ≡ true) w.templates
-all_lawful w good lawful =
-    All-from_recursion (λ (t : RawTemplate). is_lawful (declared_table t) ≡ true) w.templates
-    (each_lawful w.templates (all_makeable w (none_of_both (bad_template w) (not_lawful w) good lawful)))
+pub all_lawful : (ts : List RawTemplate) → bad_template ts ≡ None → not_lawful ts ≡ None → All (λ (t : RawTemplate). is_lawful (declared_table t) ≡ true) ts
+all_lawful ts good lawful =
+    All-from_recursion (λ (t : RawTemplate). is_lawful (declared_table t) ≡ true) ts
+    (each_lawful ts (all_makeable ts ((in_turn (template_conditions ts)).1 (good, (lawful, tt)))))
 
 -- ---- each template that is named
 
@@ -140,8 +139,8 @@ all_can ts hosts (i ∷ is) [] all zipped = tt
 all_can ts hosts (i ∷ is) (k ∷ ks) all (here, behind) = (known_can ts hosts i (known_view k) all here, all_can ts hosts is ks all behind)
 
 -- An invariant can be made of each invariant with resolved names.
-pub known_makeable : (w : RawDescription) (hosts : List Host) (ks : List KnownInvariant) → templates_found w ≡ None
+pub known_makeable : (w : RawDescription) (hosts : List Host) (ks : List KnownInvariant) → first_of (template_conditions w.templates) ≡ None
     → each (known_of w.templates hosts) w.invariants ≡ Some (map known_view ks) → All (λ (k : KnownInvariant). CanBeMade (known_view k).template) ks
 known_makeable w hosts ks none known =
     All-from_recursion (λ (k : KnownInvariant). CanBeMade (known_view k).template) ks
-    (all_can w.templates hosts w.invariants ks (all_makeable w none) (each_zip (known_of w.templates hosts) w.invariants (map known_view ks) known))
+    (all_can w.templates hosts w.invariants ks (all_makeable w.templates none) (each_zip (known_of w.templates hosts) w.invariants (map known_view ks) known))

@@ -16,8 +16,7 @@ use Rattle.desc_core.proofs.DescriptionLaws.{accepted, by_groups}
 use Rattle.desc_core.specs.Document.{document}
 use Rattle.desc_core.specs.Migrated.{migrated, with_member}
 use Rattle.desc_core.proofs.TableFactsLaws.{no_refusal}
-use Rattle.desc_core.specs.TemplateConditions.{bad_template, not_lawful}
-use Rattle.desc_core.specs.UseConditions.{bad_attribute, bad_service, duplicate_assign, duplicate_flow, many_services, self_flow, undeclared_host, unknown_template, use_conditions}
+use Rattle.desc_core.specs.UseConditions.{bad_attribute, undeclared_host, use_conditions}
 use Rattle.desc_core.specs.RawNetwork.{asked_of, invariants_of, network_of, services_in}
 use Rattle.desc_form.specs.RawDescription.{RawDescription, written}
 use Rattle.desc_form.specs.inner.RawForm.{IsAnswers, IsArray, IsFlow, IsHost, IsInteger, IsInvariant, IsTable, IsTemplate, IsRawOf, template_names}
@@ -211,7 +210,7 @@ unfolding host_conditions bad_version all_entries all_names used_names
 hosts_pass w none = (neither (bad_version w.version) _ none).1
 
 uses_same : (w : RawDescription) → use_conditions (in_version_2 w) ≡ use_conditions w
-unfolding use_conditions unknown_template undeclared_host duplicate_assign bad_attribute self_flow duplicate_flow bad_service many_services bad_template not_lawful network_hosts used_names
+unfolding use_conditions undeclared_host bad_attribute network_hosts used_names
 uses_same w = refl
 
 network_same : (w : RawDescription) → network_of (in_version_2 w) ≡ network_of w

@@ -5,7 +5,7 @@ use Rattle.std.proofs.lemmas.Bool.Decides.{nat_tests}
 use Rattle.std.specs.List.{cons_option, filter_map, list_all}
 use Rattle.std.specs.Prelude.{IsTrue, nat_lt}
 use Rattle.desc_core.specs.Flows.{flow_of_names}
-use Rattle.desc_core.specs.inner.Flows.{has_many_services}
+use Rattle.desc_core.specs.UseConditions.{has_many_services}
 use Rattle.desc_core.proofs.UseFactsLaws.{PassesUses}
 use Rattle.desc_core.specs.RawNetwork.{narrowed_of, narrowed_to, services_in, declared_services}
 use Rattle.desc_form.specs.RawDescription.{RawDescription}

@@ -7,12 +7,12 @@ use Rattle.desc_core.proofs.ServicesLemmas.{services_are}
 use Rattle.desc_core.specs.Description.{ok_unless_refused}
 use Rattle.desc_core.proofs.DescriptionLaws.{first_of-append, passed, told_by}
 use Rattle.desc_core.proofs.NetworkLaws.{IsNetwork-network_of}
-use Rattle.desc_core.specs.inner.Parts.{bad_known, ends_of, name_conditions, narrowed_among, network_by_uses, network_or, self_found, services_found, templates_found, twice_found}
-use Rattle.desc_core.specs.TemplateConditions.{bad_template, not_lawful}
+use Rattle.desc_core.specs.inner.Parts.{bad_known, ends_of, narrowed_among, network_by_uses, network_or, self_found, twice_found}
+use Rattle.desc_core.specs.TemplateConditions.{template_conditions}
 use Rattle.desc_core.specs.inner.Reads.{Reads}
 use Rattle.desc_core.specs.declared.fault.DescFault.{DescFault}
 use Rattle.desc_core.specs.declared.fault.DescFault.TheVariants.{Memory, Refused}
-use Rattle.desc_core.specs.UseConditions.{bad_attribute, bad_service, duplicate_assign, duplicate_flow, many_services, self_flow, undeclared_host, unknown_template, use_conditions}
+use Rattle.desc_core.specs.UseConditions.{assign_conditions, bad_attribute, duplicate_assign, flow_conditions, name_conditions, service_conditions, use_conditions}
 use Rattle.desc_core.specs.RawNetwork.{Known, asked_of, invariants_of, known_of, made_of, network_of, services_in}
 use Rattle.desc_form.specs.RawDescription.{RawDescription}
 use Rattle.desc_form.specs.declared.refusal.Refusal.{Refusal}
@@ -45,47 +45,56 @@ found_here w hosts ks es all = ap (λ hs. each (ends_of hs) w.flows) (sym all.sa
 
 -- Conditions 17, 18 and 19.
 abbrev before_last : RawDescription → List Host → List Known → List Flow → Option Refusal
-before_last w hosts ks es = option_or (duplicate_assign w) (option_or (bad_known hosts ks) (self_found es))
+before_last w hosts ks es = option_or (duplicate_assign w.invariants) (option_or (bad_known hosts ks) (self_found es))
 
-grouped : (c d e rest : Option Refusal) → option_or c (option_or d (option_or e rest)) ≡ option_or (option_or c (option_or d e)) rest
-grouped None None None rest = refl
-grouped None None (Some r) rest = refl
-grouped None (Some r) e rest = refl
-grouped (Some r) d e rest = refl
+-- The conditions in groups: those on services and templates, those on flows before them, and those on assigns before these.
+abbrev from_services : RawDescription → List (Option Refusal)
+from_services w = service_conditions w.flows ++ template_conditions w.templates
 
-last_four : (f g h i j : Option Refusal)
-    → option_or f (option_or g (option_or h (option_or i (option_or j None)))) ≡ option_or f (option_or (option_or g h) (option_or i j))
-last_four None None None None None = refl
-last_four None None None None (Some r) = refl
-last_four None None None (Some r) j = refl
-last_four None None (Some r) i j = refl
-last_four None (Some r) h i j = refl
-last_four (Some r) g h i j = refl
+abbrev from_flows : RawDescription → List (Option Refusal)
+from_flows w = flow_conditions w.flows ++ from_services w
 
-in_groups : (a b c d e f g h i j : Option Refusal) → a ≡ None → b ≡ None
-    → option_or a (option_or b (option_or c (option_or d (option_or e (option_or f (option_or g (option_or h (option_or i (option_or j None)))))))))
-    ≡ option_or (option_or c (option_or d e)) (option_or f (option_or (option_or g h) (option_or i j)))
-in_groups a b c d e f g h i j first second =
-    rw (first, second)
-    (grouped c d e (option_or f (option_or g (option_or h (option_or i (option_or j None))))) ∙ ap (option_or (option_or c (option_or d e))) (last_four f g h i j))
+abbrev from_assigns : RawDescription → List (Option Refusal)
+from_assigns w = assign_conditions w ++ from_flows w
+
+abbrev of_services : RawDescription → Option Refusal
+of_services w = option_or (first_of (service_conditions w.flows)) (first_of (template_conditions w.templates))
+
+names_first : (w : RawDescription) → first_of (use_conditions w) ≡ option_or (first_of (name_conditions w)) (first_of (from_assigns w))
+unfolding use_conditions
+names_first w = first_of-append (name_conditions w) (from_assigns w)
+
+in_groups : (w : RawDescription)
+    → first_of (from_assigns w) ≡ option_or (first_of (assign_conditions w)) (option_or (first_of (flow_conditions w.flows)) (of_services w))
+in_groups w =
+    first_of-append (assign_conditions w) (from_flows w)
+    ∙ ap (option_or (first_of (assign_conditions w))) (first_of-append (flow_conditions w.flows) (from_services w)
+    ∙ ap (option_or (first_of (flow_conditions w.flows))) (first_of-append (service_conditions w.flows) (template_conditions w.templates)))
+
+-- The code reports 19 with 17 and 18, and 20 later.
+in_steps : (c d e f rest : Option Refusal)
+    → option_or (option_or c (option_or d None)) (option_or (option_or e (option_or f None)) rest) ≡ option_or (option_or c (option_or d e)) (option_or f rest)
+in_steps None None None None rest = refl
+in_steps None None None (Some r) rest = refl
+in_steps None None (Some r) f rest = refl
+in_steps None (Some r) e f rest = refl
+in_steps (Some r) d e f rest = refl
 
 uses_are : (w : RawDescription) (hosts : List Host) (ks : List Known) (es : List Flow) → AreKnown w hosts ks es
-    → first_of (use_conditions w) ≡ option_or (before_last w hosts ks es) (option_or (twice_found es) (option_or (services_found w.flows) (templates_found w)))
-unfolding use_conditions bad_service many_services
+    → first_of (use_conditions w) ≡ option_or (before_last w hosts ks es) (option_or (twice_found es) (of_services w))
 uses_are w hosts ks es all =
     let known = known_here w hosts ks es all in
     let found = found_here w hosts ks es all in
-    let (templates, declared) = names_known w ks es known found in
-    in_groups (unknown_template w) (undeclared_host w) (duplicate_assign w) (bad_attribute w) (self_flow w) (duplicate_flow w) (bad_service w) (many_services w) (bad_template w) (not_lawful w) templates declared
-    ∙ (λ j. option_or (option_or (duplicate_assign w) (option_or ((bad_is w ks known ∙ ap (λ hs. bad_known hs ks) (sym all.same)) j) (self_is w es found j))) (option_or (twice_is w es found j) (option_or (services_found w.flows) (templates_found w))))
+    let attribute : bad_attribute w ≡ bad_known hosts ks = bad_is w ks known ∙ ap (λ hs. bad_known hs ks) (sym all.same) in
+    names_first w
+    ∙ ap (λ o. option_or o (first_of (from_assigns w))) (names_known w ks es known found)
+    ∙ in_groups w
+    ∙ (λ j. option_or (first_of (duplicate_assign w.invariants ∷ attribute j ∷ [])) (option_or (first_of (self_is w es found j ∷ twice_is w es found j ∷ [])) (of_services w)))
+    ∙ in_steps (duplicate_assign w.invariants) (bad_known hosts ks) (self_found es) (twice_found es) (of_services w)
 
 -- The refusal of the description.
 told : (w : RawDescription) (r : Refusal) → first_of (use_conditions w) ≡ Some r → network_by_uses w ≡ Err r
 told w r is = rw is refl
-
-names_first : (w : RawDescription) → first_of (use_conditions w) ≡ option_or (first_of (name_conditions w)) (first_of (duplicate_assign w ∷ bad_attribute w ∷ self_flow w ∷ duplicate_flow w ∷ bad_service w ∷ many_services w ∷ bad_template w ∷ not_lawful w ∷ []))
-unfolding use_conditions
-names_first w = first_of-append (name_conditions w) (duplicate_assign w ∷ bad_attribute w ∷ self_flow w ∷ duplicate_flow w ∷ bad_service w ∷ many_services w ∷ bad_template w ∷ not_lawful w ∷ [])
 
 refused_for_name : (w : RawDescription) (r : Refusal) → first_of (name_conditions w) ≡ Some r → network_by_uses w ≡ Err r
 refused_for_name w r name = told w r (names_first w ∙ rw name refl)
@@ -102,16 +111,16 @@ refused_twice : (w : RawDescription) (hosts : List Host) (ks : List Known) (es :
 refused_twice w hosts ks es r all before is = told w r (uses_are w hosts ks es all ∙ rw (before, is) refl)
 
 pub refused_services : (w : RawDescription) (hosts : List Host) (ks : List Known) (es : List Flow) (r : Refusal) → AreKnown w hosts ks es → before_last w hosts ks es ≡ None → twice_found es ≡ None
-    → services_found w.flows ≡ Some r → network_by_uses w ≡ Err r
+    → first_of (service_conditions w.flows) ≡ Some r → network_by_uses w ≡ Err r
 refused_services w hosts ks es r all before once is = told w r (uses_are w hosts ks es all ∙ rw (before, once, is) refl)
 
 pub refused_templates : (w : RawDescription) (hosts : List Host) (ks : List Known) (es : List Flow) (r : Refusal) → AreKnown w hosts ks es → before_last w hosts ks es ≡ None
-    → twice_found es ≡ None → services_found w.flows ≡ None → templates_found w ≡ Some r → network_by_uses w ≡ Err r
+    → twice_found es ≡ None → first_of (service_conditions w.flows) ≡ None → first_of (template_conditions w.templates) ≡ Some r → network_by_uses w ≡ Err r
 refused_templates w hosts ks es r all before once last is = told w r (uses_are w hosts ks es all ∙ rw (before, once, last, is) refl)
 
 -- If conditions 17, 18 and 19 do not apply, no flow is from a host to itself.
 pub none_to_itself : (w : RawDescription) (hosts : List Host) (ks : List Known) (es : List Flow) → before_last w hosts ks es ≡ None → self_found es ≡ None
-none_to_itself w hosts ks es none = (neither (bad_known hosts ks) _ (neither (duplicate_assign w) _ none).1).1
+none_to_itself w hosts ks es none = (neither (bad_known hosts ks) _ (neither (duplicate_assign w.invariants) _ none).1).1
 
 -- The requested flows, as they are built.
 abbrev pub made_set : RawDescription → ℕ → List Flow → SetOfFlows
@@ -146,7 +155,7 @@ network_is w hosts ks es asked services invariants all before set narrowed made 
 
 -- The result is a network, and it is the one that the description specifies.
 pub network_read : (w : RawDescription) (hosts : List Host) (ks : List Known) (es : List Flow) (asked : SetOfFlows) (services : List RestrictedFlow) (invariants : List AnyInv) → AreKnown w hosts ks es
-    → first_of (host_conditions w) ≡ None → before_last w hosts ks es ≡ None → twice_found es ≡ None → services_found w.flows ≡ None → templates_found w ≡ None
+    → first_of (host_conditions w) ≡ None → before_last w hosts ks es ≡ None → twice_found es ≡ None → first_of (service_conditions w.flows) ≡ None → first_of (template_conditions w.templates) ≡ None
     → asked ≡ record { size = length w.hosts; flows = asked_of w } → services ≡ narrowed_among es w.flows → invariants ≡ map (made_of hosts) ks
     → let d : Network = record { hosts = hosts; asked = asked; services = services; given = w.given; answers = w.answers; invariants = invariants } in
     IsNetwork d × (network_by_uses w ≡ Ok d)

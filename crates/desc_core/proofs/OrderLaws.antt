@@ -24,11 +24,11 @@ use Rattle.desc_core.specs.inner.Order.{IsLeast, NoneHolds}
 use Rattle.desc_form.specs.RawHosts.{network_hosts}
 use Rattle.desc_form.specs.Places.{first_place}
 use Rattle.desc_form.specs.Refusals.{number, refused, refused_item}
-use Rattle.desc_core.specs.UseConditions.{use_conditions, unknown_template, undeclared_host, duplicate_assign, duplicate_assign_of, bad_attribute, bad_attribute_of, bad_at, self_flow, duplicate_flow, bad_service, bad_service_of, many_services}
+use Rattle.desc_core.specs.UseConditions.{use_conditions, undeclared_host, duplicate_assign_of, bad_attribute, bad_attribute_of, bad_at, bad_service_of}
 use Rattle.desc_form.specs.FormConditions.{form_conditions}
 use Rattle.desc_form.specs.RawDescription.{RawDescription, RawHost, RawInvariant, written}
 use Rattle.desc_core.specs.Choices.{bad_of}
-use Rattle.desc_core.specs.TemplateConditions.{bad_template, not_lawful, unlawful_at}
+use Rattle.desc_core.specs.TemplateConditions.{unlawful_at}
 use Rattle.desc_form.specs.RawTemplate.{RawTemplate}
 use Rattle.host_net.specs.Host.{Host}
 
@@ -89,18 +89,6 @@ tells_bad_attribute : (w : RawDescription) → Tells 18 (bad_attribute w)
 unfolding bad_attribute
 tells_bad_attribute w = tells_found 18 (bad_attribute_of w.templates (network_hosts w)) (λ i. tells_attribute (network_hosts w) i (known_of w.templates (network_hosts w) i.what)) (numbered w.invariants)
 
-tells_duplicate_assign : (w : RawDescription) → Tells 17 (duplicate_assign w)
-unfolding duplicate_assign
-tells_duplicate_assign w = tells_found 17 duplicate_assign_of (λ i. tells_map 17 _ (λ p. refl) _) (numbered w.invariants)
-
-tells_not_lawful : (w : RawDescription) → Tells 24 (not_lawful w)
-unfolding not_lawful
-tells_not_lawful w = tells_found 24 unlawful_at (λ t. tells_map 24 _ (λ p. refl) _) (numbered w.templates)
-
-tells_bad_service : (w : RawDescription) → Tells 21 (bad_service w)
-unfolding bad_service
-tells_bad_service w = tells_found 21 bad_service_of (λ f. tells_map 21 _ (λ s. refl) _) (numbered w.flows)
-
 -- The conditions are numbered from 1 on.
 form_in_order : (table : Members) → InOrder 3 (form_conditions table)
 unfolding form_conditions first_place
@@ -135,13 +123,13 @@ hosts_in_order w = (
 )
 
 uses_in_order : (w : RawDescription) → InOrder 15 (use_conditions w)
-unfolding use_conditions unknown_template undeclared_host self_flow duplicate_flow many_services bad_template
+unfolding use_conditions undeclared_host
 uses_in_order w = (
   tells_map 15 _ (λ i. refl) _,
   (
     tells_map 16 _ (λ m. refl) _,
     (
-      tells_duplicate_assign w,
+      tells_found 17 duplicate_assign_of (λ i. tells_map 17 _ (λ p. refl) _) (numbered w.invariants),
       (
         tells_bad_attribute w,
         (
@@ -149,10 +137,10 @@ uses_in_order w = (
           (
             tells_map 20 _ (λ p. refl) _,
             (
-              tells_bad_service w,
+              tells_found 21 bad_service_of (λ f. tells_map 21 _ (λ s. refl) _) (numbered w.flows),
               (
                 tells_map 22 _ (λ f. refl) _,
-                (tells_map 23 _ (λ k. refl) _, (tells_not_lawful w, tt)),
+                (tells_map 23 _ (λ k. refl) _, (tells_found 24 unlawful_at (λ t. tells_map 24 _ (λ p. refl) _) (numbered w.templates), tt)),
               ),
             ),
           ),

@@ -7,8 +7,8 @@ use Rattle.std.specs.List.{AllZip, cons_option, filter_map, list_all}
 use Rattle.std.specs.Prelude.{◌==◌}
 use Rattle.desc_core.proofs.KnownLaws.{all_apart, each_zip, flow_is}
 use Rattle.desc_core.proofs.ListingLaws.{next}
-use Rattle.desc_core.specs.inner.Parts.{ends_of, many_found, narrowed_among, self_found, twice_found, with_services}
-use Rattle.desc_core.specs.inner.Flows.{has_many_services}
+use Rattle.desc_core.specs.inner.Parts.{ends_of, narrowed_among, self_found, twice_found, with_services}
+use Rattle.desc_core.specs.UseConditions.{has_many_services, many_services}
 use Rattle.desc_core.specs.RawNetwork.{narrowed_of, narrowed_to, services_in, declared_services}
 use Rattle.desc_form.specs.RawDescription.{RawDescription}
 use Rattle.desc_form.specs.RawFlow.{RawFlow}
@@ -135,7 +135,7 @@ pub services_are : (w : RawDescription) (es : List Flow) → each (ends_of (netw
 unfolding services_in
 services_are w es found none = narrowed_zip (network_hosts w) w.flows es (each_zip (ends_of (network_hosts w)) w.flows es found) (all_apart es none)
 
-pub all_few : (ws : List RawFlow) → many_found ws ≡ None → list_all (λ f. not (has_many_services f)) ws ≡ true
+pub all_few : (ws : List RawFlow) → many_services ws ≡ None → list_all (λ f. not (has_many_services f)) ws ≡ true
 all_few ws none = sym (all_numbered (λ f. not (has_many_services f)) 1 ws) ∙ none_found (λ f. has_many_services f.what) (numbered ws) (none_mapped _ _ none)
 
 -- ---- the flows in order: the restricted flows so far, and the remaining ones

@@ -255,17 +255,16 @@ template_tested t is =
     ((pairs_words t).1 is.pairs))
 
 -- Each is a valid template, and no two have the same name.
-pub templates_are : (w : RawDescription) → (bad_template w ≡ None) ↔ (All IsTemplate w.templates × AllPairs (λ t u. t.name ≢ u.name) w.templates)
-unfolding bad_template
-templates_are w =
-    let each_is = each_says is_template IsTemplate (λ t. (tested_template t, template_tested t)) w.templates in
-    let differ = templates_differ w.templates in (
+pub templates_are : (ts : List RawTemplate) → (bad_template ts ≡ None) ↔ (All IsTemplate ts × AllPairs (λ t u. t.name ≢ u.name) ts)
+templates_are ts =
+    let each_is = each_says is_template IsTemplate (λ t. (tested_template t, template_tested t)) ts in
+    let differ = templates_differ ts in (
       λ none.
-          let are = none_are [] 1 w.templates (none_mapped (λ k. refused BadTemplate (Template k)) (first_bad [] 1 w.templates) none) in
+          let are = none_are [] 1 ts (none_mapped (λ k. refused BadTemplate (Template k)) (first_bad [] 1 ts) none) in
           (each_is.0 are.each, differ.0 are.apart),
       λ (each, apart).
           ap (λ o. option_map (λ k. refused BadTemplate (Template k)) o)
-          (are_none [] 1 w.templates (record { each = each_is.1 each; apart = differ.1 apart; free = all_free w.templates })),
+          (are_none [] 1 ts (record { each = each_is.1 each; apart = differ.1 apart; free = all_free ts })),
     )
 
 -- ---- 24, as facts

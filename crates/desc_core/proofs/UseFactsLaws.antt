@@ -1,4 +1,4 @@
--- Conditions 15 to 24 do not refuse a description if and only if the facts of UseFacts hold for it.
+-- No condition from 15 on refuses a description if and only if the facts of UseFacts hold for it.
 use Rattle.std.proofs.Common.{◌≡◌, ℕ, ◌≤◌, ◌+◌, Bool, true, false, not, ◌&&◌, List, length, Option, Some, None, option_map, option_and_then, is_none, is_some, refl, sym, ap, ◌∙◌}
 use Rattle.std.proofs.lemmas.List.Elements.{All-from_recursion, recursion_from_All}
 use Rattle.std.proofs.lemmas.Slice.Eq.{bytes_eq-Decides}
@@ -14,8 +14,7 @@ use Rattle.desc_core.proofs.TemplateFactsLaws.{partners_are, templates_are}
 use Rattle.desc_form.specs.RawTemplate.{RawTemplate}
 use Rattle.desc_core.specs.inner.TemplateFacts.{HasPartner}
 use Rattle.desc_core.specs.inner.UseFacts.{HasUses, SaysAttributes}
-use Rattle.desc_core.specs.UseConditions.{bad_at, bad_attribute, bad_attribute_of, bad_service, bad_service_of, duplicate_assign, duplicate_assign_of, duplicate_flow, is_declared, many_services, self_flow, undeclared_host, unknown_template, use_conditions}
-use Rattle.desc_core.specs.inner.Flows.{has_many_services, same_names}
+use Rattle.desc_core.specs.UseConditions.{bad_at, bad_attribute, bad_attribute_of, bad_service, bad_service_of, duplicate_assign, duplicate_assign_of, duplicate_flow, has_many_services, is_declared, many_services, same_names, self_flow, undeclared_host, unknown_template, use_conditions}
 use Rattle.desc_core.specs.RawNetwork.{Known, known_of}
 use Rattle.desc_form.specs.Refusals.{refused}
 use Rattle.desc_form.specs.RawDescription.{RawDescription, RawAssign, RawInvariant}
@@ -42,8 +41,7 @@ templates_same : (w : RawDescription) (is : List RawInvariant)
 templates_same w is = λ k. list_all (λ (i : RawInvariant). not_none (chosen w.templates i.template) k) is
 
 pub templates_known : (w : RawDescription)
-    → (unknown_template w ≡ None) ↔ (list_all (λ (i : RawInvariant). is_some (chosen w.templates i.template)) w.invariants ≡ true)
-unfolding unknown_template
+    → (unknown_template w.templates w.invariants ≡ None) ↔ (list_all (λ (i : RawInvariant). is_some (chosen w.templates i.template)) w.invariants ≡ true)
 templates_known w =
     then_words (numbered_row (λ (i : RawInvariant). is_none (chosen w.templates i.template)) _ w.invariants) (same_test (templates_same w w.invariants))
 
@@ -69,8 +67,7 @@ abbrev pub same_host : RawAssign → RawAssign → Bool
 same_host a b = bytes_eq a.host b.host
 
 pub assigns_once : (w : RawDescription)
-    → (duplicate_assign w ≡ None) ↔ (list_all (λ (i : RawInvariant). no_pair same_host i.assigns) w.invariants ≡ true)
-unfolding duplicate_assign
+    → (duplicate_assign w.invariants ≡ None) ↔ (list_all (λ (i : RawInvariant). no_pair same_host i.assigns) w.invariants ≡ true)
 assigns_once w =
     tested_row duplicate_assign_of (λ (i : RawInvariant). no_pair same_host i.assigns) (λ k i. numbered_pairs_row same_host _ i.assigns) w.invariants
 
@@ -95,12 +92,10 @@ attributes_said w =
 
 -- ---- 19 and 20
 
-pub ends_differ : (w : RawDescription) → (self_flow w ≡ None) ↔ (list_all (λ (f : RawFlow). not (bytes_eq f.from f.to)) w.flows ≡ true)
-unfolding self_flow
+pub ends_differ : (w : RawDescription) → (self_flow w.flows ≡ None) ↔ (list_all (λ (f : RawFlow). not (bytes_eq f.from f.to)) w.flows ≡ true)
 ends_differ w = numbered_row (λ (f : RawFlow). bytes_eq f.from f.to) _ w.flows
 
-pub flows_differ : (w : RawDescription) → (duplicate_flow w ≡ None) ↔ (no_pair same_names w.flows ≡ true)
-unfolding duplicate_flow
+pub flows_differ : (w : RawDescription) → (duplicate_flow w.flows ≡ None) ↔ (no_pair same_names w.flows ≡ true)
 flows_differ w = numbered_pairs_row same_names _ w.flows
 
 -- ---- 21 and 22
@@ -114,12 +109,10 @@ said_same texts = λ k. list_all (λ text. not_none (service_of text) k) texts
 service_one : (k : ℕ) (f : RawFlow) → (bad_service_of (nth k f) ≡ None) ↔ (services_test f ≡ true)
 service_one k f = then_words (numbered_row (λ text. is_none (service_of text)) _ f.services) (same_test (said_same f.services))
 
-pub services_are_said : (w : RawDescription) → (bad_service w ≡ None) ↔ (list_all services_test w.flows ≡ true)
-unfolding bad_service
+pub services_are_said : (w : RawDescription) → (bad_service w.flows ≡ None) ↔ (list_all services_test w.flows ≡ true)
 services_are_said w = tested_row bad_service_of services_test service_one w.flows
 
-pub services_are_few : (w : RawDescription) → (many_services w ≡ None) ↔ (list_all (λ f. not (has_many_services f)) w.flows ≡ true)
-unfolding many_services
+pub services_are_few : (w : RawDescription) → (many_services w.flows ≡ None) ↔ (list_all (λ f. not (has_many_services f)) w.flows ≡ true)
 services_are_few w = numbered_row has_many_services _ w.flows
 
 -- ---- 24
@@ -127,9 +120,8 @@ services_are_few w = numbered_row has_many_services _ w.flows
 partners_one : (k : ℕ) (t : RawTemplate) → (unlawful_at (nth k t) ≡ None) ↔ (list_all (has_partner t) t.deny ≡ true)
 partners_one k t = then_words (numbered_row (λ p. not (has_partner t p)) _ t.deny) (same_test (all_twice (has_partner t) t.deny))
 
-pub partners_there : (w : RawDescription) → (not_lawful w ≡ None) ↔ (list_all (λ t. list_all (has_partner t) t.deny) w.templates ≡ true)
-unfolding not_lawful
-partners_there w = tested_row unlawful_at (λ t. list_all (has_partner t) t.deny) partners_one w.templates
+pub partners_there : (ts : List RawTemplate) → (not_lawful ts ≡ None) ↔ (list_all (λ t. list_all (has_partner t) t.deny) ts ≡ true)
+partners_there ts = tested_row unlawful_at (λ t. list_all (has_partner t) t.deny) partners_one ts
 
 -- ---- all of them
 
@@ -144,8 +136,8 @@ pub record PassesUses (w : RawDescription) : Type 0 where
   pub different : no_pair same_names w.flows ≡ true
   pub services : list_all services_test w.flows ≡ true
   pub few : list_all (λ f. not (has_many_services f)) w.flows ≡ true
-  pub declared : bad_template w ≡ None
-  pub lawful : not_lawful w ≡ None
+  pub declared : bad_template w.templates ≡ None
+  pub lawful : not_lawful w.templates ≡ None
 
 pub PassesUses-uses : (w : RawDescription) → first_of (use_conditions w) ≡ None → PassesUses w
 unfolding use_conditions
@@ -247,8 +239,8 @@ few_says : (fs : List RawFlow) → (list_all (λ f. not (has_many_services f)) f
 few_says fs =
     none_says has_many_services (λ (f : RawFlow). length f.services ≤ service_limit) (λ f. few_words service_limit (length f.services)) fs
 
-lawful_says : (w : RawDescription) → (not_lawful w ≡ None) ↔ All (λ (t : RawTemplate). All (HasPartner t) t.deny) w.templates
-lawful_says w = then_words (partners_there w) (partners_are w.templates)
+lawful_says : (ts : List RawTemplate) → (not_lawful ts ≡ None) ↔ All (λ (t : RawTemplate). All (HasPartner t) t.deny) ts
+lawful_says ts = then_words (partners_there ts) (partners_are ts)
 
 pub HasUses-tests : (w : RawDescription) → PassesUses w → HasUses w
 HasUses-tests w tests = record {
@@ -261,9 +253,9 @@ HasUses-tests w tests = record {
   different = (different_says w.flows).0 tests.different;
   services = (services_say w.flows).0 tests.services;
   few = (few_says w.flows).0 tests.few;
-  declared = ((templates_are w).0 tests.declared).0;
-  distinct = ((templates_are w).0 tests.declared).1;
-  lawful = (lawful_says w).0 tests.lawful;
+  declared = ((templates_are w.templates).0 tests.declared).0;
+  distinct = ((templates_are w.templates).0 tests.declared).1;
+  lawful = (lawful_says w.templates).0 tests.lawful;
 }
 
 tests-HasUses : (w : RawDescription) → HasUses w → PassesUses w
@@ -277,10 +269,10 @@ tests-HasUses w uses = record {
   different = (different_says w.flows).1 uses.different;
   services = (services_say w.flows).1 uses.services;
   few = (few_says w.flows).1 uses.few;
-  declared = (templates_are w).1 (uses.declared, uses.distinct);
-  lawful = (lawful_says w).1 uses.lawful;
+  declared = (templates_are w.templates).1 (uses.declared, uses.distinct);
+  lawful = (lawful_says w.templates).1 uses.lawful;
 }
 
--- None of conditions 15 to 24 applies if and only if the facts hold.
+-- No condition from 15 on applies if and only if the facts hold.
 pub has_uses : (w : RawDescription) → (first_of (use_conditions w) ≡ None) ↔ HasUses w
 has_uses w = (λ none. HasUses-tests w (PassesUses-uses w none), λ uses. uses-PassesUses w (tests-HasUses w uses))

@@ -1,4 +1,4 @@
--- The flows of a description that passes conditions 15 to 24: each is between two of its hosts, and none is listed twice.
+-- The flows of a description that passes the conditions from 15 on: each is between two of its hosts, and none is listed twice.
 use Rattle.std.proofs.Common.{◌≡◌, ◌==◌, true, not, List, [], ◌∷◌, length, Option, Some, None, is_some, refl, sym, ◌∙◌}
 use Rattle.std.proofs.lemmas.Bool.{and_parts}
 use Rattle.std.specs.List.{AllZip, list_all}

@@ -161,7 +161,7 @@ IsWhole-network_of w no_host no_use =
       listed = λ given. set_of_listed w all given;
       every = λ given. rw (asked_by w all false given, length-network_hosts w) (IsFull-every_flow (length w.hosts));
       services = narrowed_whole (network_hosts w) w.flows (zip_there (flow_of_names (network_hosts w)) w.flows all.flows all.named) sound.services;
-      lawful = all_lawful w sound.declared sound.lawful;
+      lawful = all_lawful w.templates sound.declared sound.lawful;
     }
 
 pub IsDescribedByTable-described : (table : Members) (d : Network) → described_by_table table ≡ Ok d → IsDescribedByTable table d

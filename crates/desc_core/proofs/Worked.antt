@@ -3,23 +3,23 @@
 use Rattle.std.proofs.Common.{arith}
 use Rattle.std.proofs.lemmas.List.{length-replicate}
 use Rattle.desc_core.specs.Conditions.{byte_limit, table_conditions}
-use Rattle.std.specs.Prelude.{ℕ, ◌<◌, length, replicate, ◌≡◌, refl, pos, true, false, List, [], ◌∷◌, map, codes, Ok, Err}
+use Rattle.std.specs.Prelude.{ℕ, ◌<◌, length, replicate, ◌≡◌, refl, pos, true, false, List, [], ◌∷◌, ◌++◌, map, codes, Result, Ok, Err}
 use Rattle.toml.specs.Data.{string, integer, table, Members, no_members, member}
 use Rattle.attr_core.specs.Blp.{blp_attribute}
 use Rattle.attr_core.specs.Shapes.{of_shape}
 use Rattle.attr_core.specs.Templates.{template_named}
 use Rattle.desc_core.specs.Choices.{bad_of, made_by}
-use Rattle.desc_core.specs.TemplateConditions.{bad_template, not_lawful}
 use Rattle.desc_core.proofs.Examples.{list, host_at, rest_host, flow, level, invariant, host_a, host_b, a_to_b, described_as, of_hosts, of_flows, of_invariants, texts, a_to_b_by, of_narrowed_flows, host_with}
 use Rattle.desc_form.specs.declared.refusal.Refusal.{Refusal}
 use Rattle.flow_set.specs.FlowSet.{set_of}
+use Rattle.net_core.specs.Network.{Network}
 use Rattle.desc_form.specs.RawFlow.{raw_flow}
 use Rattle.desc_form.specs.HostConditions.{bad_version, too_many, bad_name, duplicate_host, bad_prefix, host_bits, no_address, two_rests, overlap, all_entries, host_conditions}
 use Rattle.desc_form.specs.Mentions.{used_names, all_names}
 use Rattle.desc_core.specs.RawNetwork.{network_of, asked_of, services_in, invariants_of, known_of}
 use Rattle.flow_set.specs.EveryFlow.{every_flow}
 use Rattle.desc_form.specs.Places.{has_wrong_type, first_place, locations, listed, assigns_of}
-use Rattle.desc_core.specs.UseConditions.{use_conditions, unknown_template, undeclared_host, duplicate_assign, bad_attribute, self_flow, duplicate_flow, bad_service, many_services}
+use Rattle.desc_core.specs.UseConditions.{use_conditions, undeclared_host, bad_attribute}
 use Rattle.desc_core.proofs.DescriptionLaws.{described-too_long}
 use Rattle.desc_core.specs.Description.{described, described_by_table}
 use Rattle.desc_form.specs.Refusals.{refused, refused_by, refused_item}
@@ -36,17 +36,17 @@ use Rattle.std.specs.Fmt.{digits}
 use Rattle.text_core.specs.inner.Decimal.{number}
 use Rattle.host_net.specs.ServiceText.{service_of}
 
--- A description, and its refusal.
+-- A description, and its network or its refusal.
 pub record Row : Type 0 where
   pub document : Members
-  pub refusal : Refusal
+  pub result : Result Network Refusal
 
 abbrev pub row : Members → Refusal → Row
-row document refusal = record { document = document; refusal = refusal }
+row document refusal = record { document = document; result = Err refusal }
 
 -- The flow, the invariant, the host, the number of hosts, the version or a key is changed.
-abbrev worked_rows : List Row
-worked_rows =
+abbrev changed_rows : List Row
+changed_rows =
     row (of_flows (flow (codes "a") (codes "c") ∷ [])) (refused_name UndeclaredHost (FlowAt 1) 2 (codes "c"))
     ∷ row (of_flows (flow (codes "a") (codes "a") ∷ [])) (refused SelfFlow (FlowAt 1))
     ∷ row (of_flows (flow (codes "a") (codes "b") ∷ flow (codes "a") (codes "b") ∷ [])) (refused_by DuplicateFlow (FlowAt 2) 1)
@@ -59,32 +59,6 @@ worked_rows =
     ∷ row (described_as (integer (pos 3)) a_to_b (list (host_a ∷ host_b ∷ []))) (refused BadVersion Document)
     ∷ row (of_hosts (host_a ∷ table (member (codes "colour") (integer (pos 1)) (member (codes "name") (string (codes "b")) no_members)) ∷ [])) (refused UnknownKey (Host 2))
     ∷ []
-
-pub worked : map (λ r. described_by_table r.document) worked_rows ≡ map (λ r. Err r.refusal) worked_rows
-unfolding has_only_keys lacks_key all_suit of_shape has_wrong_type first_place locations listed assigns_of has_only has_key text_at integer_at boolean_at number_at elements_of list_at raw_flow written raw_host raw_invariant raw_assign bad_version too_many bad_name duplicate_host bad_prefix host_bits no_address two_rests overlap all_entries used_names all_names unknown_template undeclared_host duplicate_assign bad_attribute self_flow duplicate_flow bad_service many_services network_of network_hosts asked_of services_in invariants_of known_of every_flow described_by_table table_conditions form_conditions host_conditions use_conditions prefix_of octet address_text prefix_text number is_exact meets template_named bad_of made_by blp_attribute bad_template not_lawful digits
-worked = refl
-
--- Without a change it is accepted.
-pub accepted : described_by_table (of_flows a_to_b) ≡ Ok (record {
-  hosts =
-      record { name = codes "a"; prefixes = prefix_with 167772161 32 ∷ []; rest = false }
-      ∷ record { name = codes "b"; prefixes = prefix_with 167772162 32 ∷ []; rest = false }
-      ∷ [];
-  asked = record { size = 2; flows = record { from = 0; to = 1 } ∷ [] };
-  services = [];
-  given = true;
-  answers = false;
-  invariants = [];
-})
-unfolding has_only_keys lacks_key all_suit of_shape has_wrong_type first_place locations listed assigns_of has_only has_key text_at integer_at boolean_at number_at elements_of list_at raw_flow written raw_host raw_invariant raw_assign bad_version too_many bad_name duplicate_host bad_prefix host_bits no_address two_rests overlap all_entries used_names all_names unknown_template undeclared_host duplicate_assign bad_attribute self_flow duplicate_flow bad_service many_services network_of network_hosts asked_of services_in invariants_of known_of every_flow described_by_table table_conditions form_conditions host_conditions use_conditions prefix_of octet address_text prefix_text number is_exact meets template_named bad_of made_by blp_attribute bad_template not_lawful set_of digits
-accepted = refl
-
--- A file of one byte more than the limit is too long, regardless of its content.
-pub too_long : (byte : ℕ) → described (replicate 1048577 byte) ≡ Err (refused TooLong Document)
-too_long byte = described-too_long (replicate 1048577 byte) (longer 1048577 byte (omega arith))
-  where
-    longer : (n byte : ℕ) → byte_limit < n → byte_limit < length (replicate n byte)
-    longer n byte h = omega (arith, length-replicate n byte, h)
 
 -- ---- descriptions with more than one error, or at the boundary of a rule
 
@@ -110,10 +84,6 @@ settled_rows =
     ∷ row (of_invariants (invariant (codes "blp") (level (codes "a") (integer (pos 1)) ∷ level (codes "b") (integer (pos 1)) ∷ level (codes "a") (integer (pos 1)) ∷ []) ∷ [])) (refused_by DuplicateAssign (Assign 1 3) 1)
     ∷ []
 
-pub settled : map (λ r. described_by_table r.document) settled_rows ≡ map (λ r. Err r.refusal) settled_rows
-unfolding has_only_keys lacks_key all_suit of_shape has_wrong_type first_place locations listed assigns_of has_only has_key text_at integer_at boolean_at number_at elements_of list_at raw_flow written raw_host raw_invariant raw_assign bad_version too_many bad_name duplicate_host bad_prefix host_bits no_address two_rests overlap all_entries used_names all_names unknown_template undeclared_host duplicate_assign bad_attribute self_flow duplicate_flow bad_service many_services network_of network_hosts asked_of services_in invariants_of known_of every_flow described_by_table table_conditions form_conditions host_conditions use_conditions prefix_of octet address_text prefix_text number is_exact meets template_named bad_of made_by blp_attribute bad_template not_lawful digits
-settled = refl
-
 -- ---- services
 
 -- A number with a leading zero; too many services, both without and after a string that denotes none; a repeated flow takes precedence over
@@ -133,12 +103,25 @@ service_rows =
     ∷ row (described_as (integer (pos 3)) (a_to_b_by (codes "tcp/80" ∷ []) ∷ []) (list (host_a ∷ host_b ∷ []))) (refused WrongType (FlowAt 1))
     ∷ []
 
-pub services_refused : map (λ r. described_by_table r.document) service_rows ≡ map (λ r. Err r.refusal) service_rows
-unfolding has_only_keys lacks_key all_suit of_shape has_wrong_type first_place locations listed assigns_of has_only has_key text_at integer_at boolean_at number_at elements_of list_at raw_flow written raw_host raw_invariant raw_assign bad_version too_many bad_name duplicate_host bad_prefix host_bits no_address two_rests overlap all_entries used_names all_names unknown_template undeclared_host duplicate_assign bad_attribute self_flow duplicate_flow bad_service many_services network_of network_hosts asked_of services_in invariants_of known_of every_flow described_by_table table_conditions form_conditions host_conditions use_conditions prefix_of octet address_text prefix_text number is_exact meets template_named bad_of made_by blp_attribute bad_template not_lawful service_of digits
-services_refused = refl
+-- ---- descriptions that are accepted
+
+-- Without a change.
+abbrev plain_network : Network
+plain_network = record {
+  hosts =
+      record { name = codes "a"; prefixes = prefix_with 167772161 32 ∷ []; rest = false }
+      ∷ record { name = codes "b"; prefixes = prefix_with 167772162 32 ∷ []; rest = false }
+      ∷ [];
+  asked = record { size = 2; flows = record { from = 0; to = 1 } ∷ [] };
+  services = [];
+  given = true;
+  answers = false;
+  invariants = [];
+}
 
 -- One flow is restricted, the other is unrestricted.
-pub services_accepted : described_by_table (of_narrowed_flows (flow (codes "b") (codes "a") ∷ a_to_b_by (codes "tcp/80" ∷ codes "udp/53-60" ∷ codes "icmp" ∷ []) ∷ [])) ≡ Ok (record {
+abbrev restricted_network : Network
+restricted_network = record {
   hosts =
       record { name = codes "a"; prefixes = prefix_with 167772161 32 ∷ []; rest = false }
       ∷ record { name = codes "b"; prefixes = prefix_with 167772162 32 ∷ []; rest = false }
@@ -152,6 +135,24 @@ pub services_accepted : described_by_table (of_narrowed_flows (flow (codes "b") 
   given = true;
   answers = false;
   invariants = [];
-})
-unfolding has_only_keys lacks_key all_suit of_shape has_wrong_type first_place locations listed assigns_of has_only has_key text_at integer_at boolean_at number_at elements_of list_at raw_flow written raw_host raw_invariant raw_assign bad_version too_many bad_name duplicate_host bad_prefix host_bits no_address two_rests overlap all_entries used_names all_names unknown_template undeclared_host duplicate_assign bad_attribute self_flow duplicate_flow bad_service many_services network_of network_hosts asked_of services_in invariants_of known_of every_flow described_by_table table_conditions form_conditions host_conditions use_conditions prefix_of octet address_text prefix_text number is_exact meets template_named bad_of made_by blp_attribute bad_template not_lawful set_of service_of digits
-services_accepted = refl
+}
+
+abbrev accepted_rows : List Row
+accepted_rows =
+    record { document = of_flows a_to_b; result = Ok plain_network }
+    ∷ record { document = of_narrowed_flows (flow (codes "b") (codes "a") ∷ a_to_b_by (codes "tcp/80" ∷ codes "udp/53-60" ∷ codes "icmp" ∷ []) ∷ []); result = Ok restricted_network }
+    ∷ []
+
+abbrev rows : List Row
+rows = changed_rows ++ (settled_rows ++ (service_rows ++ accepted_rows))
+
+pub worked : map (λ r. described_by_table r.document) rows ≡ map (λ r. r.result) rows
+unfolding has_only_keys lacks_key all_suit of_shape has_wrong_type first_place locations listed assigns_of has_only has_key text_at integer_at boolean_at number_at elements_of list_at raw_flow written raw_host raw_invariant raw_assign bad_version too_many bad_name duplicate_host bad_prefix host_bits no_address two_rests overlap all_entries used_names all_names undeclared_host bad_attribute network_of network_hosts asked_of services_in invariants_of known_of every_flow described_by_table table_conditions form_conditions host_conditions use_conditions prefix_of octet address_text prefix_text number is_exact meets template_named bad_of made_by blp_attribute digits set_of service_of
+worked = refl
+
+-- A file of one byte more than the limit is too long, regardless of its content.
+pub too_long : (byte : ℕ) → described (replicate 1048577 byte) ≡ Err (refused TooLong Document)
+too_long byte = described-too_long (replicate 1048577 byte) (longer 1048577 byte (omega arith))
+  where
+    longer : (n byte : ℕ) → byte_limit < n → byte_limit < length (replicate n byte)
+    longer n byte h = omega (arith, length-replicate n byte, h)

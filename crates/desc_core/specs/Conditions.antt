@@ -12,6 +12,6 @@ use Rattle.desc_form.specs.HostConditions.{host_conditions}
 abbrev pub byte_limit : ℕ
 byte_limit = 1048576
 
--- Conditions 3 to 24 on a table, with the refusal of each.
+-- The conditions on a table, from 3 on, with the refusal of each.
 unfoldable pub table_conditions : Members → List (Option Refusal)
 table_conditions table = form_conditions table ++ (host_conditions (written table) ++ use_conditions (written table))

@@ -18,7 +18,7 @@ abbrev pub ok_unless_refused : {A : Type 0} → Option Refusal → A → Result 
 ok_unless_refused (Some refusal) x = Err refusal
 ok_unless_refused None x = Ok x
 
--- The network that a table describes, or the refusal of the first of conditions 3 to 24 that applies.
+-- The network that a table describes, or the refusal of the first condition from 3 on that applies.
 unfoldable pub described_by_table : Members → Result Network Refusal
 described_by_table table = ok_unless_refused (first_of (table_conditions table)) (network_of (written table))
 

@@ -4,7 +4,6 @@ use Rattle.std.specs.List.{list_all, list_any}
 use Rattle.std.specs.Str.{bytes_eq}
 use Rattle.attr_core.specs.Templates.{template_named}
 use Rattle.desc_form.specs.Refusals.{refused, refused_item}
-use Rattle.desc_form.specs.RawDescription.{RawDescription}
 use Rattle.desc_form.specs.RawTemplate.{RawPair, RawTemplate}
 use Rattle.desc_form.specs.declared.refusal.Place.TheVariants.{Template}
 use Rattle.desc_form.specs.declared.refusal.Refusal.{Refusal}
@@ -53,8 +52,8 @@ first_bad earlier k [] = None
 first_bad earlier k (t ∷ ts) = if is_well_formed earlier t then first_bad (earlier ++ t ∷ []) (k + 1) ts else Some k
 
 -- 23: a template is invalid.
-unfoldable pub bad_template : RawDescription → Option Refusal
-bad_template w = option_map (λ k. refused BadTemplate (Template k)) (first_bad [] 1 w.templates)
+abbrev pub bad_template : List RawTemplate → Option Refusal
+bad_template ts = option_map (λ k. refused BadTemplate (Template k)) (first_bad [] 1 ts)
 
 -- The template denies the pair.
 abbrev pub denies : RawTemplate → List ℕ → List ℕ → Bool
@@ -70,5 +69,9 @@ unlawful_at t =
     option_map (λ p. refused_item NotLawful (Template t.number) p.number) (find (λ p. not (has_partner t.what p.what)) (numbered t.what.deny))
 
 -- 24: a denied pair has no denied partner.
-unfoldable pub not_lawful : RawDescription → Option Refusal
-not_lawful w = first_found unlawful_at (numbered w.templates)
+abbrev pub not_lawful : List RawTemplate → Option Refusal
+not_lawful ts = first_found unlawful_at (numbered ts)
+
+-- The conditions on templates in the order of their numbers, 23 and 24.
+abbrev pub template_conditions : List RawTemplate → List (Option Refusal)
+template_conditions ts = bad_template ts ∷ not_lawful ts ∷ []

@@ -1,10 +1,10 @@
--- Refusals 15 to 24 of a description: its invariants, their assigns, its flows and their services, and its templates (TemplateConditions;
+-- The refusals of a description from 15 on: its invariants, their assigns, its flows and their services, and its templates (TemplateConditions;
 -- the description's format, docs/FORMATS.md).
-use Rattle.std.specs.Prelude.{ℕ, ◌+◌, Bool, not, ◌&&◌, nat_lt, List, [], ◌∷◌, length, find, Option, option_map, is_none}
+use Rattle.std.specs.Prelude.{ℕ, ◌+◌, Bool, not, ◌&&◌, nat_lt, List, [], ◌∷◌, ◌++◌, length, find, Option, option_map, is_none}
 use Rattle.std.specs.List.{list_any}
 use Rattle.std.specs.Str.{bytes_eq}
 use Rattle.desc_core.specs.Choices.{bad_of, chosen}
-use Rattle.desc_core.specs.TemplateConditions.{bad_template, not_lawful}
+use Rattle.desc_core.specs.TemplateConditions.{template_conditions}
 use Rattle.desc_form.specs.RawTemplate.{RawTemplate}
 use Rattle.desc_form.specs.declared.refusal.Place.TheVariants.{Invariant, Assign, FlowAt}
 use Rattle.desc_form.specs.declared.refusal.Refusal.{Refusal}
@@ -22,8 +22,8 @@ use Rattle.host_net.specs.ServiceText.{service_of}
 use Rattle.text_core.specs.Steps.{◌>>=◌}
 
 -- 15: the name is neither that of a template nor that of a declared one.
-unfoldable pub unknown_template : RawDescription → Option Refusal
-unknown_template w = first_at UnknownTemplate Invariant (λ i. is_none (chosen w.templates i.template)) w.invariants
+abbrev pub unknown_template : List RawTemplate → List RawInvariant → Option Refusal
+unknown_template templates is = first_at UnknownTemplate Invariant (λ i. is_none (chosen templates i.template)) is
 
 -- A host of the description has the name.
 abbrev pub is_declared : RawDescription → List ℕ → Bool
@@ -39,8 +39,8 @@ abbrev pub duplicate_assign_of : Numbered RawInvariant → Option Refusal
 duplicate_assign_of i = barred_at DuplicateAssign (Assign i.number) (λ a b. bytes_eq a.host b.host) i.what.assigns
 
 -- 17: an assign has the host of an earlier one of the same invariant.
-unfoldable pub duplicate_assign : RawDescription → Option Refusal
-duplicate_assign w = first_found duplicate_assign_of (numbered w.invariants)
+abbrev pub duplicate_assign : List RawInvariant → Option Refusal
+duplicate_assign is = first_found duplicate_assign_of (numbered is)
 
 -- An invariant is refused at its first assign that specifies no attribute.
 abbrev pub bad_at : List Host → ℕ → Known → Option Refusal
@@ -56,12 +56,16 @@ unfoldable pub bad_attribute : RawDescription → Option Refusal
 bad_attribute w = first_found (bad_attribute_of w.templates (network_hosts w)) (numbered w.invariants)
 
 -- 19: both names of a flow are equal.
-unfoldable pub self_flow : RawDescription → Option Refusal
-self_flow w = first_at SelfFlow FlowAt (λ f. bytes_eq f.from f.to) w.flows
+abbrev pub self_flow : List RawFlow → Option Refusal
+self_flow fs = first_at SelfFlow FlowAt (λ f. bytes_eq f.from f.to) fs
+
+-- Two flows have the same names.
+abbrev pub same_names : RawFlow → RawFlow → Bool
+same_names f g = bytes_eq f.from g.from && bytes_eq f.to g.to
 
 -- 20: a flow is listed twice, regardless of its services.
-unfoldable pub duplicate_flow : RawDescription → Option Refusal
-duplicate_flow w = barred_at DuplicateFlow FlowAt (λ f g. bytes_eq f.from g.from && bytes_eq f.to g.to) w.flows
+abbrev pub duplicate_flow : List RawFlow → Option Refusal
+duplicate_flow fs = barred_at DuplicateFlow FlowAt same_names fs
 
 -- A flow is refused at its first string that denotes no service. The first string after its two names is item 3.
 abbrev pub bad_service_of : Numbered RawFlow → Option Refusal
@@ -69,24 +73,34 @@ bad_service_of f =
     option_map (λ s. refused_item BadService (FlowAt f.number) (s.number + 2)) (find (λ s. is_none (service_of s.what)) (numbered f.what.services))
 
 -- 21: a string after the names of a flow denotes no service.
-unfoldable pub bad_service : RawDescription → Option Refusal
-bad_service w = first_found bad_service_of (numbered w.flows)
+abbrev pub bad_service : List RawFlow → Option Refusal
+bad_service fs = first_found bad_service_of (numbered fs)
+
+-- The flow has more services than the limit.
+abbrev pub has_many_services : RawFlow → Bool
+has_many_services f = nat_lt service_limit (length f.services)
 
 -- 22: a flow has more services than the limit.
-unfoldable pub many_services : RawDescription → Option Refusal
-many_services w = first_at ManyServices FlowAt (λ f. nat_lt service_limit (length f.services)) w.flows
+abbrev pub many_services : List RawFlow → Option Refusal
+many_services fs = first_at ManyServices FlowAt has_many_services fs
 
--- The conditions in the order of their numbers, 15 to 24.
+-- The conditions in groups, each in the order of their numbers. 15 and 16: the names of templates and of hosts.
+abbrev pub name_conditions : RawDescription → List (Option Refusal)
+name_conditions w = unknown_template w.templates w.invariants ∷ undeclared_host w ∷ []
+
+-- 17 and 18: the assigns.
+abbrev pub assign_conditions : RawDescription → List (Option Refusal)
+assign_conditions w = duplicate_assign w.invariants ∷ bad_attribute w ∷ []
+
+-- 19 and 20: the hosts of flows.
+abbrev pub flow_conditions : List RawFlow → List (Option Refusal)
+flow_conditions fs = self_flow fs ∷ duplicate_flow fs ∷ []
+
+-- 21 and 22: the services of flows.
+abbrev pub service_conditions : List RawFlow → List (Option Refusal)
+service_conditions fs = bad_service fs ∷ many_services fs ∷ []
+
+-- All of them, from 15 on.
 unfoldable pub use_conditions : RawDescription → List (Option Refusal)
 use_conditions w =
-    unknown_template w
-    ∷ undeclared_host w
-    ∷ duplicate_assign w
-    ∷ bad_attribute w
-    ∷ self_flow w
-    ∷ duplicate_flow w
-    ∷ bad_service w
-    ∷ many_services w
-    ∷ bad_template w
-    ∷ not_lawful w
-    ∷ []
+    name_conditions w ++ (assign_conditions w ++ (flow_conditions w.flows ++ (service_conditions w.flows ++ template_conditions w.templates)))

@@ -1,6 +1,5 @@
 pub mod AllConditions
 pub mod ChoiceView
-pub mod Flows
 pub mod KnownView
 pub mod Makeable
 pub mod Migrated

@@ -27,7 +27,7 @@ pub fn describe(alloc: Global, bytes: &[u8]) -> Result<Description, DescFault>
     // The result contains everything of the document: nothing is ignored.
     ensures whole { IfOk result (λ d. IsDescribed bytes.now d) }
 
-    // A description is accepted only if none of the twenty-four conditions applies.
+    // A description is accepted only if none of the conditions applies.
     ensures none { IfOk result (λ _. NoneHolds (conditions bytes.now)) }
 
     // The reported condition has the least number of those that apply.

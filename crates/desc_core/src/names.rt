@@ -3,18 +3,16 @@
 ghost use Rattle.std.specs.Prelude.{◌≡◌, ◌≢◌, Some, find, is_none, map, option_map, IfOk, IsTrue, None};
 ghost use Rattle.std.specs.List.{list_all};
 ghost use Rattle.std.specs.Str.{bytes_eq};
-ghost use Rattle.desc_core.specs.Choices.{chosen};
 ghost use Rattle.desc_core.specs.declared.fault.DescFault.TheVariants.{Refused};
-ghost use Rattle.desc_core.specs.inner.Parts.{name_conditions};
-ghost use Rattle.desc_core.specs.UseConditions.{duplicate_assign_of, undeclared_host};
-ghost use Rattle.text_core.specs.FirstMatch.{first_found, first_of, first_conflict, numbered};
+ghost use Rattle.desc_core.specs.UseConditions.{duplicate_assign, name_conditions, undeclared_host, unknown_template};
+ghost use Rattle.text_core.specs.FirstMatch.{first_of, first_conflict, numbered};
 ghost use Rattle.text_core.specs.inner.FirstsView.{pair_seen};
-ghost use Rattle.desc_form.specs.Refusals.{refused, refused_by};
+ghost use Rattle.desc_form.specs.Refusals.{refused_by};
 ghost use Rattle.desc_form.specs.inner.Refused.{refused_name};
 ghost use Rattle.desc_form.specs.inner.RawView.{assign_view, invariant_view, template_view, raw_view};
-ghost use Rattle.desc_form.specs.declared.refusal.Place.TheVariants.{Assign, Invariant};
+ghost use Rattle.desc_form.specs.declared.refusal.Place.TheVariants.{Assign};
 ghost use Rattle.desc_form.specs.declared.refusal.Refusal.{Refusal};
-ghost use Rattle.desc_form.specs.declared.refusal.Why.TheVariants.{DuplicateAssign, UndeclaredHost, UnknownTemplate};
+ghost use Rattle.desc_form.specs.declared.refusal.Why.TheVariants.{DuplicateAssign, UndeclaredHost};
 ghost use Rattle.desc_form.specs.HostConditions.{host_conditions};
 ghost use Rattle.desc_form.specs.inner.NameUseView.{mention_view};
 ghost use Rattle.desc_form.specs.RawHosts.{network_hosts};
@@ -44,7 +42,6 @@ pub(crate) fn unknown_name(alloc: Global, hosts: &Hosts, written: &RawDescriptio
     }
 }
 
-#[tactic(auto, unfolding(crate::specs::UseConditions::unknown_template))]
 fn name_refusal(
     alloc: Global,
     hosts: &Hosts,
@@ -66,8 +63,7 @@ fn unknown_template(
     templates: &[RawTemplate<'_>],
     invariants: &[RawInvariant<'_>],
 ) -> Option<Refusal>
-    ensures { result ≡ option_map (λ i. refused UnknownTemplate (Invariant i.number))
-        (find (λ i. is_none (chosen (map template_view templates.now) i.what.template)) (numbered (map invariant_view invariants.now))) }
+    ensures { result ≡ unknown_template (map template_view templates.now) (map invariant_view invariants.now) }
 {
     for (index, invariant) in invariants.iter().enumerate() {
         if chosen(templates, invariant.template).is_none() {
@@ -117,7 +113,7 @@ fn no_host(mention: &NameUse<'_>) -> Refusal
 
 /// Returns the refusal of an assign with the host of an earlier one of the same invariant.
 pub(crate) fn duplicate_assign(invariants: &[RawInvariant<'_>]) -> Option<Refusal>
-    ensures { result ≡ first_found duplicate_assign_of (numbered (map invariant_view invariants.now)) }
+    ensures { result ≡ duplicate_assign (map invariant_view invariants.now) }
 {
     for (index, invariant) in invariants.iter().enumerate() {
         let found = duplicate_in(index as u64 + 1, &invariant.assigns);

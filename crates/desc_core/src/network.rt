@@ -98,7 +98,6 @@ fn network_of_known(
 }
 
 /// Returns the first refusal of an assign, or of a flow from a host to itself.
-#[tactic(auto, unfolding(crate::specs::UseConditions::duplicate_assign))]
 fn use_refusal(
     alloc: Global,
     hosts: &Hosts,
@@ -107,7 +106,7 @@ fn use_refusal(
     flows: &[Flow],
 ) -> Result<Option<Refusal>, AllocError>
     requires { All (λ k. All (λ a. a.host < length hosts.now) k.assigns.items) invariants.now }
-    ensures { IfOk result (λ refusal. refusal ≡ option_or (duplicate_assign (raw_view written.now))
+    ensures { IfOk result (λ refusal. refusal ≡ option_or (duplicate_assign (raw_view written.now).invariants)
         (option_or (bad_known hosts.now (map known_view invariants.now)) (self_found flows.now))) }
 {
     let assign = duplicate_assign(&written.invariants);

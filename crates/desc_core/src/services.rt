@@ -1,9 +1,8 @@
 //! The services of flows: their refusals, and the flows that they restrict.
 ghost use Rattle.std.specs.Prelude.{◌≡◌, ◌≤◌, ◌+◌, [], find, is_none, length, map, option_map, IfOk, IsTrue, OnOk, filter_map, not};
 ghost use Rattle.std.specs.List.{list_all};
-ghost use Rattle.desc_core.specs.inner.Parts.{many_found, narrowed_among, services_found, with_services};
-ghost use Rattle.desc_core.specs.UseConditions.{bad_service_of};
-ghost use Rattle.desc_core.specs.inner.Flows.{has_many_services};
+ghost use Rattle.desc_core.specs.inner.Parts.{narrowed_among, with_services};
+ghost use Rattle.desc_core.specs.UseConditions.{bad_service, has_many_services, many_services, service_conditions};
 ghost use Rattle.desc_form.specs.Refusals.{refused_item};
 ghost use Rattle.desc_form.specs.inner.RawView.{flow_view};
 ghost use Rattle.desc_form.specs.declared.refusal.Place.TheVariants.{FlowAt};
@@ -11,7 +10,7 @@ ghost use Rattle.desc_form.specs.declared.refusal.Why.TheVariants.{BadService};
 ghost use Rattle.flow_set.specs.Flow.{same_flow};
 ghost use Rattle.host_net.specs.Services.{service_limit, services_of};
 ghost use Rattle.host_net.specs.ServiceText.{service_of};
-ghost use Rattle.text_core.specs.FirstMatch.{first_found, numbered};
+ghost use Rattle.text_core.specs.FirstMatch.{first_of, numbered};
 ghost use Rattle.text_core.specs.inner.Pairs.{no_pair};
 
 use desc_form::{Place, RawFlow, Refusal, Why};
@@ -25,7 +24,7 @@ const FIRST_SERVICE: u64 = 3;
 /// Returns the refusal of a string that denotes no service, otherwise that of a flow with too many
 /// services.
 pub(crate) fn service_refusal(flows: &[RawFlow<'_>]) -> Option<Refusal>
-    ensures { result ≡ services_found (map flow_view flows.now) }
+    ensures { result ≡ first_of (service_conditions (map flow_view flows.now)) }
 {
     let bad = bad_service(flows);
     if bad.is_some() {
@@ -36,7 +35,7 @@ pub(crate) fn service_refusal(flows: &[RawFlow<'_>]) -> Option<Refusal>
 
 /// Returns the refusal of a string after the names of a flow that denotes no service.
 fn bad_service(flows: &[RawFlow<'_>]) -> Option<Refusal>
-    ensures { result ≡ first_found bad_service_of (numbered (map flow_view flows.now)) }
+    ensures { result ≡ bad_service (map flow_view flows.now) }
 {
     for (index, flow) in flows.iter().enumerate() {
         let found = bad_service_in(index as u64 + 1, &flow.services);
@@ -63,7 +62,7 @@ fn bad_service_in(flow: u64, texts: &[&str]) -> Option<Refusal>
 
 /// Returns the refusal of a flow with more services than the limit.
 fn many_services(flows: &[RawFlow<'_>]) -> Option<Refusal>
-    ensures { result ≡ many_found (map flow_view flows.now) }
+    ensures { result ≡ many_services (map flow_view flows.now) }
 {
     for (index, flow) in flows.iter().enumerate() {
         if flow.services.len() > SERVICE_LIMIT {

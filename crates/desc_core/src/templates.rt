@@ -1,14 +1,10 @@
 //! The refusals for the templates that a description declares.
-ghost use Rattle.std.specs.Prelude.{◌≡◌, ◌&&◌, [], map, option_map};
+ghost use Rattle.std.specs.Prelude.{◌≡◌, ◌&&◌, map};
 ghost use Rattle.std.specs.List.{list_all, list_any};
 ghost use Rattle.std.specs.Str.{bytes_eq};
-ghost use Rattle.desc_core.specs.inner.Parts.{templates_found};
-ghost use Rattle.desc_core.specs.TemplateConditions.{are_different, denies, first_bad, has_kinds, has_own_name, has_partner, has_strategy, is_well_formed, unlawful_at, uses_kinds};
-ghost use Rattle.desc_form.specs.Refusals.{refused};
+ghost use Rattle.desc_core.specs.TemplateConditions.{are_different, bad_template, denies, has_kinds, has_own_name, has_partner, has_strategy, is_well_formed, not_lawful, template_conditions, unlawful_at, uses_kinds};
 ghost use Rattle.desc_form.specs.inner.RawView.{pair_view, template_view, raw_view};
-ghost use Rattle.desc_form.specs.declared.refusal.Place.TheVariants as place;
-ghost use Rattle.desc_form.specs.declared.refusal.Why.TheVariants.{BadTemplate, NotLawful};
-ghost use Rattle.text_core.specs.FirstMatch.{first_found, numbered};
+ghost use Rattle.text_core.specs.FirstMatch.{first_of};
 ghost use Rattle.text_core.specs.Name.{is_name};
 
 use attr_core::Template;
@@ -20,9 +16,8 @@ use text_core::is_name;
 const KIND_LIMIT: usize = 64;
 
 /// Returns the refusal of a template that is invalid, or that denies a pair without its partner.
-#[tactic(auto, unfolding(crate::specs::TemplateConditions::bad_template, crate::specs::TemplateConditions::not_lawful))]
 pub(crate) fn template_refusal(written: &RawDescription<'_>) -> Option<Refusal>
-    ensures { result ≡ templates_found (raw_view written.now) }
+    ensures { result ≡ first_of (template_conditions (raw_view written.now).templates) }
 {
     let bad = bad_template(&written.templates);
     if bad.is_some() {
@@ -33,8 +28,7 @@ pub(crate) fn template_refusal(written: &RawDescription<'_>) -> Option<Refusal>
 
 /// Returns the refusal of a template that is invalid after the templates before it.
 fn bad_template(templates: &[RawTemplate<'_>]) -> Option<Refusal>
-    ensures { result ≡ option_map (λ k. refused BadTemplate (place.Template k))
-        (first_bad [] 1 (map template_view templates.now)) }
+    ensures { result ≡ bad_template (map template_view templates.now) }
 {
     for (index, template) in templates.iter().enumerate() {
         if !is_well_formed(&templates[..index], template) {
@@ -140,7 +134,7 @@ fn are_of_kinds(kinds: &[&str], pairs: &[RawPair<'_>]) -> bool
 /// Returns the refusal of the first denied pair without a partner, of the first template that has
 /// one.
 fn not_lawful(templates: &[RawTemplate<'_>]) -> Option<Refusal>
-    ensures { result ≡ first_found unlawful_at (numbered (map template_view templates.now)) }
+    ensures { result ≡ not_lawful (map template_view templates.now) }
 {
     for (index, template) in templates.iter().enumerate() {
         let found = unlawful_at(index as u64 + 1, template);

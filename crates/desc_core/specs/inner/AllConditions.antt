@@ -1,4 +1,4 @@
--- The twenty-four conditions on the bytes of a description, in the order of their numbers (the description's format, docs/FORMATS.md).
+-- All conditions on the bytes of a description, in the order of their numbers (the description's format, docs/FORMATS.md).
 use Rattle.std.specs.Prelude.{ℕ, nat_lt, List, [], ◌∷◌, length, Option, is_none}
 use Rattle.std.specs.Option.{option_map_or}
 use Rattle.desc_core.specs.Conditions.{byte_limit, table_conditions}

@@ -1,21 +1,19 @@
--- Intermediate results of the private functions that build a network: the table of the bytes, and the refusals in groups, in terms of the
--- hosts that were found. The contracts of these functions cite them; lemmas relate them to `described`, so nothing here is trusted.
+-- Intermediate results of the private functions that build a network: the table of the bytes, and the refusals in terms of the hosts that were
+-- found. The contracts of these functions cite them; lemmas relate them to `described`, so nothing here is trusted.
 use Rattle.std.specs.Prelude.{ℕ, ◌==◌, List, [], ◌∷◌, ◌++◌, length, nat_lt, Option, Some, Err, Result, if◌then◌else◌}
 use Rattle.std.specs.List.{cons_option}
-use Rattle.std.specs.Option.{ok_or, option_or}
+use Rattle.std.specs.Option.{ok_or}
 use Rattle.toml.specs.Data.{Members}
 use Rattle.desc_core.specs.Conditions.{byte_limit}
 use Rattle.desc_core.specs.Description.{ok_unless_refused}
 use Rattle.desc_core.specs.Document.{document}
 use Rattle.net_core.specs.Network.{Network}
 use Rattle.desc_core.specs.RawNetwork.{Known, narrowed_to, network_of, declared_services}
-use Rattle.desc_core.specs.TemplateConditions.{bad_template, not_lawful}
-use Rattle.desc_core.specs.UseConditions.{bad_at, bad_service_of, undeclared_host, unknown_template, use_conditions}
-use Rattle.desc_core.specs.inner.Flows.{has_many_services}
+use Rattle.desc_core.specs.UseConditions.{bad_at, use_conditions}
 use Rattle.desc_form.specs.Refusals.{barred_at, first_at, refused}
 use Rattle.desc_form.specs.RawFlow.{RawFlow}
 use Rattle.desc_form.specs.declared.refusal.Place.TheVariants.{Document, FlowAt}
-use Rattle.desc_form.specs.declared.refusal.Why.TheVariants.{DuplicateFlow, ManyServices, NotToml, SelfFlow, TooLong}
+use Rattle.desc_form.specs.declared.refusal.Why.TheVariants.{DuplicateFlow, NotToml, SelfFlow, TooLong}
 use Rattle.text_core.specs.FirstMatch.{first_found, numbered}
 use Rattle.text_core.specs.Steps.{◌>>=◌}
 use Rattle.desc_form.specs.RawDescription.{RawDescription}
@@ -34,17 +32,13 @@ unfoldable pub table_of : List ℕ → Result Members Refusal
 table_of bytes =
     if nat_lt byte_limit (length bytes) then Err (refused TooLong Document) else ok_or (document bytes) (refused NotToml Document)
 
--- The network, or the first of refusals 6 to 24.
+-- The network, or the first refusal from 6 on.
 unfoldable pub network_or : RawDescription → Result Network Refusal
 network_or w = ok_unless_refused (first_of (host_conditions w ++ use_conditions w)) (network_of w)
 
--- The network, or the first of refusals 15 to 24.
+-- The network, or the first refusal from 15 on.
 abbrev pub network_by_uses : RawDescription → Result Network Refusal
 network_by_uses w = ok_unless_refused (first_of (use_conditions w)) (network_of w)
-
--- Conditions 15 and 16.
-abbrev pub name_conditions : RawDescription → List (Option Refusal)
-name_conditions w = unknown_template w ∷ undeclared_host w ∷ []
 
 -- The hosts of the names of a flow; they may be equal.
 abbrev pub ends_of : List Host → RawFlow → Option Flow
@@ -64,18 +58,6 @@ self_found fs = first_at SelfFlow FlowAt (λ f. f.from == f.to) fs
 -- Condition 20, for flows with resolved hosts.
 abbrev pub twice_found : List Flow → Option Refusal
 twice_found fs = barred_at DuplicateFlow FlowAt same_flow fs
-
--- Condition 22, for raw flows.
-abbrev pub many_found : List RawFlow → Option Refusal
-many_found ws = first_at ManyServices FlowAt has_many_services ws
-
--- Conditions 21 and 22.
-abbrev pub services_found : List RawFlow → Option Refusal
-services_found ws = option_or (first_found bad_service_of (numbered ws)) (many_found ws)
-
--- Conditions 23 and 24.
-abbrev pub templates_found : RawDescription → Option Refusal
-templates_found w = option_or (bad_template w) (not_lawful w)
 
 -- The restricted flows, from flows with resolved hosts and the raw flows.
 abbrev pub narrowed_among : List Flow → List RawFlow → List RestrictedFlow

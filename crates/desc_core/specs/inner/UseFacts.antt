@@ -1,4 +1,4 @@
--- A direct characterization of the raw descriptions that none of conditions 15 to 24 refuses: their templates, the hosts of assigns and of
+-- A direct characterization of the raw descriptions that no condition from 15 on refuses: their templates, the hosts of assigns and of
 -- flows, the attributes, the services of flows, and the declared templates (the description's format, docs/FORMATS.md).
 use Rattle.std.specs.Prelude.{◌≡◌, ◌≢◌, ◌≤◌, List, length, Some, None, is_some, IsTrue}
 use Rattle.std.specs.List.{All, AllPairs}

@@ -5,10 +5,11 @@ use Rattle.desc_core.proofs.KnownLaws.{are_flows}
 use Rattle.desc_core.proofs.MakeableLaws.{known_makeable}
 use Rattle.desc_core.proofs.NetworkLemmas.{asked_fails, asked_made, network_read, none_to_itself, refused_before, refused_services, refused_templates}
 use Rattle.desc_core.proofs.ServicesLemmas.{all_different, all_few, as_many_written}
+use Rattle.desc_core.specs.UseConditions.{service_conditions}
 use Rattle.desc_core.specs.inner.KnownView.{known_view}
 use Rattle.desc_form.specs.inner.RawView.{raw_view}
 use Rattle.flow_set.specs.Flow.{IsFlow}
-use Rattle.text_core.proofs.FirstsLaws.{neither}
+use Rattle.desc_form.proofs.RowLaws.{in_turn}
 use Rattle.desc_core.proofs.network.network_of_known.Goals as goal
 
 pub returns-in-Some : goal.returns-in-Some
@@ -68,7 +69,7 @@ read_services-requires-clause-different c =
 pub read_services-requires-clause-few : goal.read_services-requires-clause-few
 read_services-requires-clause-few c =
     let w = raw_view c.args.written.now in
-    let (_, few) = neither _ _ (sym (rw c.deref.ensures.value at c.service_refusal.ensures) ∙ c.in_default-service_refusal.is) in
+    let (_, (few, _)) = (in_turn (service_conditions w.flows)).0 (sym (rw c.deref.ensures.value at c.service_refusal.ensures) ∙ c.in_default-service_refusal.is) in
     rw c.deref-2.ensures.value (all_few w.flows few)
 
 pub new-requires : goal.new-requires

@@ -1,6 +1,6 @@
 use Rattle.std.proofs.Common.{◌≡◌, ◌+◌, map, drop, option_map}
 use Rattle.std.specs.Prelude.{find}
-use Rattle.desc_core.specs.inner.Flows.{has_many_services}
+use Rattle.desc_core.specs.UseConditions.{has_many_services}
 use Rattle.desc_form.specs.Refusals.{refused}
 use Rattle.desc_form.specs.RawFlow.{RawFlow}
 use Rattle.desc_form.specs.inner.RawView.{flow_view}

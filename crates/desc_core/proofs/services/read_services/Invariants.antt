@@ -3,7 +3,7 @@ use Rattle.std.specs.List.{list_all}
 use Rattle.std.specs.Prelude.{IsTrue}
 use Rattle.desc_core.proofs.ServicesLemmas.{AreLeft}
 use Rattle.desc_core.specs.inner.Parts.{narrowed_among}
-use Rattle.desc_core.specs.inner.Flows.{has_many_services}
+use Rattle.desc_core.specs.UseConditions.{has_many_services}
 use Rattle.desc_form.specs.inner.RawView.{flow_view}
 use Rattle.desc_core.proofs.services.read_services.Given as goal
 
