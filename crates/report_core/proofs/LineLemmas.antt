@@ -6,7 +6,6 @@ use Rattle.std.proofs.lemmas.Fmt.{length-decimal-le}
 use Rattle.desc_form.specs.Refusals.{name, number}
 use Rattle.desc_form.specs.declared.refusal.Refusal.{Refusal}
 use Rattle.desc_form.specs.declared.refusal.Why.{Why}
-use Rattle.desc_form.specs.declared.refusal.Why.TheVariants.{TooLong, NotToml, UnknownKey, MissingKey, WrongType, BadVersion, TooMany, BadName, DuplicateHost, BadPrefix, HostBits, NoAddress, TwoRests, Overlap, UnknownTemplate, UndeclaredHost, DuplicateAssign, BadAttribute, SelfFlow, DuplicateFlow, BadService, ManyServices, BadTemplate, NotLawful}
 use Rattle.report_core.specs.RefusalLine.{cause_text, if_nonempty, if_nonzero, place_text, refusal_text}
 
 pub decimal_short : (n : ℕ) → n < 2 ^ 64 → length (decimal n) ≤ 20
@@ -33,35 +32,9 @@ pub named_short : (name : List ℕ) → length name ≤ 32 → length (if_nonemp
 named_short [] short = omega arith
 named_short (b ∷ bs) short = omega (arith, short)
 
-name_short : (why : Why) → length (name why) ≤ 15
-name_short TooLong = omega arith
-name_short NotToml = omega arith
-name_short UnknownKey = omega arith
-name_short MissingKey = omega arith
-name_short WrongType = omega arith
-name_short BadVersion = omega arith
-name_short TooMany = omega arith
-name_short BadName = omega arith
-name_short DuplicateHost = omega arith
-name_short BadPrefix = omega arith
-name_short HostBits = omega arith
-name_short NoAddress = omega arith
-name_short TwoRests = omega arith
-name_short Overlap = omega arith
-name_short UnknownTemplate = omega arith
-name_short UndeclaredHost = omega arith
-name_short DuplicateAssign = omega arith
-name_short BadAttribute = omega arith
-name_short SelfFlow = omega arith
-name_short DuplicateFlow = omega arith
-name_short BadService = omega arith
-name_short ManyServices = omega arith
-name_short BadTemplate = omega arith
-name_short NotLawful = omega arith
-
-pub cause_short : (why : Why) → number why < 2 ^ 64 → length (cause_text why) ≤ 36
+pub cause_short : (why : Why) → number why < 2 ^ 64 → length (name why) ≤ 15 → length (cause_text why) ≤ 36
 unfolding cause_text
-cause_short why fits = simp length-append (omega (arith, decimal_short (number why) fits, name_short why))
+cause_short why fits short = simp length-append (omega (arith, decimal_short (number why) fits, short))
 
 pub numbered_short : (word : List ℕ) (n : ℕ) → n < 2 ^ 64 → length (word ++ decimal n) ≤ length word + 20
 numbered_short word n fits = simp length-append (omega (arith, decimal_short n fits))
