@@ -229,11 +229,11 @@ flows_apart f g =
 different_says : (fs : List RawFlow) → (no_pair same_names fs ≡ true) ↔ AllPairs AreTwice fs
 different_says fs = pairs_say same_names AreTwice flows_apart fs
 
-abbrev SaysServices : RawFlow → Type 0
-SaysServices f = All (λ text. IsTrue (is_some (service_of text))) f.services
+abbrev DenotesServices : RawFlow → Type 0
+DenotesServices f = All (λ text. IsTrue (is_some (service_of text))) f.services
 
-services_say : (fs : List RawFlow) → (list_all services_test fs ≡ true) ↔ All SaysServices fs
-services_say fs = each_says services_test SaysServices (λ f. all_tested (λ text. is_some (service_of text)) f.services) fs
+services_say : (fs : List RawFlow) → (list_all services_test fs ≡ true) ↔ All DenotesServices fs
+services_say fs = each_says services_test DenotesServices (λ f. all_tested (λ text. is_some (service_of text)) f.services) fs
 
 few_says : (fs : List RawFlow) → (list_all (λ f. not (has_many_services f)) fs ≡ true) ↔ All (λ (f : RawFlow). length f.services ≤ service_limit) fs
 few_says fs =
@@ -251,8 +251,7 @@ HasUses-tests w tests = record {
   attributes = All-from_recursion (SaysAttributes w.templates (network_hosts w)) w.invariants tests.attributes;
   apart = (apart_says w.flows).0 tests.apart;
   different = (different_says w.flows).0 tests.different;
-  services = (services_say w.flows).0 tests.services;
-  few = (few_says w.flows).0 tests.few;
+  services = λ k d within. record { denoted = (services_say w.flows).0 tests.services k d within; few = (few_says w.flows).0 tests.few k d within };
   declared = ((templates_are w.templates).0 tests.declared).0;
   distinct = ((templates_are w.templates).0 tests.declared).1;
   lawful = (lawful_says w.templates).0 tests.lawful;
@@ -267,8 +266,8 @@ tests-HasUses w uses = record {
   attributes = recursion_from_All (SaysAttributes w.templates (network_hosts w)) w.invariants uses.attributes;
   apart = (apart_says w.flows).1 uses.apart;
   different = (different_says w.flows).1 uses.different;
-  services = (services_say w.flows).1 uses.services;
-  few = (few_says w.flows).1 uses.few;
+  services = (services_say w.flows).1 (λ k d within. (uses.services k d within).denoted);
+  few = (few_says w.flows).1 (λ k d within. (uses.services k d within).few);
   declared = (templates_are w.templates).1 (uses.declared, uses.distinct);
   lawful = (lawful_says w.templates).1 uses.lawful;
 }

@@ -16,6 +16,7 @@ use Rattle.desc_core.specs.Description.{described_by_table}
 use Rattle.desc_core.proofs.DescriptionLaws.{accepted}
 use Rattle.desc_core.proofs.MigratedLaws.{get_other, get_with}
 use Rattle.desc_core.specs.UseConditions.{is_declared}
+use Rattle.desc_core.specs.inner.UseFacts.{AreServiceTexts}
 use Rattle.desc_core.specs.RawNetwork.{network_of}
 use Rattle.desc_form.proofs.FlowLaws.{flow_says, said_version}
 use Rattle.desc_form.specs.Keys.{says_second, declared_version}
@@ -34,7 +35,6 @@ use Rattle.flow_set.specs.FlowSet.{has}
 use Rattle.flow_set.specs.declared.flow.Flow.{Flow}
 use Rattle.host_net.specs.Host.{Host, host_named}
 use Rattle.host_net.proofs.NamedLaws.{one_name}
-use Rattle.host_net.specs.Services.{service_limit}
 use Rattle.host_net.specs.ServiceText.{service_of}
 use Rattle.host_net.specs.declared.service.Service.{Service}
 use Rattle.net_core.specs.Network.{Network}
@@ -154,7 +154,7 @@ module _ (table : Members) (flows : List Data) (w : RawDescription) (v : RawFlow
         apart = ends.apart;
         fresh = fresh_where f ends;
         services = read;
-        few = last_of (λ g. length g.services ≤ service_limit) w.flows v right.few;
+        valid = last_of (λ g. AreServiceTexts g.services) w.flows v right.services;
         version = version_by table w v.services before.is_written (λ other. last_of (λ g. g.services ≡ []) w.flows v (right.whole other));
       }
 
@@ -163,7 +163,7 @@ module _ (table : Members) (flows : List Data) (w : RawDescription) (v : RawFlow
       let (from, to) = last_of (λ g. IsTrue (is_declared w g.from) × IsTrue (is_declared w g.to)) w.flows v right.joined in
       let (a, is_from) = some_of (host_named (network_hosts w) v.from) (is_host w v.from ∙ from) in
       let (b, is_to) = some_of (host_named (network_hosts w) v.to) (is_host w v.to ∙ to) in
-      let all = last_of (λ g. All (λ text. IsTrue (is_some (service_of text))) g.services) w.flows v right.services in
+      let all = (last_of (λ g. AreServiceTexts g.services) w.flows v right.services).denoted in
       let (ss, read) = some_of (each service_of v.services) (each_is service_of v.services ∙ (all_tested (λ text. is_some (service_of text)) v.services).1 all) in
       (record { from = a; to = b }, ss, right_by words a b ss said is_from is_to read)
 
@@ -175,7 +175,6 @@ same_right w fs gs same right = subst (AreRightFlows w) same (record {
   apart = right.apart;
   different = right.different;
   services = right.services;
-  few = right.few;
 })
 
 pub right_where : (table : Members) (flows : List Data) (d e : Network) (words : List (List ℕ))

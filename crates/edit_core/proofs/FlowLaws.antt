@@ -11,13 +11,14 @@ use Rattle.std.specs.Option.{ok_or}
 use Rattle.std.specs.Prelude.{IsFalse, IsTrue, if◌then◌else◌}
 use Rattle.std.specs.Str.{bytes_eq}
 use Rattle.toml.specs.Data.{Data, Members, get_member}
-use Rattle.desc_core.proofs.KnownLaws.{each_is, is_host}
+use Rattle.desc_core.proofs.KnownLaws.{is_host}
 use Rattle.desc_core.specs.Description.{described_by_table}
 use Rattle.desc_core.proofs.DescriptionLaws.{accepted}
 use Rattle.desc_core.proofs.FlowsLaws.{are_between}
 use Rattle.desc_core.proofs.NetworkLaws.{IsNetwork-table}
 use Rattle.desc_core.specs.inner.Parts.{with_services}
 use Rattle.desc_core.specs.UseConditions.{is_declared}
+use Rattle.desc_core.specs.inner.UseFacts.{AreServiceTexts}
 use Rattle.desc_core.specs.RawNetwork.{asked_of, invariants_of, network_of, services_in}
 use Rattle.desc_form.proofs.FlowLaws.{flow_read, said_version}
 use Rattle.desc_form.specs.Keys.{says_second, declared_version}
@@ -25,7 +26,6 @@ use Rattle.desc_form.specs.RawDescription.{RawDescription, RawHost, written}
 use Rattle.desc_form.specs.RawFlow.{RawFlow}
 use Rattle.desc_form.specs.inner.RawForm.{IsRawOf}
 use Rattle.desc_form.specs.RawHosts.{network_hosts}
-use Rattle.desc_form.proofs.NoneLaws.{all_tested}
 use Rattle.edit_core.proofs.FlowLemmas.{AreEnds, all_apart, any_said, asked_more, flow_said, flows_among, has_less, is_named, named_where, narrowed_among, one_flow, other_elements, other_flows, others_zipped, services_less, services_more, services_read, services_whole, zipped_more}
 use Rattle.edit_core.proofs.FlowTables.{AreRightFlows, IsListing, described_with, listing, own_flows, with_flows}
 use Rattle.edit_core.specs.Edited.{◌>>=◌, after_edit, edited, if_described, is_between, others, text_list, with_list}
@@ -40,7 +40,7 @@ use Rattle.flow_set.specs.inner.FlowSetView.{without_flow}
 use Rattle.flow_set.proofs.ListedLaws.{IsFlowSet-set_of, has-set_of}
 use Rattle.flow_set.specs.declared.flow.Flow.{Flow}
 use Rattle.host_net.specs.Host.{Host, host_named}
-use Rattle.host_net.specs.Services.{RestrictedFlow, service_limit, services_of}
+use Rattle.host_net.specs.Services.{RestrictedFlow, services_of}
 use Rattle.host_net.specs.ServiceText.{service_of}
 use Rattle.host_net.specs.declared.service.Service.{Service}
 use Rattle.net_core.specs.Network.{Network}
@@ -121,7 +121,7 @@ record IsNewFlow (table : Members) (w : RawDescription) (from to : List ℕ) (te
   ends : AreEnds (network_hosts w) from to f
   fresh : IsFalse (has (flows_among (network_hosts w) w.flows) f)
   services : each service_of texts ≡ Some ss
-  few : length texts ≤ service_limit
+  valid : AreServiceTexts texts
   version : (texts ≡ []) ⊎ IsTrue (says_second (declared_version table))
 
 abbrev new_flow : (from to : List ℕ) → List (List ℕ) → RawFlow
@@ -131,9 +131,6 @@ names_differ : (hosts : List Host) (from to : List ℕ) (f : Flow) → AreEnds h
 names_differ hosts from to f ends same =
     let both : Some f.from ≡ Some f.to = sym ends.is_from ∙ ap (host_named hosts) same ∙ ends.is_to in
     ends.apart cc
-
-all_said : (texts : List (List ℕ)) (ss : List Service) → each service_of texts ≡ Some ss → All (λ text. IsTrue (is_some (service_of text))) texts
-all_said texts ss is = (all_tested (λ text. is_some (service_of text)) texts).0 (sym (each_is service_of texts) ∙ is_there (each service_of texts) ss is)
 
 right_more : (table : Members) (flows : List Data) (w : RawDescription) (from to : List ℕ) (texts : List (List ℕ)) (f : Flow) (ss : List Service) → IsListing table flows w
     → IsNewFlow table w from to texts f ss → AreRightFlows w (w.flows ++ new_flow from to texts ∷ [])
@@ -150,8 +147,7 @@ right_more table flows w from to texts f ss listing new =
       joined = All-push (λ (g : RawFlow). IsTrue (is_declared w g.from) × IsTrue (is_declared w g.to)) w.flows v own.joined (is_from, is_to);
       apart = All-push (λ (g : RawFlow). g.from ≢ g.to) w.flows v own.apart (names_differ (network_hosts w) from to f new.ends);
       different = all_pairs_push (λ (g h : RawFlow). g.from ≡ h.from → g.to ≡ h.to → ⊥) w.flows v own.different (λ k d within. apart k d within);
-      services = All-push (λ (g : RawFlow). All (λ text. IsTrue (is_some (service_of text))) g.services) w.flows v own.services (all_said texts ss new.services);
-      few = All-push (λ (g : RawFlow). length g.services ≤ service_limit) w.flows v own.few new.few;
+      services = All-push (λ (g : RawFlow). AreServiceTexts g.services) w.flows v own.services new.valid;
     }
 
 network_more : (w : RawDescription) (from to : List ℕ) (texts : List (List ℕ)) (f : Flow) (ss : List Service) → w.given ≡ true → AreEnds (network_hosts w) from to f
@@ -193,7 +189,7 @@ is_new_flow table flows words f ss listing right =
       };
       fresh = sym (has_asked w f listing.given) ∙ right.fresh;
       services = right.services;
-      few = right.few;
+      valid = right.valid;
       version = right.version;
     }
 
@@ -258,8 +254,7 @@ right_less w from to own =
       joined = All-filter other (λ (g : RawFlow). IsTrue (is_declared w g.from) × IsTrue (is_declared w g.to)) w.flows own.joined;
       apart = All-filter other (λ (g : RawFlow). g.from ≢ g.to) w.flows own.apart;
       different = AllPairs-filter (λ (g h : RawFlow). g.from ≡ h.from → g.to ≡ h.to → ⊥) other w.flows own.different;
-      services = All-filter other (λ (g : RawFlow). All (λ text. IsTrue (is_some (service_of text))) g.services) w.flows own.services;
-      few = All-filter other (λ (g : RawFlow). length g.services ≤ service_limit) w.flows own.few;
+      services = All-filter other (λ (g : RawFlow). AreServiceTexts g.services) w.flows own.services;
     }
 
 ordered_set : (hosts : List Host) (ws : List RawFlow) → length hosts ≤ 256 → IsOrdered (set_of (flows_among hosts ws))

@@ -1,5 +1,5 @@
 -- A table with other flows: its raw description, and the network that it describes if the flows are valid.
-use Rattle.std.proofs.Common.{◌≡◌, ◌≢◌, ℕ, pos, ◌≤◌, true, false, List, [], ◌∷◌, length, codes, Option, Some, None, Ok, option_and_then, unwrap_or, nat_cmp, is_eq, refl, sym, ap, subst, ◌∙◌}
+use Rattle.std.proofs.Common.{◌≡◌, ◌≢◌, ℕ, pos, true, false, List, [], ◌∷◌, codes, Option, Some, None, Ok, option_and_then, unwrap_or, nat_cmp, is_eq, refl, sym, ap, subst, ◌∙◌}
 use Rattle.std.specs.Cmp.Lexicographic.{slice_cmp}
 use Rattle.std.specs.List.{All, AllPairs, AllZip, list_any}
 use Rattle.std.specs.Prelude.{IsSomeAnd, IsTrue, MatchOption, is_some}
@@ -12,7 +12,7 @@ use Rattle.desc_core.specs.Migrated.{with_member}
 use Rattle.desc_core.proofs.MigratedLaws.{get_other, get_with, keys_with}
 use Rattle.desc_core.proofs.TableFactsLaws.{described-IsRight}
 use Rattle.desc_core.specs.UseConditions.{is_declared}
-use Rattle.desc_core.specs.inner.UseFacts.{HasUses}
+use Rattle.desc_core.specs.inner.UseFacts.{AreServiceTexts, HasUses}
 use Rattle.desc_core.proofs.UseFactsLaws.{has_uses}
 use Rattle.desc_core.specs.RawNetwork.{network_of}
 use Rattle.desc_form.proofs.KeyLaws.{array_zips}
@@ -25,8 +25,6 @@ use Rattle.desc_form.proofs.FactsLaws.{has_hosts}
 use Rattle.desc_form.specs.inner.HostFacts.{HasHosts}
 use Rattle.desc_form.specs.RawHosts.{network_hosts}
 use Rattle.edit_core.specs.Edited.{with_list}
-use Rattle.host_net.specs.Services.{service_limit}
-use Rattle.host_net.specs.ServiceText.{service_of}
 use Rattle.net_core.specs.Network.{Network}
 use Rattle.table_core.specs.Tables.{elements, elements_of, has_only, list_at}
 use Rattle.text_core.specs.Name.{is_name}
@@ -86,8 +84,7 @@ pub record AreRightFlows (w : RawDescription) (fs : List RawFlow) : Type 0 where
   pub joined : All (λ (f : RawFlow). IsTrue (is_declared w f.from) × IsTrue (is_declared w f.to)) fs
   pub apart : All (λ (f : RawFlow). f.from ≢ f.to) fs
   pub different : AllPairs (λ (f g : RawFlow). f.from ≡ g.from → f.to ≡ g.to → ⊥) fs
-  pub services : All (λ (f : RawFlow). All (λ text. IsTrue (is_some (service_of text))) f.services) fs
-  pub few : All (λ (f : RawFlow). length f.services ≤ service_limit) fs
+  pub services : All (λ (f : RawFlow). AreServiceTexts f.services) fs
 
 -- The raw description of a table that describes a network and lists these flows.
 pub record IsListing (table : Members) (flows : List Data) (w : RawDescription) : Type 0 where
@@ -134,7 +131,6 @@ own_flows table flows w listing = record {
   apart = listing.uses.apart;
   different = listing.uses.different;
   services = listing.uses.services;
-  few = listing.uses.few;
 }
 
 hosts_with : (w : RawDescription) (fs : List RawFlow) → HasHosts w → AreRightFlows w fs → HasHosts (with_flows w fs)
@@ -166,7 +162,6 @@ uses_with w fs uses right = record {
   apart = right.apart;
   different = right.different;
   services = right.services;
-  few = right.few;
   declared = uses.declared;
   distinct = uses.distinct;
   lawful = uses.lawful;

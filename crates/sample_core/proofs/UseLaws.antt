@@ -14,12 +14,10 @@ use Rattle.desc_core.specs.inner.TemplateFacts.{HasPartner, IsTemplate}
 use Rattle.attr_core.specs.declared.template.Template.{Template}
 use Rattle.attr_core.specs.declared.template.Template.TheVariants.{Blp, Partners}
 use Rattle.desc_core.specs.UseConditions.{is_declared}
-use Rattle.desc_core.specs.inner.UseFacts.{HasUses, SaysAttributes}
+use Rattle.desc_core.specs.inner.UseFacts.{AreServiceTexts, HasUses, SaysAttributes}
 use Rattle.desc_core.specs.RawNetwork.{Known, given_by, known_of}
 use Rattle.desc_form.specs.RawHosts.{network_hosts}
 use Rattle.host_net.specs.Host.{Host, host_named}
-use Rattle.host_net.specs.ServiceText.{service_of}
-use Rattle.host_net.specs.Services.{service_limit}
 use Rattle.table_core.specs.Keys.{all_suit, has_only_keys, lacks_key}
 use Rattle.table_core.specs.Listing.{each}
 use Rattle.text_core.proofs.StepsLaws.{bind_some}
@@ -188,8 +186,7 @@ sample_has_uses n few =
           (care_good (network_hosts (sample_raw n)) (hosts_in_care n));
       apart = All-nil (λ f. f.from ≢ f.to);
       different = λ i j d lower within. absurd (omega (arith, within));
-      services = All-nil (λ f. All (λ text. IsTrue (is_some (service_of text))) f.services);
-      few = All-nil (λ f. length f.services ≤ service_limit);
+      services = All-nil (λ f. AreServiceTexts f.services);
       declared = All-nil IsTemplate;
       distinct = λ i j d lower within. absurd (omega (arith, within));
       lawful = All-nil (λ t. All (HasPartner t) t.deny);

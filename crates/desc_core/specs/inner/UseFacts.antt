@@ -1,6 +1,6 @@
 -- A direct characterization of the raw descriptions that no condition from 15 on refuses: their templates, the hosts of assigns and of
 -- flows, the attributes, the services of flows, and the declared templates (the description's format, docs/FORMATS.md).
-use Rattle.std.specs.Prelude.{◌≡◌, ◌≢◌, ◌≤◌, List, length, Some, None, is_some, IsTrue}
+use Rattle.std.specs.Prelude.{◌≡◌, ◌≢◌, ◌≤◌, ℕ, List, length, Some, None, is_some, IsTrue}
 use Rattle.std.specs.List.{All, AllPairs}
 use Rattle.desc_core.specs.Choices.{bad_of, chosen}
 use Rattle.desc_core.specs.inner.TemplateFacts.{HasPartner, IsTemplate}
@@ -17,6 +17,11 @@ use Rattle.host_net.specs.ServiceText.{service_of}
 abbrev pub SaysAttributes : List RawTemplate → List Host → RawInvariant → Type 0
 SaysAttributes templates hosts i = (k : Known) → known_of templates hosts i ≡ Some k → bad_of hosts k.template k.assigns ≡ None
 
+-- The strings after the names of a flow: each denotes a service, and they are within the limit.
+pub record AreServiceTexts (texts : List (List ℕ)) : Type 0 where
+  pub denoted : All (λ text. IsTrue (is_some (service_of text))) texts
+  pub few : length texts ≤ service_limit
+
 pub record HasUses (w : RawDescription) : Type 0 where
   pub templates : All (λ i. IsTrue (is_some (chosen w.templates i.template))) w.invariants
   pub assigned : All (λ i. All (λ a. IsTrue (is_declared w a.host)) i.assigns) w.invariants
@@ -25,8 +30,7 @@ pub record HasUses (w : RawDescription) : Type 0 where
   pub attributes : All (SaysAttributes w.templates (network_hosts w)) w.invariants
   pub apart : All (λ f. f.from ≢ f.to) w.flows
   pub different : AllPairs (λ f g. f.from ≡ g.from → f.to ≡ g.to → ⊥) w.flows
-  pub services : All (λ f. All (λ text. IsTrue (is_some (service_of text))) f.services) w.flows
-  pub few : All (λ f. length f.services ≤ service_limit) w.flows
+  pub services : All (λ f. AreServiceTexts f.services) w.flows
   pub declared : All IsTemplate w.templates
   pub distinct : AllPairs (λ t u. t.name ≢ u.name) w.templates
   pub lawful : All (λ t. All (HasPartner t) t.deny) w.templates

@@ -1,12 +1,13 @@
 -- A network with one more or one fewer requested flow, and the flow that an edit may add or remove (docs/TEXTS.md).
-use Rattle.std.specs.Prelude.{◌≡◌, ◌≢◌, ◌⊎◌, ◌≤◌, ℕ, not, List, [], ◌∷◌, filter, length, Some, IsFalse, IsTrue}
+use Rattle.std.specs.Prelude.{◌≡◌, ◌≢◌, ◌⊎◌, ℕ, not, List, [], ◌∷◌, filter, Some, IsFalse, IsTrue}
 use Rattle.desc_core.specs.inner.Parts.{with_services}
+use Rattle.desc_core.specs.inner.UseFacts.{AreServiceTexts}
 use Rattle.desc_form.specs.Keys.{says_second, declared_version}
 use Rattle.flow_set.specs.FlowSet.{has, with_flow}
 use Rattle.flow_set.specs.inner.FlowSetView.{without_flow}
 use Rattle.flow_set.specs.declared.flow.Flow.{Flow}
 use Rattle.host_net.specs.Host.{host_named}
-use Rattle.host_net.specs.Services.{RestrictedFlow, is_between, service_limit}
+use Rattle.host_net.specs.Services.{RestrictedFlow, is_between}
 use Rattle.host_net.specs.ServiceText.{service_of}
 use Rattle.host_net.specs.declared.service.Service.{Service}
 use Rattle.net_core.specs.Network.{Network}
@@ -43,7 +44,7 @@ pub record IsRightFlow (table : Members) (d : Network) (words : List (List ℕ))
   pub apart : f.from ≢ f.to
   pub fresh : IsFalse (has d.asked.flows f)
   pub services : each service_of texts ≡ Some ss
-  pub few : length texts ≤ service_limit
+  pub valid : AreServiceTexts texts
   pub version : (texts ≡ []) ⊎ IsTrue (says_second (declared_version table))
 
 -- A requested flow, given by the names of its hosts.
