@@ -1,10 +1,10 @@
 -- The format of a flow file: the entries that it defines, and the reasons why a line is rejected.
-use Rattle.std.specs.Prelude.{◌≡◌, ◌<◌, ◌≤◌, ℕ, List, [], Some, length, slice_get}
+use Rattle.std.specs.Prelude.{◌≡◌, ◌<◌, ◌≤◌, ℕ, List, [], Some, codes, length, slice_get}
 use Rattle.text_core.specs.LineFormat.{LineFormat, IsReading as IsReadingOf, HasFault as HasFaultOf}
 use Rattle.ofp_rules.specs.declared.entry.Entry.{Entry}
 use Rattle.ofp_rules.specs.Ambiguity.{Contradict, most_entries}
 use Rattle.ofp_read.specs.declared.fault.OfpWhy.{OfpWhy}
-use Rattle.ofp_read.specs.declared.fault.OfpWhy.TheVariants.{TooLong, TooMany, Ambiguous}
+use Rattle.ofp_read.specs.declared.fault.OfpWhy.TheVariants.{TooLong, BadLine, UnknownField, BadValue, NeedsIp, UnknownAction, Ambiguous, TooMany}
 use Rattle.ofp_read.specs.Grammar.{Writes, AddsEntry}
 use Rattle.ofp_read.specs.Unwritten.{IsUnwritten}
 
@@ -35,3 +35,14 @@ IsReading = IsReadingOf flows_text
 -- The first error of a file.
 abbrev pub HasFault : List ℕ → ℕ → OfpWhy → Type 0
 HasFault = HasFaultOf flows_text
+
+-- The name of a reason, as it is printed.
+abbrev pub name : OfpWhy → List ℕ
+name TooLong = codes "TooLong"
+name BadLine = codes "BadLine"
+name UnknownField = codes "UnknownField"
+name BadValue = codes "BadValue"
+name NeedsIp = codes "NeedsIp"
+name UnknownAction = codes "UnknownAction"
+name Ambiguous = codes "Ambiguous"
+name TooMany = codes "TooMany"

@@ -1,5 +1,8 @@
 //! The reasons why a file is no flow table.
 
+ghost use Rattle.std.specs.Prelude.{◌≡◌};
+ghost use Rattle.ofp_read.specs.TextLines.{name};
+
 use text_core::TextFault;
 use thiserror::Error;
 
@@ -32,6 +35,24 @@ pub enum OfpWhy {
     /// The line has the 8,193rd entry.
     #[error("TooMany")]
     TooMany,
+}
+
+impl OfpWhy {
+    /// Returns the name of the reason, as it is printed.
+    pub fn name(self) -> &'static [u8]
+        ensures { result.now ≡ name self }
+    {
+        match self {
+            OfpWhy::TooLong => b"TooLong",
+            OfpWhy::BadLine => b"BadLine",
+            OfpWhy::UnknownField => b"UnknownField",
+            OfpWhy::BadValue => b"BadValue",
+            OfpWhy::NeedsIp => b"NeedsIp",
+            OfpWhy::UnknownAction => b"UnknownAction",
+            OfpWhy::Ambiguous => b"Ambiguous",
+            OfpWhy::TooMany => b"TooMany",
+        }
+    }
 }
 
 /// The reason why a file is no flow table: the first line that neither is a comment nor adds an
