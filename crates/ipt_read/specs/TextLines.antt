@@ -1,11 +1,11 @@
 -- The format of a ruleset file: the chains that it defines, and the reasons why a file is rejected.
-use Rattle.std.specs.Prelude.{◌≡◌, ◌≢◌, ℕ, List, ◌∷◌}
+use Rattle.std.specs.Prelude.{◌≡◌, ◌≢◌, ℕ, List, ◌∷◌, codes}
 use Rattle.text_core.specs.Lines.{words}
 use Rattle.text_core.specs.LineFormat.{LineFormat, IsReading as IsReadingOf, HasFault as HasFaultOf}
 use Rattle.ipt_rules.specs.Chain.{Chain}
 use Rattle.ipt_rules.specs.Loops.{IsAcyclic, IsFirstOnCycle}
 use Rattle.ipt_read.specs.declared.fault.IptWhy.{IptWhy}
-use Rattle.ipt_read.specs.declared.fault.IptWhy.TheVariants.{TooLong, Loop, NoCommit}
+use Rattle.ipt_read.specs.declared.fault.IptWhy.TheVariants.{TooLong, BadLine, OtherTable, BadChain, UnknownChain, Interface, UnknownOption, BadValue, UnknownTarget, Loop, NoCommit, AfterCommit, TooMany}
 use Rattle.ipt_read.specs.Grammar.{IsLine}
 use Rattle.ipt_read.specs.LineFault.{IsBad}
 use Rattle.ipt_read.specs.ParserStates.{After, ParserState, initial_state, line_of}
@@ -35,3 +35,19 @@ IsReading bytes chains = (s : ParserState) × IsReadingOf rules_text bytes s × 
 -- The first error of a file.
 abbrev pub HasFault : List ℕ → ℕ → IptWhy → Type 0
 HasFault = HasFaultOf rules_text
+
+-- The name of a reason, as it is printed.
+abbrev pub name : IptWhy → List ℕ
+name TooLong = codes "TooLong"
+name BadLine = codes "BadLine"
+name OtherTable = codes "OtherTable"
+name BadChain = codes "BadChain"
+name UnknownChain = codes "UnknownChain"
+name Interface = codes "Interface"
+name UnknownOption = codes "UnknownOption"
+name BadValue = codes "BadValue"
+name UnknownTarget = codes "UnknownTarget"
+name Loop = codes "Loop"
+name NoCommit = codes "NoCommit"
+name AfterCommit = codes "AfterCommit"
+name TooMany = codes "TooMany"

@@ -1,6 +1,7 @@
 //! The reasons why a file is no ruleset.
 
 ghost use Rattle.std.specs.Prelude.{◌≡◌};
+ghost use Rattle.ipt_read.specs.TextLines.{name};
 
 use text_core::{LineFault, TextFault};
 use thiserror::Error;
@@ -50,6 +51,29 @@ pub enum IptWhy {
     /// The line has the 4,097th chain, or the 1,000,001st rule.
     #[error("TooMany")]
     TooMany,
+}
+
+impl IptWhy {
+    /// Returns the name of the reason, as it is printed.
+    pub fn name(self) -> &'static [u8]
+        ensures { result.now ≡ name self }
+    {
+        match self {
+            IptWhy::TooLong => b"TooLong",
+            IptWhy::BadLine => b"BadLine",
+            IptWhy::OtherTable => b"OtherTable",
+            IptWhy::BadChain => b"BadChain",
+            IptWhy::UnknownChain => b"UnknownChain",
+            IptWhy::Interface => b"Interface",
+            IptWhy::UnknownOption => b"UnknownOption",
+            IptWhy::BadValue => b"BadValue",
+            IptWhy::UnknownTarget => b"UnknownTarget",
+            IptWhy::Loop => b"Loop",
+            IptWhy::NoCommit => b"NoCommit",
+            IptWhy::AfterCommit => b"AfterCommit",
+            IptWhy::TooMany => b"TooMany",
+        }
+    }
 }
 
 /// The reason why a file is no ruleset: the first line that is rejected at its position, counted
