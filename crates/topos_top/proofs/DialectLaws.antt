@@ -11,11 +11,11 @@ use Rattle.host_net.specs.Site.{Site}
 use Rattle.host_net.specs.inner.Site.{IsSite}
 use Rattle.ipt_read.proofs.AgainLaws.{text_read_again}
 use Rattle.ipt_read.proofs.FaultLaws.{one_reading, one_fault, no_reading_with_fault}
-use Rattle.ipt_read.specs.TextLines.{HasFault as HasFaultInRules}
+use Rattle.ipt_read.specs.TextLines.{HasFault as HasFaultInRules, name as rules_reason}
 use Rattle.ipt_read.specs.declared.fault.IptWhy.TheVariants.{TooLong as RulesTooLong}
 use Rattle.ofp_read.proofs.AgainLaws.{text_read_again as flows_read_again}
 use Rattle.ofp_read.proofs.FaultLaws.{one_reading as one_reading_of_flows, reading_is_table, one_fault as one_fault_in_flows, no_reading_with_fault as no_flows_with_fault}
-use Rattle.ofp_read.specs.TextLines.{HasFault as HasFaultInFlows}
+use Rattle.ofp_read.specs.TextLines.{HasFault as HasFaultInFlows, name as flows_reason}
 use Rattle.ofp_read.specs.declared.fault.OfpWhy.TheVariants.{TooLong as FlowsTooLong}
 use Rattle.pkt_core.specs.Filter.{Enforces}
 use Rattle.report_core.proofs.TraceLaws.{AnswersOnce, chains_answer_once, table_answers_once}
@@ -23,7 +23,7 @@ use Rattle.report_core.specs.Names.{flow_text}
 use Rattle.text_core.specs.LineFormat.{too_long}
 use Rattle.topos_top.specs.Dialects.{RuleDialect, NeedsState, RangeOfPorts, TooManyFlows, iptables, openflow, rule_dialect_of, CannotEmitTable}
 use Rattle.topos_top.specs.Reply.{not_emittable}
-use Rattle.topos_top.specs.TextFault.{fault_line, flows_reason, rules_reason}
+use Rattle.topos_top.specs.TextFault.{fault_line}
 use Rattle.topos_top.specs.declared.dialect.Dialect.{Dialect}
 use Rattle.topos_top.specs.declared.dialect.Dialect.TheVariants.{Iptables, OpenFlow}
 use Rattle.topos_top.specs.inner.Forms.{dialect_named}

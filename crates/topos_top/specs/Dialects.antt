@@ -9,12 +9,12 @@ use Rattle.emit_core.specs.Layout.{layout}
 use Rattle.emit_core.specs.PortRanges.{HasNoRange, IsFirstRange}
 use Rattle.flow_set.specs.declared.flow.Flow.{Flow}
 use Rattle.host_net.specs.Site.{Site}
-use Rattle.ipt_read.specs.TextLines.{IsReading as IsReadingOfRules, HasFault as HasFaultInRules, rules_text}
+use Rattle.ipt_read.specs.TextLines.{IsReading as IsReadingOfRules, HasFault as HasFaultInRules, name as rules_reason, rules_text}
 use Rattle.ipt_rules.specs.Chain.{Chain}
 use Rattle.ipt_rules.specs.ChainTable.{rule_count}
 use Rattle.ipt_rules.specs.Semantics.{Passes as PassesChains}
 use Rattle.ipt_rules.specs.Text.{text as chains_text}
-use Rattle.ofp_read.specs.TextLines.{IsReading as IsReadingOfFlows, HasFault as HasFaultInFlows, flows_text}
+use Rattle.ofp_read.specs.TextLines.{IsReading as IsReadingOfFlows, HasFault as HasFaultInFlows, flows_text, name as flows_reason}
 use Rattle.ofp_rules.specs.Ambiguity.{most_entries}
 use Rattle.ofp_rules.specs.Semantics.{Passes as PassesTable}
 use Rattle.ofp_rules.specs.Text.{text as table_text}
@@ -22,7 +22,7 @@ use Rattle.ofp_rules.specs.declared.entry.Entry.{Entry}
 use Rattle.pkt_core.specs.Firewall.{Filter}
 use Rattle.report_core.specs.Names.{flow_text}
 use Rattle.topos_top.specs.Reply.{not_emittable}
-use Rattle.topos_top.specs.TextFault.{ReportsFault, rules_reason, flows_reason}
+use Rattle.topos_top.specs.TextFault.{ReportsFault}
 use Rattle.topos_top.specs.declared.dialect.Dialect.{Dialect}
 use Rattle.topos_top.specs.declared.dialect.Dialect.TheVariants.{Iptables, OpenFlow}
 

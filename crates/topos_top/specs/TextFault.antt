@@ -3,39 +3,8 @@ use Rattle.std.specs.Prelude.{◌≡◌, ℕ, List, ◌++◌, codes, decimal}
 use Rattle.desc_form.specs.Refusals.{name}
 use Rattle.edit_core.specs.declared.fault.EditWhy.{EditWhy}
 use Rattle.edit_core.specs.declared.fault.EditWhy.TheVariants as edit
-use Rattle.ipt_read.specs.declared.fault.IptWhy.{IptWhy}
-use Rattle.ipt_read.specs.declared.fault.IptWhy.TheVariants as rules
-use Rattle.ofp_read.specs.declared.fault.OfpWhy.{OfpWhy}
-use Rattle.ofp_read.specs.declared.fault.OfpWhy.TheVariants as flows
 use Rattle.text_core.specs.declared.faults.ListWhy.{ListWhy}
 use Rattle.text_core.specs.declared.faults.ListWhy.TheVariants as list
-
--- The name of the reason to reject iptables rules.
-abbrev pub rules_reason : IptWhy → List ℕ
-rules_reason rules.TooLong = codes "TooLong"
-rules_reason rules.BadLine = codes "BadLine"
-rules_reason rules.OtherTable = codes "OtherTable"
-rules_reason rules.BadChain = codes "BadChain"
-rules_reason rules.UnknownChain = codes "UnknownChain"
-rules_reason rules.Interface = codes "Interface"
-rules_reason rules.UnknownOption = codes "UnknownOption"
-rules_reason rules.BadValue = codes "BadValue"
-rules_reason rules.UnknownTarget = codes "UnknownTarget"
-rules_reason rules.Loop = codes "Loop"
-rules_reason rules.NoCommit = codes "NoCommit"
-rules_reason rules.AfterCommit = codes "AfterCommit"
-rules_reason rules.TooMany = codes "TooMany"
-
--- The name of the reason to reject a flow file.
-abbrev pub flows_reason : OfpWhy → List ℕ
-flows_reason flows.TooLong = codes "TooLong"
-flows_reason flows.BadLine = codes "BadLine"
-flows_reason flows.UnknownField = codes "UnknownField"
-flows_reason flows.BadValue = codes "BadValue"
-flows_reason flows.NeedsIp = codes "NeedsIp"
-flows_reason flows.UnknownAction = codes "UnknownAction"
-flows_reason flows.Ambiguous = codes "Ambiguous"
-flows_reason flows.TooMany = codes "TooMany"
 
 -- The name of the reason to reject a list of events or of edits.
 abbrev pub list_reason : ListWhy → List ℕ

@@ -1,6 +1,7 @@
 pub mod Command
 pub mod Forms
 pub mod Blocks
+pub mod DialectCalls
 pub mod OutcomesReplies
 pub mod Local
 pub mod Reads

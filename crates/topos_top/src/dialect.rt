@@ -1,29 +1,22 @@
-//! The dialects of rules. All code that differs between them is here, in `chains`, `flows` and
-//! `text_fault`, and in the usage text.
+//! The dialects of rules. All code that differs between them is here, in `chains` and `flows`, and
+//! in the usage text.
 
-ghost use Rattle.std.specs.Prelude.{◌≡◌, ◌<◌, ◌≤◌, ◌^◌, IfOk, Some, false, length, slice_get, take};
+ghost use Rattle.std.specs.Prelude.{◌≡◌, ◌<◌, ◌≤◌, ◌^◌, IfOk, Some, length, slice_get, take};
 ghost use Rattle.audit_core.specs.Rules.{filter_of};
 ghost use Rattle.audit_core.specs.RulesView.{rules_of};
-ghost use Rattle.net_core.specs.Policies.{IsPolicyOf};
 ghost use Rattle.report_core.specs.Trace.{IsTrace};
 ghost use Rattle.topos_top.specs.Dialects.{rule_dialect_of};
-ghost use Rattle.topos_top.specs.Outcomes.{Answers};
-ghost use Rattle.topos_top.specs.Repair.{repair_outcomes};
+ghost use Rattle.topos_top.specs.inner.DialectCalls.{IsLayout, IsRead};
 ghost use Rattle.topos_top.specs.inner.Forms.{dialect_named};
-ghost use Rattle.topos_top.specs.inner.Reads.{IsRead};
-ghost use Rattle.topos_top.specs.inner.Views.{reply_view, rules_lines, rules_view};
+ghost use Rattle.topos_top.specs.inner.Views.{rules_lines, rules_view};
 
-use crate::answer::Answer;
-use crate::text_fault::{flows_reason, rules_reason};
-use crate::{chains, flows};
+mod chains;
+mod flows;
+
 use audit_core::Text;
-use desc_core::Description;
-use ipt_read::IptFault;
 use ipt_rules::Ruleset;
-use net_core::Policy;
-use ofp_read::OfpFault;
 use ofp_rules::Table;
-use pkt_core::Event;
+use pkt_core::{Event, FlowPolicy};
 use report_core::{trace_rules, trace_table};
 use std::alloc::{AllocError, Global};
 
@@ -64,38 +57,22 @@ impl Dialect {
         ensures { IsRead self bytes.now result }
     {
         match self {
-            Dialect::Iptables => match ipt_read::read(alloc, bytes) {
-                Ok(chains) => Ok(Rules::Chains(chains)),
-                Err(IptFault::Refused { line, why }) => {
-                    Err(RulesFault::Refused(line, rules_reason(why)))
-                }
-                Err(IptFault::Memory) => Err(RulesFault::Memory),
-            },
-            Dialect::OpenFlow => match ofp_read::read(alloc, bytes) {
-                Ok(table) => Ok(Rules::Table(table)),
-                Err(OfpFault::Refused { line, why }) => {
-                    Err(RulesFault::Refused(line, flows_reason(why)))
-                }
-                Err(OfpFault::Memory) => Err(RulesFault::Memory),
-            },
+            Dialect::Iptables => chains::read(alloc, bytes),
+            Dialect::OpenFlow => flows::read(alloc, bytes),
         }
     }
 
-    /// Returns the rules of a policy, or the reason why they cannot be emitted.
-    pub fn emit<'a>(
+    /// Returns the rules of a policy, or the line with the reason why they cannot be emitted.
+    pub fn layout(
         self,
         alloc: Global,
-        description: &Description,
-        policy: &Policy,
-    ) -> Result<Answer<'a>, AllocError>
-        requires policy { IsPolicyOf description.now policy.now }
-        requires permitted { policy.now.permitted.size ≡ length description.now.hosts }
-        requires stateful { policy.now.stateful.size ≡ length description.now.hosts }
-        ensures { IfOk result (λ answer. Answers false (repair_outcomes self description.now) (reply_view answer)) }
+        policy: &FlowPolicy<'_>,
+    ) -> Result<Result<Rules, Vec<u8>>, AllocError>
+        ensures { IfOk result (IsLayout self policy.now) }
     {
         match self {
-            Dialect::Iptables => chains::answer(alloc, description, policy),
-            Dialect::OpenFlow => flows::answer(alloc, description, policy),
+            Dialect::Iptables => chains::layout(alloc, policy),
+            Dialect::OpenFlow => flows::layout(alloc, policy),
         }
     }
 }

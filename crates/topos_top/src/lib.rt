@@ -7,7 +7,6 @@
 
 mod answer;
 mod audit;
-mod chains;
 mod check;
 mod command;
 mod commands;
@@ -15,7 +14,6 @@ mod dialect;
 mod edit;
 mod ending;
 mod flow_policy;
-mod flows;
 mod hindrance;
 mod kind;
 mod lines;

@@ -13,6 +13,7 @@ ghost use Rattle.topos_top.specs.inner.Views.{reply_view, reply_in};
 
 use crate::answer::Answer;
 use crate::dialect::Dialect;
+use crate::flow_policy::policy_between;
 use crate::listed::listed_offences;
 use crate::reading::read_description;
 use crate::status::Status;
@@ -59,5 +60,9 @@ pub fn policy_rules<'a>(
     ensures { IfOk result (λ answer. Answers false (repair_outcomes dialect description.now) (reply_view answer)) }
 {
     let policy = policy_of(alloc, description)?;
-    dialect.emit(alloc, description, &policy)
+    let layout = dialect.layout(alloc, &policy_between(description, &policy))?;
+    match layout {
+        Ok(rules) => Ok(Answer::done(Text::Rules(rules))),
+        Err(line) => Ok(Answer::not_emittable(line)),
+    }
 }

@@ -1,17 +1,12 @@
 -- The contract of the code that reads a file. No promise of `run` depends on it.
-use Rattle.std.specs.Prelude.{◌≡◌, ℕ, List, Result, Ok, Err, Some, codes}
+use Rattle.std.specs.Prelude.{◌≡◌, ℕ, List, Result, Ok, Err, Some}
 use Rattle.audit_core.specs.Rules.{Rules as AuditedRules}
 use Rattle.topos_top.specs.Dialects.{rule_dialect_of}
 use Rattle.topos_top.specs.FileFormats.{format_of}
 use Rattle.topos_top.specs.Replies.{StopsRunAt}
 use Rattle.topos_top.specs.Reply.{Reply}
 use Rattle.topos_top.specs.Shelf.{ShelfChange, ObservesFile, ConsumesBytes}
-use Rattle.topos_top.specs.TextFault.{fault_line}
-use Rattle.topos_top.specs.inner.Views.{rules_view}
 use Rattle.topos_top.specs.declared.dialect.Dialect.{Dialect}
-use Rattle.topos_top.specs.declared.dialect.Rules.{Rules as CodeRules}
-use Rattle.topos_top.specs.declared.dialect.RulesFault.{RulesFault}
-use Rattle.topos_top.specs.declared.dialect.RulesFault.TheVariants.{Refused, Memory}
 use Rattle.topos_top.specs.declared.kind.Kind.{Kind}
 use Rattle.topos_top.specs.declared.kind.Kind.TheVariants.{Rules}
 
@@ -28,16 +23,6 @@ MayTake kind file shelf (Err given) = StopsRunAt shelf kind file given
 abbrev pub MayRead : (kind : Kind) → (file : List ℕ) → ShelfChange → Result (format_of kind).Said Reply → Type 0
 MayRead kind file shelf (Ok said) = (bytes : List ℕ) × ConsumesFile shelf kind file bytes × (format_of kind).Reads bytes said
 MayRead kind file shelf (Err given) = StopsRunAt shelf kind file given
-
--- The line and the reason report a fault of the bytes in a dialect, unless memory ran out.
-abbrev pub IsFault : Dialect → (bytes : List ℕ) → RulesFault → Type 0
-IsFault dialect bytes (Refused line reason) = (rule_dialect_of dialect).Refuses bytes (fault_line (codes "rules") line reason.now)
-IsFault dialect bytes Memory = Unit {0}
-
--- The result of parsing bytes in a dialect: rules, in the form of an audit, or a fault.
-abbrev pub IsRead : Dialect → (bytes : List ℕ) → Result CodeRules RulesFault → Type 0
-IsRead dialect bytes (Ok rules) = (said : (rule_dialect_of dialect).Rules) × (rules_view rules ≡ (rule_dialect_of dialect).audited said) × (rule_dialect_of dialect).IsReading bytes said
-IsRead dialect bytes (Err fault) = IsFault dialect bytes fault
 
 -- Rules of a dialect were read, in the form of an audit.
 pub record ReadRules (shelf : ShelfChange) (dialect : Dialect) (file : List ℕ) (rules : AuditedRules) : Type 0 where
