@@ -154,7 +154,7 @@ fit_options() {
 read_value() {
   case $1:$2 in
     --wait:*[!0-9]* | --wait: | --wait:??????*) wrong_words '--wait: expected a number of seconds, at most 99999' ;;
-    --wait:*) seconds=$2 ;;
+    --wait:*) seconds=$((10#$2)) ;; # not octal
     --backend:nft | --backend:legacy) backend=$2 ;;
     --backend:*) wrong_words '--backend: expected nft or legacy' ;;
     --program:*) program=$2 ;;
