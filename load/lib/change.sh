@@ -164,6 +164,7 @@ tell_end() {
   trap '' HUP INT TERM
   end_told=yes
   if ! is_told; then say 'cannot determine whether the rules were rolled back: see iptables-save'; exit 71; fi
+  if [ "$(result_status)" = 71 ]; then cat "$state/log" >&2 2>/dev/null; fi # of the rollback process
   say "$(result_words)"
   exit "$(result_status)"
 }

@@ -148,9 +148,9 @@ write_empty() {
 # Writes the status and the words with which a load ends, also into the journal.
 finish() {
   record "$2"
-  rm -f "$state"/{rules.others,rules.policy,rules.description,loaded,settle,asked,made,connections,log,staying}
+  rm -f "$state"/{rules.others,rules.policy,rules.description,loaded,settle,asked,made,connections,staying}
   ln -sfn "$1 $2" "$state/result" 2>/dev/null || ln -sfn "$1 -" "$state/result"
-  if [ "$1" != 71 ]; then rm -f "$state"/{armed,before,older.before,rules}; fi
+  if [ "$1" != 71 ]; then rm -f "$state"/{armed,before,older.before,rules,log}; fi
 }
 
 # Prints the words with which the load ended.
