@@ -69,7 +69,7 @@ carry_out() {
   takes_change 2>/dev/null || flush=yes takes_change || refuse "$restore rejects the rules: nothing is changed"
   remember_connections
   end_told=''
-  trap '' PIPE
+  trap '' PIPE TSTP # a stopped restore would hold the lock that the way back waits for
   trap 'decide back' INT TERM
   start_guard
   trap 'end_told=yes; exit 129' HUP
