@@ -163,7 +163,7 @@ result_status() { readlink "$state/result" | sed 's/ .*//'; }
 record() {
   local who=${SUDO_USER:-$(id -un)}
   if ! command -v logger >/dev/null; then return; fi
-  logger -t topos-load -- "$1 (by $who, loginuid $(login_of); $backend${digests:-$(digests_now)}; $words_given)" 2>/dev/null
+  timeout 5 logger -t topos-load -- "$1 (by $who, loginuid $(login_of); $backend${digests:-$(digests_now)}; $words_given)" 2>/dev/null
 }
 
 # Prints the digests of the table before, of the rules and of the description.
