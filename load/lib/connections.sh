@@ -39,7 +39,12 @@ tracked() {
         words = words " --icmp-type " part["type1"] " --icmp-code " part["code1"] " --icmp-id " part["id1"]
       else if (part["sport1"] != "") words = words " --sport " part["sport1"] " --dport " part["dport1"]
       print decides, ends, id, words
-    }' <(ip -4 -o route show table local 2>/dev/null) -
+    }' <(own_addresses) -
+}
+
+# Prints the addresses of the firewall itself, without a tool that it may lack.
+own_addresses() {
+  awk '$1 == "|--" { address = $2 } $3 ~ /^(LOCAL|BROADCAST)$/ { print tolower($3), address $1 }' /proc/net/fib_trie
 }
 
 # Writes what a packet meets in a built-in chain of a text, as rules of FORWARD, which topos trace reads.
