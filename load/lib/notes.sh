@@ -190,7 +190,7 @@ others_that_drop() {
 out_of_force() {
   local each chains_of_nft
   if [ "$backend" = legacy ] || ! command -v nft >/dev/null; then return; fi
-  if prints '"name": "filter", "handle": [0-9]*, "flags"' nft -j list tables ip &&
+  if { prints '"name": "filter", "handle": [0-9]*, "flags"' nft -j list tables ip || ! nft -j list tables ip >/dev/null 2>&1; } &&
     prints '^[[:space:]]*flags .*dormant' nft -t list table ip filter; then
     echo 'the table filter is dormant, so its rules have no effect (nft add table ip filter activates it)'
     return
