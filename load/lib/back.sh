@@ -91,7 +91,7 @@ go_back() {
       if [ "${#refused[@]}" = 0 ] && ! target=$(with_added "$now"); then target=$was; fi
       if is_same_text "$now" "$target"; then break; fi
       if [ "$tries" -ge 2 ]; then flush=yes; fi
-      if [ "$tries" -ge 3 ]; then leave_out "$now"; fi
+      if [ "$tries" -ge 3 ]; then leave_out; fi
       if load_change "$now" "$target" back; then changed_back=yes; fi
     fi
     tries=$((tries + 1))
@@ -147,9 +147,8 @@ with_added() {
 # Removes from `target` the rules that the kernel rejects; they are then in `refused`.
 leave_out() {
   local -a rules=()
-  local present each
+  local each
   refused=()
-  present=$(printf '%s\n' "$1" | sed -nE 's/^:([^ ]+) -.*/\1/p' | paste -s -d '|')
   mapfile -t rules < <(our_rules "$target")
   sift "${rules[@]}"
   drop_trial
@@ -182,8 +181,8 @@ takes() {
   } | "$restore" --noflush --wait 10 2>/dev/null
 }
 
-# Whether a target is a chain of the text `target` that the table does not have now.
-is_coming() { ! [[ $1 =~ ^($present)$ ]] && [[ $'\n'$target == *$'\n':$1\ -* ]]; }
+# Whether a target is a chain of the text `target` that the table, the text `now`, does not have.
+is_coming() { [[ $'\n'$now != *$'\n':"$1 -"* && $'\n'$target == *$'\n':"$1 -"* ]]; }
 
 # Removes the chain in which rules are tried.
 drop_trial() { printf '*filter\n:topos-try - [0:0]\n-X topos-try\nCOMMIT\n' | "$restore" --noflush --wait 10 2>/dev/null; }

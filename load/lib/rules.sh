@@ -156,12 +156,11 @@ with_logs() {
 # those of the second one. On the way back, the third argument, chains of other tools that are gone are created empty. If a
 # step fails, COMMIT is missing, and nothing is loaded.
 change() {
-  local stale gone='' each
+  local stale each
   stale=$(comm -23 <(our_chains "$1") <(our_chains "$2")) || return 1
-  if [ "${3:-}" = back ]; then gone=$(gone_chains "$1" "$2"); fi
   echo '*filter'
   printf '%s\n' "$2" | sed -nE "s/^:(($entries) [A-Z]+).*/:\1 [0:0]/p; s/^:($chains) .*/:\1 - [0:0]/p" || return 1
-  for each in $gone; do echo ":$each - [0:0]"; done
+  if [ "${3:-}" = back ]; then gone_chains "$1" "$2" | sed 's/.*/:& - [0:0]/'; fi
   removals "$1" || return 1
   for each in $stale; do echo "-F $each"; done
   for each in $stale; do echo "-X $each"; done
@@ -180,8 +179,8 @@ removals() {
 # Prints the chains of other tools that rules of the second text lead to, and that the first text does not have.
 gone_chains() {
   our_rules "$2" | sed -nE 's/.* -[jg] ([^ ]+)( .*)?$/\1/p' | sort -u | while read -r each; do
-    if [[ $each =~ ^($chains)$ ]] || [[ $'\n'$1 == *$'\n':$each\ * ]]; then continue; fi
-    if [[ $'\n'$2 == *$'\n':$each\ -* ]]; then echo "$each"; fi
+    if [[ $each =~ ^($chains)$ ]] || [[ $'\n'$1 == *$'\n':"$each "* ]]; then continue; fi
+    if [[ $'\n'$2 == *$'\n':"$each -"* ]]; then echo "$each"; fi
   done
 }
 
