@@ -10,7 +10,8 @@ answer_pending() {
     need ss find
     refuse_old_login
   fi
-  decide "$1"
+  digests=$(digests_now)
+  if decide "$1"; then record "--$action"; fi
   exec 9>"$state/lock"
   tell_end
 }

@@ -1,7 +1,7 @@
 # shellcheck shell=bash disable=SC2034,SC2154
 # The command line of topos-load, and what it prints.
 
-from=description seconds=60 guard='' was='' loaded='' flush='' changing=''
+from=description seconds=60 guard='' digests='' was='' loaded='' flush='' changing=''
 repair='' every_flow='' backend='' replace='' keep='' program='' file='' host='' local='' log_drops='' open=''
 dry_run='' verbose='' unproved='' list=''
 
