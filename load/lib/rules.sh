@@ -76,10 +76,7 @@ read_filter() { filter_now | cat >"$1"; }
 
 # Writes the table `filter` into a file, and refuses if iptables cannot read it.
 save_filter() {
-  read_filter "$1" || refuse "$save cannot read the table filter: nothing is changed"
-  if grep -q '^# Table .filter. is incompatible' "$1"; then
-    refuse 'the table filter contains nft rules that iptables cannot read: nothing is changed'
-  fi
+  read_filter "$1" || refuse "$save cannot read the table filter, or not all nft rules in it: nothing is changed"
 }
 
 # Prints the chains of topos in a text.

@@ -44,7 +44,7 @@ end_broken_load() {
   local was now
   if ! is_pending "$state"; then return; fi
   if [ "$(cat "$state/local" 2>/dev/null)" != "$local" ]; then
-    refuse "a load ${local:+without --local }was interrupted: topos-load --back${local:+ } ends it"
+    refuse "a load ${local:+without --local }was interrupted: topos-load --back ends it"
   fi
   was=$(cat "$state/before") loaded=$(cat "$state/rules")
   await_changes
