@@ -6,11 +6,11 @@ use Rattle.header_space.specs.declared.packet_box.PacketBox.{PacketBox}
 use Rattle.header_space.specs.declared.cut.Cut.{Cut}
 use Rattle.header_space.specs.declared.cut.Cut.TheVariants.{Src, Dst}
 use Rattle.header_space.specs.declared.field.Field.TheVariants.{Src as FieldSrc, Dst as FieldDst}
-use Rattle.header_space.specs.Boxes.{IsBox, IsIn}
+use Rattle.header_space.specs.Boxes.{IsIn}
 use Rattle.header_space.specs.Cuts.{IsCutOf}
 use Rattle.header_space.specs.Searching.{HoldsIn, Improves, IsEarlier, IsLeastWhere}
 use Rattle.header_space.specs.inner.Cutting.{AreSameIn, lower, upper}
-use Rattle.header_space.proofs.FieldLaws.{after_box, after_in, in_parts, up_to_box, up_to_in}
+use Rattle.header_space.proofs.FieldLaws.{after_in, in_parts, up_to_in}
 use Rattle.header_space.proofs.SeekLaws.{earlier_low, earlier_old}
 
 -- ---- The two parts
@@ -26,14 +26,6 @@ lower_in b (Dst n) p is inside = let high = is.1 in up_to_in FieldDst b n p (ome
 pub upper_in : (b : PacketBox) (cut : Cut) (p : Packet) → IsCutOf b cut → IsIn (upper b cut) p → IsIn b p
 upper_in b (Src n) p is inside = after_in FieldSrc b n p is.0 inside
 upper_in b (Dst n) p is inside = after_in FieldDst b n p is.0 inside
-
-pub lower_box : (b : PacketBox) (cut : Cut) → IsBox b → IsCutOf b cut → IsBox (lower b cut)
-lower_box b (Src n) is cut = up_to_box FieldSrc b n is cut.0
-lower_box b (Dst n) is cut = up_to_box FieldDst b n is cut.0
-
-pub upper_box : (b : PacketBox) (cut : Cut) → IsBox b → IsCutOf b cut → IsBox (upper b cut)
-upper_box b (Src n) is cut = after_box FieldSrc b n is cut.1
-upper_box b (Dst n) is cut = after_box FieldDst b n is cut.1
 
 -- ---- The packet found
 

@@ -1,5 +1,5 @@
 -- Boxes that end at a number in a field or start after it.
-use Rattle.std.proofs.Common.{◌≡◌, ◌⊎◌, inl, inr, ℕ, ◌+◌, ◌<◌, ◌≤◌, arith}
+use Rattle.std.proofs.Common.{◌⊎◌, inl, inr, ℕ, ◌+◌, ◌<◌, ◌≤◌, arith}
 use Rattle.std.proofs.lemmas.Bool.{cases_lt}
 use Rattle.host_net.specs.declared.packet.Packet.{Packet}
 use Rattle.header_space.specs.declared.packet_box.PacketBox.{PacketBox}
@@ -10,13 +10,6 @@ use Rattle.header_space.specs.inner.Fields.{after, number_of, up_to, with_number
 use Rattle.header_space.proofs.BoxLaws.{low_trans, self_low}
 
 -- ---- One field of two packets, where one packet is no higher than the other
-
-pub number_low : (f : Field) (p q : Packet) → IsNoHigher p q → number_of f p ≤ number_of f q
-number_low Src p q low = low.src
-number_low Dst p q low = low.dst
-number_low Proto p q low = low.proto
-number_low Sport p q low = low.sport
-number_low Dport p q low = low.dport
 
 pub low_with : (f : Field) (p q : Packet) (n : ℕ) → IsNoHigher p q → n ≤ number_of f q → IsNoHigher (with_number f p n) q
 low_with Src p q n low h = record { src = h; dst = low.dst; proto = low.proto; sport = low.sport; dport = low.dport }
@@ -31,13 +24,6 @@ with_low Dst p q n low h = record { src = low.src; dst = h; proto = low.proto; s
 with_low Proto p q n low h = record { src = low.src; dst = low.dst; proto = h; sport = low.sport; dport = low.dport }
 with_low Sport p q n low h = record { src = low.src; dst = low.dst; proto = low.proto; sport = h; dport = low.dport }
 with_low Dport p q n low h = record { src = low.src; dst = low.dst; proto = low.proto; sport = low.sport; dport = h }
-
-pub with_same : (f : Field) (p : Packet) (n : ℕ) → n ≡ number_of f p → with_number f p n ≡ p
-with_same Src p n same = λ i. record { src = same i; dst = p.dst; proto = p.proto; sport = p.sport; dport = p.dport }
-with_same Dst p n same = λ i. record { src = p.src; dst = same i; proto = p.proto; sport = p.sport; dport = p.dport }
-with_same Proto p n same = λ i. record { src = p.src; dst = p.dst; proto = same i; sport = p.sport; dport = p.dport }
-with_same Sport p n same = λ i. record { src = p.src; dst = p.dst; proto = p.proto; sport = same i; dport = p.dport }
-with_same Dport p n same = λ i. record { src = p.src; dst = p.dst; proto = p.proto; sport = p.sport; dport = same i }
 
 -- ---- The two parts of a box
 

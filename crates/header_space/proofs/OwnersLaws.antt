@@ -25,11 +25,6 @@ covered_cases [] ys a covered = inr covered
 covered_cases (x ∷ xs) ys a (inl here) = inl (inl here)
 covered_cases (x ∷ xs) ys a (inr later) = elim (covered_cases xs ys a later) [ inl left ↦ inl (inr left) | inr right ↦ inr right ]
 
-pub covered_at : (xs : List AddressRange) (i : ℕ) (d : AddressRange) (a : ℕ) → i < length xs → LiesIn (get_or xs i d) a → LiesInOne xs a
-covered_at [] i d a low lies = absurd (omega (arith, low))
-covered_at (x ∷ xs) zero d a low lies = inl lies
-covered_at (x ∷ xs) (suc i) d a low lies = inr (covered_at xs i d a (omega (arith, low)) lies)
-
 -- An address in a list of one range is in this range.
 pub covered_only : (range : AddressRange) (a : ℕ) → LiesInOne (range ∷ []) a → LiesIn range a
 covered_only range a (inl here) = here

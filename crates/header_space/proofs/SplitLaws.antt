@@ -1,5 +1,5 @@
 -- Lemmas on splits of boxes.
-use Rattle.std.proofs.Common.{◌≡◌, ◌⊎◌, inl, inr, ℕ, ◌+◌, ◌*◌, ◌<◌, ◌≤◌, List, [], ◌∷◌, ◌++◌, refl, sym, ap, ◌∙◌, arith}
+use Rattle.std.proofs.Common.{◌≡◌, ◌⊎◌, inl, inr, ℕ, ◌+◌, ◌*◌, ◌<◌, ◌≤◌, List, [], ◌∷◌, ◌++◌, sym, ap, ◌∙◌, arith}
 use Rattle.std.proofs.Math.Nat.{add-mul, mul-add}
 use Rattle.std.proofs.lemmas.Bool.Decides.{leb_tells}
 use Rattle.std.proofs.lemmas.List.Sums.{sum_by-append}
@@ -11,7 +11,7 @@ use Rattle.header_space.specs.declared.field.Field.TheVariants.{Src, Dst, Proto,
 use Rattle.header_space.specs.inner.Fields.{after, number_of, up_to}
 use Rattle.header_space.specs.inner.Splitting.{AreWithin, IsAmong, IsWithin, Splits, volume, volumes, width}
 use Rattle.header_space.proofs.BoxLaws.{low_trans}
-use Rattle.header_space.proofs.FieldLaws.{after_box, after_high, in_parts, up_to_box, up_to_low, with_same}
+use Rattle.header_space.proofs.FieldLaws.{after_box, after_high, in_parts, up_to_box, up_to_low}
 
 pub le_or_lt : (a b : ℕ) → (a ≤ b) ⊎ (b < a)
 le_or_lt a b = elim (leb_tells a b) [ inl h ↦ inl h.1 | inr h ↦ inr h.1 ]
@@ -59,9 +59,6 @@ splits_by b part above old sums packets within = record {
   kept = λ p there. among_old old (above ∷ []) p there;
   within = λ whole are own. let both = within whole own in (within_pushed whole old above are both.1, both.0);
 }
-
-pub splits_none : (b : PacketBox) (old : List PacketBox) → Splits b old old b
-splits_none b old = record { volumes = refl; packets = λ p inside. inl inside; kept = λ p there. there; within = λ whole are own. (are, own) }
 
 -- Two consecutive splits compose to one.
 pub splits_then : (b left part : PacketBox) (old mid new : List PacketBox) → Splits b old mid left → Splits left mid new part → Splits b old new part
@@ -122,6 +119,3 @@ splits_at f b old n is low high = splits_by b (up_to f b n) (after f b n) old (v
         below = own.below;
       },
     ))
-
-pub up_to_same : (f : Field) (b : PacketBox) (n : ℕ) → n ≡ number_of f b.greatest → up_to f b n ≡ b
-up_to_same f b n same = λ i. record { least = b.least; greatest = with_same f b.greatest n same i }
