@@ -54,18 +54,12 @@ pub fn flow_table_layout(alloc: Global, policy: &FlowPolicy<'_>) -> Result<Table
     }
     match Table::build(alloc, entries.into_kept()) {
         Ok(table) => Ok(table),
-        Err(why) => Err(alloc_error(why)),
-    }
-}
-
-// No layout within the entry limit is refused: if no table is returned, memory allocation failed.
-fn alloc_error(why: TableRefusal) -> NoTable
-    requires { why ≡ TableRefusal.Memory }
-    ensures { result ≡ NoTable.Memory }
-{
-    match why {
-        TableRefusal::Memory => NoTable::Memory,
-        _ => unreachable!(),
+        Err(why) => {
+            // No layout within the entry limit is refused: memory allocation failed.
+            let is_memory = matches!(why, TableRefusal::Memory);
+            prove!(is_memory);
+            Err(NoTable::Memory)
+        }
     }
 }
 

@@ -14,6 +14,7 @@ use Rattle.emit_core.proofs.FlowTableLaws.{ForwardsFlows, unambiguous}
 use Rattle.emit_core.proofs.FlowTableRangeLaws.{all_ask}
 use Rattle.emit_core.proofs.FlowTableVerdictLaws.{forwards_flows}
 use Rattle.emit_core.specs.PortRanges.{HasNoRange}
+use Rattle.emit_core.proofs.openflow.flow_table_layout.Goals.{in-Memory, in_default-matches}
 use Rattle.emit_core.proofs.openflow.flow_table_layout.Goals as goal
 
 pub build-requires-clause-asks : goal.build-requires-clause-asks
@@ -28,12 +29,16 @@ memory_alone site p entries count (Ambiguous i j) known plain is all few refused
     absurd (subst (λ (es : List Entry). IsRefused es (Ambiguous i j) → ⊥) (sym is) (λ bad. unambiguous site p known plain i j bad.1.ambiguous) refused)
 memory_alone site p entries count Memory known plain is all few refused = refl
 
-pub alloc_error-requires : goal.alloc_error-requires
-alloc_error-requires c =
-    memory_alone c.args.policy.now.site c.args.policy.now.permitted c.into_kept.result.items c.count-count-2.result c.in-Err.why
-    c.count-count.ensures.policy.site c.in_default.ensures
-    (c.into_kept.ensures ∙ c.in-Ok.ensures.kept (omega (arith, c.count-count-2.ensures, c.if-count-gt-ENTRY_LIMIT.false)))
-    (c.count-count-2.ensures ∙ c.in-Ok.ensures.counted) c.if-count-gt-ENTRY_LIMIT.false c.in-Err.ensures.refused
+pub prove-unreachable-requires : goal.prove-unreachable-requires
+prove-unreachable-requires c =
+    elim c.match-matches.branch [
+      | in-Memory w ↦ cc (w.matches-is, c.if-prove.true)
+      | in_default-matches w ↦ w.in_default-matches.not-Memory
+          (memory_alone c.args.policy.now.site c.args.policy.now.permitted c.into_kept.result.items c.count-count-2.result c.in-Err.why
+          c.count-count.ensures.policy.site c.in_default.ensures
+          (c.into_kept.ensures ∙ c.in-Ok.ensures.kept (omega (arith, c.count-count-2.ensures, c.if-count-gt-ENTRY_LIMIT.false)))
+          (c.count-count-2.ensures ∙ c.in-Ok.ensures.counted) c.if-count-gt-ENTRY_LIMIT.false c.in-Err.ensures.refused)
+    ]
 
 forwards : (c : goal.In-Ok-build) → ForwardsFlows c.in-Ok-build.table c.args.policy.now.site c.args.policy.now.permitted
 forwards c =
