@@ -72,12 +72,11 @@ fn number_of(flow: Flow, flows: &[Flow]) -> u64
     requires { IsTrue (has flows.now flow) }
     ensures { find (λ f. same_flow flow f.what) (numbered flows.now) ≡ Some (record { number = result; what = flow }) }
 {
-    for (index, listed) in flows.iter().enumerate() {
-        if flow.from == listed.from && flow.to == listed.to {
-            return index as u64 + 1;
-        }
+    let mut index = 0;
+    while flow != flows[index] {
+        index += 1;
     }
-    unreachable!()
+    index as u64 + 1
 }
 
 /// Returns the refusal of a flow that is listed twice.
