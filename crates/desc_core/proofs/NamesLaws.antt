@@ -1,5 +1,5 @@
 -- The names that refer to hosts: they are valid names, and they are names of hosts.
-use Rattle.std.proofs.Common.{◌≡◌, ℕ, ◌+◌, Bool, true, false, not, ◌||◌, List, [], ◌∷◌, map, Option, Some, None, option_map, is_none, refl, sym, ◌∙◌}
+use Rattle.std.proofs.Common.{◌≡◌, ◌≢◌, ℕ, ◌+◌, Bool, true, false, not, ◌||◌, List, [], ◌∷◌, map, Option, Some, None, option_map, is_none, refl, sym, ap, ◌∙◌}
 use Rattle.std.proofs.lemmas.Bool.{and_parts}
 use Rattle.std.proofs.lemmas.List.Folds.{list_all-append}
 use Rattle.std.specs.List.{find, list_all, list_any, position_from}
@@ -42,3 +42,7 @@ pub undeclared_is : (w : RawDescription)
     → option_map (λ (m : NameUse). refused_name UndeclaredHost m.place m.item m.name) (find (λ m. is_none (host_named (network_hosts w) m.name)) (used_names w)) ≡ undeclared_host w
 unfolding undeclared_host
 undeclared_is w = λ i. option_map (λ (m : NameUse). refused_name UndeclaredHost m.place m.item m.name) (find (λ m. (undeclared w m.name) i) (used_names w))
+
+-- If a name is undeclared, one of the names is not that of a host.
+pub undeclared_found : (w : RawDescription) → undeclared_host w ≢ None → find (λ (m : NameUse). is_none (host_named (network_hosts w) m.name)) (used_names w) ≢ None
+undeclared_found w some none = some (sym (undeclared_is w) ∙ ap (option_map (λ (m : NameUse). refused_name UndeclaredHost m.place m.item m.name)) none)

@@ -96,12 +96,8 @@ uses_are w hosts ks es all =
 told : (w : RawDescription) (r : Refusal) → first_of (use_conditions w) ≡ Some r → network_by_uses w ≡ Err r
 told w r is = rw is refl
 
-refused_for_name : (w : RawDescription) (r : Refusal) → first_of (name_conditions w) ≡ Some r → network_by_uses w ≡ Err r
+pub refused_for_name : (w : RawDescription) (r : Refusal) → first_of (name_conditions w) ≡ Some r → network_by_uses w ≡ Err r
 refused_for_name w r name = told w r (names_first w ∙ rw name refl)
-
-pub fault_for_name : (w : RawDescription) (fault : DescFault) → ((r : Refusal) → fault ≡ Refused r → first_of (name_conditions w) ≡ Some r) → Reads {A = Network} (Err fault) (network_by_uses w)
-fault_for_name w (Refused r) name = refused_for_name w r (name r refl)
-fault_for_name w Memory name = tt
 
 pub refused_before : (w : RawDescription) (hosts : List Host) (ks : List Known) (es : List Flow) (r : Refusal) → AreKnown w hosts ks es → before_last w hosts ks es ≡ Some r → network_by_uses w ≡ Err r
 refused_before w hosts ks es r all is = told w r (uses_are w hosts ks es all ∙ rw is refl)

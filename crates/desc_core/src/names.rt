@@ -3,7 +3,6 @@
 ghost use Rattle.std.specs.Prelude.{◌≡◌, ◌≢◌, Some, find, is_none, map, option_map, IfOk, IsTrue, None};
 ghost use Rattle.std.specs.List.{list_all};
 ghost use Rattle.std.specs.Str.{bytes_eq};
-ghost use Rattle.desc_core.specs.declared.fault.DescFault.TheVariants.{Refused};
 ghost use Rattle.desc_core.specs.UseConditions.{duplicate_assign, name_conditions, undeclared_host, unknown_template};
 ghost use Rattle.text_core.specs.FirstMatch.{first_of, first_conflict, numbered};
 ghost use Rattle.text_core.specs.inner.FirstsView.{pair_seen};
@@ -11,7 +10,6 @@ ghost use Rattle.desc_form.specs.Refusals.{refused_by};
 ghost use Rattle.desc_form.specs.inner.Refused.{refused_name};
 ghost use Rattle.desc_form.specs.inner.RawView.{assign_view, invariant_view, template_view, raw_view};
 ghost use Rattle.desc_form.specs.declared.refusal.Place.TheVariants.{Assign};
-ghost use Rattle.desc_form.specs.declared.refusal.Refusal.{Refusal};
 ghost use Rattle.desc_form.specs.declared.refusal.Why.TheVariants.{DuplicateAssign, UndeclaredHost};
 ghost use Rattle.desc_form.specs.HostConditions.{host_conditions};
 ghost use Rattle.desc_form.specs.inner.NameUseView.{mention_view};
@@ -20,7 +18,6 @@ ghost use Rattle.host_net.specs.Host.{host_named};
 ghost use Rattle.text_core.specs.Name.{is_name};
 
 use crate::choice::chosen;
-use crate::fault::DescFault;
 use desc_form::{
     NameUse, Place, RawAssign, RawDescription, RawInvariant, RawTemplate, Refusal, Why, used_names,
 };
@@ -28,34 +25,21 @@ use host_net::{Hosts, Name};
 use std::alloc::{AllocError, Global};
 use text_core::{Conflict, first_conflict};
 
-/// Returns the refusal of an unknown template or an undeclared host, if there is one.
-pub(crate) fn unknown_name(alloc: Global, hosts: &Hosts, written: &RawDescription<'_>) -> DescFault
-    requires hosts { hosts.now ≡ network_hosts (raw_view written.now) }
-    requires no_refusal { first_of (host_conditions (raw_view written.now)) ≡ None }
-    requires unknown { first_of (name_conditions (raw_view written.now)) ≢ None }
-    ensures { (refusal : Refusal) → result ≡ Refused refusal → first_of (name_conditions (raw_view written.now)) ≡ Some refusal }
-{
-    match name_refusal(alloc, hosts, written) {
-        Ok(Some(refusal)) => DescFault::Refused(refusal),
-        Ok(None) => unreachable!(),
-        Err(AllocError) => DescFault::Memory,
-    }
-}
-
-fn name_refusal(
+/// Returns the refusal of the unknown template or the undeclared host that the description names.
+pub(crate) fn unknown_name(
     alloc: Global,
     hosts: &Hosts,
     written: &RawDescription<'_>,
-) -> Result<Option<Refusal>, AllocError>
+) -> Result<Refusal, AllocError>
     requires hosts { hosts.now ≡ network_hosts (raw_view written.now) }
     requires no_refusal { first_of (host_conditions (raw_view written.now)) ≡ None }
-    ensures { IfOk result (λ refusal. refusal ≡ first_of (name_conditions (raw_view written.now))) }
+    requires unknown { first_of (name_conditions (raw_view written.now)) ≢ None }
+    ensures { IfOk result (λ refusal. first_of (name_conditions (raw_view written.now)) ≡ Some refusal) }
 {
-    let template = unknown_template(&written.templates, &written.invariants);
-    if template.is_some() {
-        return Ok(template);
+    match unknown_template(&written.templates, &written.invariants) {
+        Some(refusal) => Ok(refusal),
+        None => undeclared_host(alloc, hosts, written),
     }
-    undeclared_host(alloc, hosts, written)
 }
 
 /// Returns the refusal of a name that is neither that of a template nor that of a declared one.
@@ -74,31 +58,33 @@ fn unknown_template(
     None
 }
 
-/// Returns the refusal of a name, in an assign or in a flow, that is not the name of a host.
+/// Returns the refusal of the first name, in an assign or in a flow, that is not the name of a host.
 fn undeclared_host(
     alloc: Global,
     hosts: &Hosts,
     written: &RawDescription<'_>,
-) -> Result<Option<Refusal>, AllocError>
+) -> Result<Refusal, AllocError>
     requires hosts { hosts.now ≡ network_hosts (raw_view written.now) }
     requires no_refusal { first_of (host_conditions (raw_view written.now)) ≡ None }
-    ensures { IfOk result (λ refusal. refusal ≡ undeclared_host (raw_view written.now)) }
+    requires some { undeclared_host (raw_view written.now) ≢ None }
+    ensures { IfOk result (λ refusal. undeclared_host (raw_view written.now) ≡ Some refusal) }
 {
     let names = used_names(alloc, written)?;
     Ok(first_undeclared(hosts, &names))
 }
 
-fn first_undeclared(hosts: &Hosts, names: &[NameUse<'_>]) -> Option<Refusal>
-    requires { IsTrue (list_all (λ m. is_name m.name) (map mention_view names.now)) }
-    ensures { result ≡ option_map (λ m. refused_name UndeclaredHost m.place m.item m.name)
-        (find (λ m. is_none (host_named hosts.now m.name)) (map mention_view names.now)) }
+/// Returns the refusal of the first of the names that no host has.
+fn first_undeclared(hosts: &Hosts, names: &[NameUse<'_>]) -> Refusal
+    requires legal { IsTrue (list_all (λ m. is_name m.name) (map mention_view names.now)) }
+    requires some { find (λ m. is_none (host_named hosts.now m.name)) (map mention_view names.now) ≢ None }
+    ensures { option_map (λ m. refused_name UndeclaredHost m.place m.item m.name)
+        (find (λ m. is_none (host_named hosts.now m.name)) (map mention_view names.now)) ≡ Some result }
 {
-    for mention in names {
-        if hosts.find(mention.name.as_bytes()).is_none() {
-            return Some(no_host(mention));
-        }
+    let mut index = 0;
+    while hosts.find(names[index].name.as_bytes()).is_some() {
+        index += 1;
     }
-    None
+    no_host(&names[index])
 }
 
 /// Returns the refusal of a name that no host has.

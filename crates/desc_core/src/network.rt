@@ -51,10 +51,10 @@ fn network_of_hosts(
 {
     let known = known_invariants(alloc, &written.templates, &hosts, &written.invariants)?;
     let Some(invariants) = known else {
-        return Err(unknown_name(alloc, &hosts, written));
+        return Err(DescFault::Refused(unknown_name(alloc, &hosts, written)?));
     };
     let Some(flows) = found_flows(alloc, &hosts, &written.flows)? else {
-        return Err(unknown_name(alloc, &hosts, written));
+        return Err(DescFault::Refused(unknown_name(alloc, &hosts, written)?));
     };
     network_of_known(alloc, hosts, written, &invariants, &flows)
 }
