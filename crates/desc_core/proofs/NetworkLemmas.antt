@@ -102,7 +102,7 @@ refused_for_name w r name = told w r (names_first w ∙ rw name refl)
 pub refused_before : (w : RawDescription) (hosts : List Host) (ks : List Known) (es : List Flow) (r : Refusal) → AreKnown w hosts ks es → before_last w hosts ks es ≡ Some r → network_by_uses w ≡ Err r
 refused_before w hosts ks es r all is = told w r (uses_are w hosts ks es all ∙ rw is refl)
 
-refused_twice : (w : RawDescription) (hosts : List Host) (ks : List Known) (es : List Flow) (r : Refusal) → AreKnown w hosts ks es → before_last w hosts ks es ≡ None → twice_found es ≡ Some r
+pub refused_twice : (w : RawDescription) (hosts : List Host) (ks : List Known) (es : List Flow) (r : Refusal) → AreKnown w hosts ks es → before_last w hosts ks es ≡ None → twice_found es ≡ Some r
     → network_by_uses w ≡ Err r
 refused_twice w hosts ks es r all before is = told w r (uses_are w hosts ks es all ∙ rw (before, is) refl)
 
@@ -114,6 +114,12 @@ pub refused_templates : (w : RawDescription) (hosts : List Host) (ks : List Know
     → twice_found es ≡ None → first_of (service_conditions w.flows) ≡ None → first_of (template_conditions w.templates) ≡ Some r → network_by_uses w ≡ Err r
 refused_templates w hosts ks es r all before once last is = told w r (uses_are w hosts ks es all ∙ rw (before, once, last, is) refl)
 
+-- The fault of a part.
+pub fails : {A : Type 0} (w : RawDescription) (refusal : Option Refusal) (x : A) (fault : DescFault) → ((r : Refusal) → refusal ≡ Some r → network_by_uses w ≡ Err r)
+    → Reads {A = A} (Err fault) (ok_unless_refused refusal x) → Reads {A = Network} (Err fault) (network_by_uses w)
+fails w refusal x (Refused r) refused said = refused r (told_by refusal x r said)
+fails w refusal x Memory refused said = tt
+
 -- If conditions 17, 18 and 19 do not apply, no flow is from a host to itself.
 pub none_to_itself : (w : RawDescription) (hosts : List Host) (ks : List Known) (es : List Flow) → before_last w hosts ks es ≡ None → self_found es ≡ None
 none_to_itself w hosts ks es none = (neither (bad_known hosts ks) _ (neither (duplicate_assign w.invariants) _ none).1).1
@@ -121,15 +127,6 @@ none_to_itself w hosts ks es none = (neither (bad_known hosts ks) _ (neither (du
 -- The requested flows, as they are built.
 abbrev pub made_set : RawDescription → ℕ → List Flow → SetOfFlows
 made_set w n es = record { size = n; flows = if w.given then set_of es else every_flow n }
-
-asked_refused : (w : RawDescription) (hosts : List Host) (ks : List Known) (es : List Flow) (n : ℕ) (r : Refusal) → AreKnown w hosts ks es → before_last w hosts ks es ≡ None
-    → ok_unless_refused (twice_found es) (made_set w n es) ≡ Err r → network_by_uses w ≡ Err r
-asked_refused w hosts ks es n r all before said = refused_twice w hosts ks es r all before (told_by (twice_found es) (made_set w n es) r said)
-
-pub asked_fails : (w : RawDescription) (hosts : List Host) (ks : List Known) (es : List Flow) (n : ℕ) (fault : DescFault) → AreKnown w hosts ks es → before_last w hosts ks es ≡ None
-    → Reads {A = SetOfFlows} (Err fault) (ok_unless_refused (twice_found es) (made_set w n es)) → Reads {A = Network} (Err fault) (network_by_uses w)
-asked_fails w hosts ks es n (Refused r) all before said = asked_refused w hosts ks es n r all before said
-asked_fails w hosts ks es n Memory all before said = tt
 
 pub asked_made : (w : RawDescription) (hosts : List Host) (ks : List Known) (es : List Flow) (n : ℕ) (asked : SetOfFlows) → AreKnown w hosts ks es → before_last w hosts ks es ≡ None → n ≡ length hosts
     → ok_unless_refused (twice_found es) (made_set w n es) ≡ Ok asked → (twice_found es ≡ None) × (asked ≡ record { size = length w.hosts; flows = asked_of w })

@@ -17,7 +17,7 @@ use crate::flows::{asked_flows, self_flow};
 use crate::invariants::{attribute_refusal, read_invariants};
 use crate::known::{KnownInvariant, found_flows, known_invariants};
 use crate::names::{duplicate_assign, unknown_name};
-use crate::services::{read_services, service_refusal};
+use crate::services::read_services;
 use crate::templates::template_refusal;
 use desc_form::{RawDescription, Refusal, host_refusal, read_hosts};
 use flow_set::Flow;
@@ -79,13 +79,10 @@ fn network_of_known(
         return Err(DescFault::Refused(refusal));
     }
     let asked = asked_flows(alloc, hosts.count(), written.given, flows)?;
-    if let Some(refusal) = service_refusal(&written.flows) {
-        return Err(DescFault::Refused(refusal));
-    }
+    let services = read_services(alloc, flows, &written.flows)?;
     if let Some(refusal) = template_refusal(written) {
         return Err(DescFault::Refused(refusal));
     }
-    let services = read_services(alloc, flows, &written.flows)?;
     let invariants = read_invariants(alloc, &hosts, invariants)?;
     Ok(Description::new(
         hosts,

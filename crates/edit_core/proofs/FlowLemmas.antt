@@ -1,5 +1,5 @@
 -- Raw flows between two hosts: their elements in a table, and the flows and services that remain without them.
-use Rattle.std.proofs.Common.{◌≡◌, ◌≢◌, ◌==◌, inl, inr, ℕ, Bool, true, false, cond, not, ◌&&◌, ◌||◌, List, [], ◌∷◌, ◌++◌, append-nil, map, filter, Option, Some, None, option_map, option_and_then, refl, sym, ap, subst, ◌∙◌, arith}
+use Rattle.std.proofs.Common.{◌≡◌, ◌≢◌, ◌==◌, inl, inr, ℕ, Bool, true, false, cond, not, ◌&&◌, ◌||◌, List, [], ◌∷◌, ◌++◌, map, filter, Option, Some, None, option_map, option_and_then, refl, sym, ap, subst, ◌∙◌, arith}
 use Rattle.std.proofs.lemmas.Bool.{and_from, and_parts, both_ways, cases_Bool, or_cases, or_parts}
 use Rattle.std.proofs.lemmas.Bool.Decides.{nat_tests}
 use Rattle.std.proofs.lemmas.List.Elements.{All-from_recursion, filter_map-append}
@@ -10,7 +10,7 @@ use Rattle.std.specs.Option.{option_map_or}
 use Rattle.std.specs.Prelude.{IsFalse, IsTrue, if◌then◌else◌}
 use Rattle.std.specs.Str.{bytes_eq}
 use Rattle.toml.specs.Data.{Data, string, as_str}
-use Rattle.desc_core.proofs.ServicesLemmas.{AreLeft, is_new, one_added}
+use Rattle.desc_core.proofs.ServicesLemmas.{added, is_new}
 use Rattle.desc_core.specs.Flows.{flow_of_names}
 use Rattle.desc_core.specs.inner.Parts.{with_services}
 use Rattle.desc_core.specs.RawNetwork.{narrowed_of, narrowed_to, declared_services}
@@ -241,19 +241,12 @@ new_where hosts (w ∷ ws) f none =
     new_by (flow_of_names hosts w) (declared_services w) (narrowed_among hosts ws) (flows_among hosts ws) f none
     (new_where hosts ws f (behind_fails (flow_of_names hosts w) (flows_among hosts ws) f none))
 
-services_behind : (ns : List RestrictedFlow) (f : Flow) (w : RawFlow) → is_new ns f ≡ true
-    → with_services ns f (declared_services w) ≡ ns ++ cons_option (narrowed_to f (declared_services w)) []
-services_behind ns f w new =
-    let left : AreLeft ns (f ∷ []) (w ∷ []) (ns ++ cons_option (narrowed_to f (declared_services w)) []) =
-    record { new = and_from (is_new ns f) true new refl; different = refl; so_far = refl } in
-    sym (append-nil (with_services ns f (declared_services w))) ∙ (one_added ns f [] w [] (ns ++ cons_option (narrowed_to f (declared_services w)) []) left).so_far
-
 pub services_more : (hosts : List Host) (ws : List RawFlow) (w : RawFlow) (f : Flow) → flow_of_names hosts w ≡ Some f → IsFalse (has (flows_among hosts ws) f)
     → narrowed_among hosts (ws ++ w ∷ []) ≡ with_services (narrowed_among hosts ws) f (declared_services w)
 services_more hosts ws w f leads none =
     filter_map-append (narrowed_of hosts) ws (w ∷ [])
     ∙ ap (λ (o : Option Flow). narrowed_among hosts ws ++ cons_option (option_and_then (λ flow. narrowed_to flow (declared_services w)) o) []) leads
-    ∙ sym (services_behind (narrowed_among hosts ws) f w (new_where hosts ws f none))
+    ∙ sym (added (narrowed_among hosts ws) f (declared_services w) (new_where hosts ws f none))
 
 -- Strings that are parsed denote services.
 said_by : (text : List ℕ) (o : Option Service) (texts : List (List ℕ)) (rest : Option (List Service)) (ss : List Service)

@@ -9,7 +9,7 @@ use Rattle.desc_core.specs.Description.{ok_unless_refused}
 use Rattle.desc_core.specs.Document.{document}
 use Rattle.net_core.specs.Network.{Network}
 use Rattle.desc_core.specs.RawNetwork.{Known, narrowed_to, network_of, declared_services}
-use Rattle.desc_core.specs.UseConditions.{bad_at, use_conditions}
+use Rattle.desc_core.specs.UseConditions.{bad_at, has_many_services, use_conditions}
 use Rattle.desc_form.specs.Refusals.{barred_at, first_at, refused}
 use Rattle.desc_form.specs.RawFlow.{RawFlow}
 use Rattle.desc_form.specs.declared.refusal.Place.TheVariants.{Document, FlowAt}
@@ -64,6 +64,10 @@ abbrev pub narrowed_among : List Flow → List RawFlow → List RestrictedFlow
 narrowed_among [] ws = []
 narrowed_among (e ∷ es) [] = []
 narrowed_among (e ∷ es) (w ∷ ws) = cons_option (narrowed_to e (declared_services w)) (narrowed_among es ws)
+
+-- A flow without its services, if it has more than the limit.
+abbrev pub within_limit : RawFlow → RawFlow
+within_limit f = record f { services = if has_many_services f then [] else f.services }
 
 -- The services of a flow, added one by one.
 abbrev pub with_services : List RestrictedFlow → Flow → List Service → List RestrictedFlow

@@ -2,14 +2,16 @@ use Rattle.std.proofs.Common.{ℕ, map, subst, sym, ◌∙◌}
 use Rattle.std.proofs.lemmas.Result.{err_from_is_err_and}
 use Rattle.std.specs.Prelude.{All}
 use Rattle.desc_core.proofs.KnownLaws.{are_flows}
+use Rattle.desc_core.proofs.DescriptionLaws.{passed}
 use Rattle.desc_core.proofs.MakeableLaws.{known_makeable}
-use Rattle.desc_core.proofs.NetworkLemmas.{asked_fails, asked_made, network_read, none_to_itself, refused_before, refused_services, refused_templates}
-use Rattle.desc_core.proofs.ServicesLemmas.{all_different, all_few, as_many_written}
+use Rattle.desc_core.proofs.NetworkLemmas.{asked_made, fails, made_set, network_read, none_to_itself, refused_before, refused_services, refused_templates, refused_twice}
+use Rattle.desc_core.proofs.ServicesLemmas.{all_different, as_many_written}
 use Rattle.desc_core.specs.UseConditions.{service_conditions}
 use Rattle.desc_core.specs.inner.KnownView.{known_view}
+use Rattle.desc_core.specs.inner.Parts.{narrowed_among, twice_found}
 use Rattle.desc_form.specs.inner.RawView.{raw_view}
 use Rattle.flow_set.specs.Flow.{IsFlow}
-use Rattle.desc_form.proofs.RowLaws.{in_turn}
+use Rattle.text_core.specs.FirstMatch.{first_of}
 use Rattle.desc_core.proofs.network.network_of_known.Goals as goal
 
 pub returns-in-Some : goal.returns-in-Some
@@ -25,19 +27,22 @@ asked_flows-requires-clause-flows c =
 
 pub returns-in_err-asked : goal.returns-in_err-asked
 returns-in_err-asked c =
+    let w = raw_view c.args.written.now in
     let p = err_from_is_err_and c.from_residual-in_err-asked.result c.from_residual-in_err-asked.ensures.1 in
-    rw (p.1, p.2) (asked_fails (raw_view c.args.written.now) c.args.hosts (map known_view c.args.invariants.now) c.args.flows.now c.count.result c.in_err-asked.field-0.0
-    (record { same = c.requires.hosts; known = c.requires.known; found = c.requires.found }) (sym c.in_ok-refusal.ensures ∙ c.in_default.is) c.in_err-asked.ensures)
+    rw (p.1, p.2) (fails w (twice_found c.args.flows.now) (made_set w c.count.result c.args.flows.now) c.in_err-asked.field-0.0
+    (λ r. refused_twice w c.args.hosts (map known_view c.args.invariants.now) c.args.flows.now r (record { same = c.requires.hosts; known = c.requires.known; found = c.requires.found })
+    (sym c.in_ok-refusal.ensures ∙ c.in_default.is)) c.in_err-asked.ensures)
 
-pub returns-in-Some-service_refusal : goal.returns-in-Some-service_refusal
-returns-in-Some-service_refusal c =
+pub returns-in_err-services : goal.returns-in_err-services
+returns-in_err-services c =
     let w = raw_view c.args.written.now in
     let ks = map known_view c.args.invariants.now in
     let before = sym c.in_ok-refusal.ensures ∙ c.in_default.is in
     let made = asked_made w c.args.hosts ks c.args.flows.now c.count.result c.in_ok-asked.asked
     (record { same = c.requires.hosts; known = c.requires.known; found = c.requires.found }) before c.count.ensures.value c.in_ok-asked.ensures in
-    refused_services w c.args.hosts ks c.args.flows.now c.in-Some-service_refusal.refusal (record { same = c.requires.hosts; known = c.requires.known; found = c.requires.found }) before made.0
-    (sym (rw c.deref.ensures.value at c.service_refusal.ensures) ∙ c.in-Some-service_refusal.is)
+    let p = err_from_is_err_and c.from_residual-in_err-services.result c.from_residual-in_err-services.ensures.1 in
+    rw (p.1, p.2) (fails w (first_of (service_conditions w.flows)) (narrowed_among c.args.flows.now w.flows) c.in_err-services.field-0.0
+    (λ r. refused_services w c.args.hosts ks c.args.flows.now r (record { same = c.requires.hosts; known = c.requires.known; found = c.requires.found }) before made.0) (rw c.deref.ensures.value at c.in_err-services.ensures))
 
 pub returns-in-Some-template_refusal : goal.returns-in-Some-template_refusal
 returns-in-Some-template_refusal c =
@@ -46,8 +51,9 @@ returns-in-Some-template_refusal c =
     let before = sym c.in_ok-refusal.ensures ∙ c.in_default.is in
     let made = asked_made w c.args.hosts ks c.args.flows.now c.count.result c.in_ok-asked.asked
     (record { same = c.requires.hosts; known = c.requires.known; found = c.requires.found }) before c.count.ensures.value c.in_ok-asked.ensures in
+    let read = passed (first_of (service_conditions w.flows)) (narrowed_among c.args.flows.now w.flows) c.in_ok-services.services (rw c.deref.ensures.value at c.in_ok-services.ensures) in
     refused_templates w c.args.hosts ks c.args.flows.now c.in-Some-template_refusal.refusal (record { same = c.requires.hosts; known = c.requires.known; found = c.requires.found }) before made.0
-    (sym (rw c.deref.ensures.value at c.service_refusal.ensures) ∙ c.in_default-service_refusal.is)
+    read.0
     (sym c.template_refusal.ensures ∙ c.in-Some-template_refusal.is)
 
 pub read_invariants-requires-clause-made : goal.read_invariants-requires-clause-made
@@ -55,7 +61,7 @@ read_invariants-requires-clause-made c =
     known_makeable (raw_view c.args.written.now) c.args.hosts c.args.invariants.now (sym c.template_refusal.ensures ∙ c.in_default-template_refusal.is) c.requires.known
 
 pub read_services-requires-clause-beside : goal.read_services-requires-clause-beside
-read_services-requires-clause-beside c = rw c.deref-2.ensures.value (as_many_written c.args.hosts c.args.written.now.flows.items c.args.flows.now c.requires.found)
+read_services-requires-clause-beside c = rw c.deref.ensures.value (as_many_written c.args.hosts c.args.written.now.flows.items c.args.flows.now c.requires.found)
 
 pub read_services-requires-clause-different : goal.read_services-requires-clause-different
 read_services-requires-clause-different c =
@@ -66,12 +72,6 @@ read_services-requires-clause-different c =
     (record { same = c.requires.hosts; known = c.requires.known; found = c.requires.found }) before c.count.ensures.value c.in_ok-asked.ensures in
     all_different c.args.flows.now made.0
 
-pub read_services-requires-clause-few : goal.read_services-requires-clause-few
-read_services-requires-clause-few c =
-    let w = raw_view c.args.written.now in
-    let (_, (few, _)) = (in_turn (service_conditions w.flows)).0 (sym (rw c.deref.ensures.value at c.service_refusal.ensures) ∙ c.in_default-service_refusal.is) in
-    rw c.deref-2.ensures.value (all_few w.flows few)
-
 pub new-requires : goal.new-requires
 new-requires c =
     let w = raw_view c.args.written.now in
@@ -79,9 +79,10 @@ new-requires c =
     let before = sym c.in_ok-refusal.ensures ∙ c.in_default.is in
     let made = asked_made w c.args.hosts ks c.args.flows.now c.count.result c.in_ok-asked.asked
     (record { same = c.requires.hosts; known = c.requires.known; found = c.requires.found }) before c.count.ensures.value c.in_ok-asked.ensures in
+    let read = passed (first_of (service_conditions w.flows)) (narrowed_among c.args.flows.now w.flows) c.in_ok-services.services (rw c.deref.ensures.value at c.in_ok-services.ensures) in
     (network_read w c.args.hosts ks c.args.flows.now c.in_ok-asked.asked c.in_ok-services.services c.in_ok-invariants.invariants.items
     (record { same = c.requires.hosts; known = c.requires.known; found = c.requires.found }) c.requires.no_refusal before made.0
-    (sym (rw c.deref.ensures.value at c.service_refusal.ensures) ∙ c.in_default-service_refusal.is) (sym c.template_refusal.ensures ∙ c.in_default-template_refusal.is) made.1 (rw c.deref-2.ensures.value at c.in_ok-services.ensures) c.in_ok-invariants.ensures).0
+    read.0 (sym c.template_refusal.ensures ∙ c.in_default-template_refusal.is) made.1 (sym read.1) c.in_ok-invariants.ensures).0
 
 pub returns : goal.returns
 returns c =
@@ -90,7 +91,8 @@ returns c =
     let before = sym c.in_ok-refusal.ensures ∙ c.in_default.is in
     let made = asked_made w c.args.hosts ks c.args.flows.now c.count.result c.in_ok-asked.asked
     (record { same = c.requires.hosts; known = c.requires.known; found = c.requires.found }) before c.count.ensures.value c.in_ok-asked.ensures in
+    let read = passed (first_of (service_conditions w.flows)) (narrowed_among c.args.flows.now w.flows) c.in_ok-services.services (rw c.deref.ensures.value at c.in_ok-services.ensures) in
     rw c.new.ensures
     (network_read w c.args.hosts ks c.args.flows.now c.in_ok-asked.asked c.in_ok-services.services c.in_ok-invariants.invariants.items
     (record { same = c.requires.hosts; known = c.requires.known; found = c.requires.found }) c.requires.no_refusal before made.0
-    (sym (rw c.deref.ensures.value at c.service_refusal.ensures) ∙ c.in_default-service_refusal.is) (sym c.template_refusal.ensures ∙ c.in_default-template_refusal.is) made.1 (rw c.deref-2.ensures.value at c.in_ok-services.ensures) c.in_ok-invariants.ensures).1
+    read.0 (sym c.template_refusal.ensures ∙ c.in_default-template_refusal.is) made.1 (sym read.1) c.in_ok-invariants.ensures).1

@@ -1,31 +1,38 @@
-use Rattle.std.proofs.Common.{get_or, map, refl, arith}
-use Rattle.desc_core.proofs.ServicesLemmas.{at_first, few_behind, left_behind, none_here}
-use Rattle.desc_core.specs.inner.Parts.{narrowed_among}
+use Rattle.std.proofs.Common.{map, sym, ◌∙◌}
+use Rattle.std.proofs.lemmas.Result.{err_from_is_err_and}
+use Rattle.desc_core.proofs.ServicesLemmas.{all_at_last, at_first, bad_here, left_here, many_at_last, none_here, none_left, one_added}
 use Rattle.desc_form.specs.inner.RawView.{flow_view}
-use Rattle.flow_set.specs.declared.flow.Flow.{Flow}
 use Rattle.desc_core.proofs.services.read_services.Goals as goal
 
-abbrev nowhere : Flow
-nowhere = record { from = 0; to = 0 }
-
 pub loop-index-init : goal.loop-index-init
-loop-index-init c = record {
-  left = rw c.new-services.ensures (at_first c.args.flows.now (map flow_view c.args.written.now) c.requires.different);
-  few = c.requires.few;
-}
+loop-index-init c = rw c.new-services.ensures (at_first c.args.flows.now (map flow_view c.args.written.now) c.requires.different)
 
-pub add_services-requires-clause-none : goal.add_services-requires-clause-none
-add_services-requires-clause-none c =
-    none_here c.loop-index.services (narrowed_among c.args.flows.now (map flow_view c.args.written.now)) c.args.flows.now c.args.written.now c.loop-index.index
-    (get_or c.args.flows.now c.loop-index.index nowhere) nowhere c.index-written-index.result c.index-written-index.result
-    (omega (arith, c.loop-index-test.true, c.requires.beside)) c.loop-index-test.true refl c.index-written-index.is c.loop-index.invariant.left
+pub add_services-requires : goal.add_services-requires
+add_services-requires c =
+    none_here
+    (left_here c.loop-index.services c.loop-index.index c.args.flows.now c.args.written.now c.index-written-index.result c.requires.beside c.loop-index-test.true c.index-written-index.is c.loop-index.invariant)
 
 pub loop-index-preserved : goal.loop-index-preserved
-loop-index-preserved c = record {
-  left =
-      left_behind c.loop-index.services c.add_services.new.services (narrowed_among c.args.flows.now (map flow_view c.args.written.now)) c.args.flows.now c.args.written.now c.loop-index.index
-      (get_or c.args.flows.now c.loop-index.index nowhere) nowhere c.index-written-index.result c.index-written-index.result
-      (omega (arith, c.loop-index-test.true, c.requires.beside)) c.loop-index-test.true refl c.index-written-index.is
-      (rw c.deref.ensures.value at c.in_ok-add_services.ensures) c.loop-index.invariant.left;
-  few = few_behind c.args.written.now c.loop-index.index c.index-written-index.result c.index-written-index.result c.loop-index-test.true c.index-written-index.is c.loop-index.invariant.few;
-}
+loop-index-preserved c =
+    one_added c.add_services.new.services
+    (left_here c.loop-index.services c.loop-index.index c.args.flows.now c.args.written.now c.index-written-index.result c.requires.beside c.loop-index-test.true c.index-written-index.is c.loop-index.invariant)
+    c.in_ok-add_services.ensures.added c.in_ok-add_services.ensures.bad
+
+pub returns-in_err-add_services : goal.returns-in_err-add_services
+returns-in_err-add_services c =
+    let p = err_from_is_err_and c.from_residual.result c.from_residual.ensures.1 in
+    rw (p.1, p.2) (bad_here c.in_err-add_services.field-0.0
+    (left_here c.loop-index.services c.loop-index.index c.args.flows.now c.args.written.now c.index-written-index.result c.requires.beside c.loop-index-test.true c.index-written-index.is c.loop-index.invariant)
+    c.in_err-add_services.ensures.bad)
+
+pub returns-in-Some : goal.returns-in-Some
+returns-in-Some c =
+    many_at_last c.in-Some.refusal
+    (none_left c.loop-index.services c.loop-index.index c.args.flows.now c.args.written.now c.requires.beside c.loop-index-test.false c.loop-index.invariant)
+    (sym c.many_services.ensures ∙ c.in-Some.is)
+
+pub returns-in-None : goal.returns-in-None
+returns-in-None c =
+    all_at_last
+    (none_left c.loop-index.services c.loop-index.index c.args.flows.now c.args.written.now c.requires.beside c.loop-index-test.false c.loop-index.invariant)
+    (sym c.many_services.ensures ∙ c.in-None.is)
