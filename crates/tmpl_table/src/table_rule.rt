@@ -70,6 +70,28 @@ impl TableRule {
         if let Some(place) = first_place(strategy, denied, default) {
             return Err(TableFault::NotLawful { pair: place as u64 });
         }
+        let rule = TableRule::of_lawful(alloc, n, name, strategy, kinds, default, denied)?;
+        Ok(rule)
+    }
+
+    /// Returns the rule for `n` hosts that have the default kind, of a table whose default is known
+    /// to be secure. Fails only if memory allocation fails.
+    pub fn of_lawful(
+        alloc: Global,
+        n: u16,
+        name: Name,
+        strategy: Strategy,
+        kinds: u8,
+        default: u8,
+        denied: &[(u8, u8)],
+    ) -> Result<TableRule, AllocError>
+        requires default { default < kinds }
+        requires lawful { IsTrue (is_lawful (record { name = name; strategy = strategy; kinds = kinds; default = default; denied = denied.now })) }
+        ensures { IfOk result (λ rule. rule ≡ record {
+          table = record { name = name; strategy = strategy; kinds = kinds; default = default; denied = denied.now };
+          hosts = replicate n default;
+        }) }
+    {
         let hosts = same_kind(alloc, n, default)?;
         Ok(TableRule {
             name,
