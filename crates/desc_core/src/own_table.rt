@@ -9,7 +9,7 @@ use desc_form::{RawPair, RawTemplate};
 use host_net::Name;
 use inv_law::Strategy;
 use std::alloc::{AllocError, Global};
-use tmpl_table::{TableFault, TableRule};
+use tmpl_table::TableRule;
 
 /// Returns the rule of the template for `n` hosts that have its default kind.
 pub(crate) fn rule_of(
@@ -28,11 +28,7 @@ pub(crate) fn rule_of(
     let strategy = declared_strategy(template.strategy);
     let kinds = template.kinds.len() as u8;
     let default = number_of_kind(template, template.default);
-    match TableRule::new(alloc, n, name, strategy, kinds, default, &denied) {
-        Ok(rule) => Ok(rule),
-        Err(TableFault::NotLawful { .. }) => unreachable!(),
-        Err(TableFault::Memory) => Err(AllocError),
-    }
+    TableRule::of_lawful(alloc, n, name, strategy, kinds, default, &denied)
 }
 
 fn declared_strategy(word: &str) -> Strategy
