@@ -7,7 +7,7 @@ use Rattle.desc_core.proofs.ServicesLemmas.{services_are}
 use Rattle.desc_core.specs.Description.{ok_unless_refused}
 use Rattle.desc_core.proofs.DescriptionLaws.{first_of-append, passed, told_by}
 use Rattle.desc_core.proofs.NetworkLaws.{IsNetwork-network_of}
-use Rattle.desc_core.specs.inner.Parts.{bad_known, ends_of, narrowed_among, network_by_uses, network_or, self_found, twice_found}
+use Rattle.desc_core.specs.inner.Parts.{bad_known, before_last, ends_of, narrowed_among, network_by_uses, network_or, self_found, twice_found}
 use Rattle.desc_core.specs.TemplateConditions.{template_conditions}
 use Rattle.desc_core.specs.inner.Reads.{Reads}
 use Rattle.desc_core.specs.declared.fault.DescFault.{DescFault}
@@ -42,10 +42,6 @@ known_here w hosts ks es all = ap (λ hs. each (known_of w.templates hs) w.invar
 
 found_here : (w : RawDescription) (hosts : List Host) (ks : List Known) (es : List Flow) → AreKnown w hosts ks es → each (ends_of (network_hosts w)) w.flows ≡ Some es
 found_here w hosts ks es all = ap (λ hs. each (ends_of hs) w.flows) (sym all.same) ∙ all.found
-
--- Conditions 17, 18 and 19.
-abbrev before_last : RawDescription → List Host → List Known → List Flow → Option Refusal
-before_last w hosts ks es = option_or (duplicate_assign w.invariants) (option_or (bad_known hosts ks) (self_found es))
 
 -- The conditions in groups: those on services and templates, those on flows before them, and those on assigns before these.
 abbrev from_services : RawDescription → List (Option Refusal)
@@ -99,8 +95,13 @@ told w r is = rw is refl
 pub refused_for_name : (w : RawDescription) (r : Refusal) → first_of (name_conditions w) ≡ Some r → network_by_uses w ≡ Err r
 refused_for_name w r name = told w r (names_first w ∙ rw name refl)
 
-pub refused_before : (w : RawDescription) (hosts : List Host) (ks : List Known) (es : List Flow) (r : Refusal) → AreKnown w hosts ks es → before_last w hosts ks es ≡ Some r → network_by_uses w ≡ Err r
+refused_before : (w : RawDescription) (hosts : List Host) (ks : List Known) (es : List Flow) (r : Refusal) → AreKnown w hosts ks es → before_last w hosts ks es ≡ Some r → network_by_uses w ≡ Err r
 refused_before w hosts ks es r all is = told w r (uses_are w hosts ks es all ∙ rw is refl)
+
+pub fault_before : (w : RawDescription) (hosts : List Host) (ks : List Known) (es : List Flow) (fault : DescFault) → AreKnown w hosts ks es
+    → ((r : Refusal) → fault ≡ Refused r → before_last w hosts ks es ≡ Some r) → Reads {A = Network} (Err fault) (network_by_uses w)
+fault_before w hosts ks es (Refused r) all said = refused_before w hosts ks es r all (said r refl)
+fault_before w hosts ks es Memory all said = tt
 
 pub refused_twice : (w : RawDescription) (hosts : List Host) (ks : List Known) (es : List Flow) (r : Refusal) → AreKnown w hosts ks es → before_last w hosts ks es ≡ None → twice_found es ≡ Some r
     → network_by_uses w ≡ Err r

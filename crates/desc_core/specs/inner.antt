@@ -1,5 +1,6 @@
 pub mod AllConditions
 pub mod ChoiceView
+pub mod Judgement
 pub mod KnownView
 pub mod Makeable
 pub mod Migrated

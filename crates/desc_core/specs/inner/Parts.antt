@@ -2,14 +2,14 @@
 -- found. The contracts of these functions cite them; lemmas relate them to `described`, so nothing here is trusted.
 use Rattle.std.specs.Prelude.{ℕ, ◌==◌, List, [], ◌∷◌, ◌++◌, length, nat_lt, Option, Some, Err, Result, if◌then◌else◌}
 use Rattle.std.specs.List.{cons_option}
-use Rattle.std.specs.Option.{ok_or}
+use Rattle.std.specs.Option.{ok_or, option_or}
 use Rattle.toml.specs.Data.{Members}
 use Rattle.desc_core.specs.Conditions.{byte_limit}
 use Rattle.desc_core.specs.Description.{ok_unless_refused}
 use Rattle.desc_core.specs.Document.{document}
 use Rattle.net_core.specs.Network.{Network}
 use Rattle.desc_core.specs.RawNetwork.{Known, narrowed_to, network_of, declared_services}
-use Rattle.desc_core.specs.UseConditions.{bad_at, has_many_services, use_conditions}
+use Rattle.desc_core.specs.UseConditions.{bad_at, duplicate_assign, has_many_services, use_conditions}
 use Rattle.desc_form.specs.Refusals.{barred_at, first_at, refused}
 use Rattle.desc_form.specs.RawFlow.{RawFlow}
 use Rattle.desc_form.specs.declared.refusal.Place.TheVariants.{Document, FlowAt}
@@ -54,6 +54,10 @@ bad_known hosts ks = first_found (λ k. bad_at hosts k.number k.what) (numbered 
 -- Condition 19, for flows with resolved hosts.
 abbrev pub self_found : List Flow → Option Refusal
 self_found fs = first_at SelfFlow FlowAt (λ f. f.from == f.to) fs
+
+-- Conditions 17, 18 and 19, for invariants and flows with resolved names.
+abbrev pub before_last : RawDescription → List Host → List Known → List Flow → Option Refusal
+before_last w hosts ks es = option_or (duplicate_assign w.invariants) (option_or (bad_known hosts ks) (self_found es))
 
 -- Condition 20, for flows with resolved hosts.
 abbrev pub twice_found : List Flow → Option Refusal
