@@ -14,7 +14,7 @@ mod run;
 pub use check::check_report;
 pub use line::push_numbered;
 pub use names::push_flow;
-pub use policy::policy_report;
+pub use policy::{policy_report, report_of_policy};
 pub use refusal::refusal_line;
 pub use report::Report;
 pub use run::{trace_rules, trace_table};

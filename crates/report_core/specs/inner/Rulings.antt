@@ -6,7 +6,12 @@ use Rattle.net_core.specs.Policies.{Policy, holds_on}
 use Rattle.flow_set.specs.FlowSet.{has, with_flow}
 use Rattle.flow_set.specs.declared.flow.Flow.{Flow}
 use Rattle.permit_core.specs.Policy.{IsFirstFailing}
+use Rattle.report_core.specs.declared.policy.Rulings.{Rulings}
 use Rattle.report_core.specs.PolicyReport.{IsFlowStatus, FlowStatus, Answered, Allowed, NotAsked, Denied, policy_text}
+
+-- The policy that the code borrows.
+abbrev pub policy_in : Rulings → Policy
+policy_in r = record { permitted = r.permitted.now; stateful = r.stateful.now }
 
 -- The facts about the policy and the requested flows that determine the status.
 abbrev pub IsFound : Network → Policy → Flow → FlowStatus → Type 0
