@@ -1,12 +1,18 @@
 -- The result of edits is unique, and their two outcomes are mutually exclusive.
 use Rattle.std.proofs.Common.{◌≡◌, ℕ, ◌+◌, List, [], ◌∷◌, ◌++◌, Ok, Err, inl, false, refl, sym, subst, ◌∙◌, ap, append_assoc, append-nil}
 use Rattle.desc_core.proofs.NetworkLaws.{IsNetwork-table}
+use Rattle.desc_core.specs.Description.{described_by_table}
 use Rattle.edit_core.specs.Runs.{after_edits}
+use Rattle.edit_core.specs.inner.Kept.{IsKept}
+use Rattle.edit_core.specs.inner.Summaries.{HasPolicy}
 use Rattle.edit_core.proofs.SummaryLaws.{summaries_are_one}
 use Rattle.edit_core.specs.declared.fault.EditWhy.{EditWhy}
 use Rattle.edit_core.specs.declared.summary.Summary.{Summary}
 use Rattle.edit_core.specs.Edit.{Edit}
+use Rattle.flow_set.specs.FlowSet.{SetOfFlows}
 use Rattle.net_core.specs.Network.{Network}
+use Rattle.net_core.specs.Policies.{IsPolicyOf, Policy}
+use Rattle.net_core.proofs.PolicyLaws.{policy_is_one}
 use Rattle.report_core.specs.PolicyReport.{IsPolicyReport}
 use Rattle.report_core.proofs.ReportLaws.{policy_report_is_one}
 use Rattle.report_core.specs.ReportPromises.{ReportsPolicy}
@@ -36,6 +42,25 @@ reports_table table summaries text says = record {
   reports = reports_policy says.network says.report (IsNetwork-table table says.network says.described) says.reports;
   written = says.written;
 }
+
+-- ---- of a session
+
+policy_kept : (table : Members) (d other : Network) (policy : Policy) → described_by_table table ≡ Ok d → IsKept table other policy → IsPolicyOf d policy
+policy_kept table d other policy described kept =
+    let here = kept.described in
+    let same : other ≡ d = cc (here, described) in
+    subst (λ (n : Network). IsPolicyOf n policy) same kept.is_policy
+
+-- The two sets of a session are the policy of the network that its table describes.
+pub is_policy_given : (table : Members) (d : Network) (permitted stateful : SetOfFlows) → described_by_table table ≡ Ok d
+    → HasPolicy table (λ policy. permitted ≡ policy.permitted) → HasPolicy table (λ policy. stateful ≡ policy.stateful)
+    → IsPolicyOf d (record { permitted = permitted; stateful = stateful })
+is_policy_given table d permitted stateful described has other =
+    let policy = has.1 in
+    let is_policy = policy_kept table d has.0 policy described has.2 in
+    let one : other.1 ≡ policy = policy_is_one d other.1 policy (policy_kept table d other.0 other.1 described other.2) is_policy in
+    let same : stateful ≡ policy.stateful = other.3 ∙ ap (λ (p : Policy). p.stateful) one in
+    rw (has.3, same) is_policy
 
 -- ---- of edits
 

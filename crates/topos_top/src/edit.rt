@@ -21,7 +21,7 @@ use crate::status::Status;
 use crate::text::Text;
 use edge_io::Shelf;
 use edit_core::{EditRefusal, Session, Summary};
-use report_core::{policy_report, push_numbered};
+use report_core::{push_numbered, report_of_policy};
 use std::alloc::{AllocError, Global};
 
 /// Returns the reply for the files of those names.
@@ -79,7 +79,8 @@ fn text_of(alloc: Global, session: &Session, summaries: &[Summary]) -> Result<Ve
 {
     let mut text = Vec::new(alloc);
     push_summaries(&mut text, summaries)?;
-    let report = policy_report(alloc, session.description())?;
+    let (permitted, stateful) = (session.permitted(), session.stateful());
+    let report = report_of_policy(alloc, session.description(), permitted, stateful)?;
     text.extend_from_slice(report.bytes())?;
     Ok(text)
 }
