@@ -6,16 +6,10 @@ ghost use Rattle.topos_top.specs.Commands.{NamesNoFile};
 ghost use Rattle.topos_top.specs.Promises.{DeliversReply, HasCause, HasCauses, MeetsHeadline, EndsAsSample, IsComplete};
 ghost use Rattle.topos_top.specs.Shelf.{shelf_change};
 ghost use Rattle.topos_top.specs.SinkChanges.{sink_change};
-ghost use Rattle.topos_top.specs.inner.Command.{command_of};
-ghost use Rattle.topos_top.specs.inner.Replies.{AllowsReplyTo, NamesNothing};
-ghost use Rattle.topos_top.specs.inner.Views.{reply_view};
 
-use crate::answer::Answer;
-use crate::command::{parse_command, usage};
-use crate::commands::reply;
+use crate::commands::answer_to;
 use crate::ending::deliver;
 use crate::status::Status;
-use crate::text::Text;
 use edge_io::{Shelf, Sink};
 use std::alloc::Global;
 
@@ -72,19 +66,4 @@ pub fn run<H: Shelf, O: Sink, E: Sink>(
 {
     let answer = answer_to(alloc, words, shelf);
     deliver(&answer, out, err)
-}
-
-/// Computes the reply to `words`, reading files from `shelf` as needed. Writes nothing.
-fn answer_to<'a, H: Shelf>(alloc: Global, words: &'a [String], shelf: &mut H) -> Answer<'a>
-    ensures reply { AllowsReplyTo (command_of (map string_bytes words.now))
-        (shelf_change H.Shelf shelf.old shelf.new) (reply_view result) }
-    ensures opens_no_file { NamesNothing (command_of (map string_bytes words.now)) → shelf.new ≡ shelf.old }
-{
-    match parse_command(words) {
-        None => Answer::error(Status::Usage, Text::Fixed(usage())),
-        Some(command) => match reply(alloc, command, shelf) {
-            Ok(answer) => answer,
-            Err(answer) => answer,
-        },
-    }
 }
