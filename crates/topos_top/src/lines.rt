@@ -42,9 +42,7 @@ fn write_front(rules: &Rules, i: u32, room: &mut [u8]) -> usize
     ensures line { slice_get (rules_lines rules.now) i ≡ Some (take result room.new) }
     ensures short { result ≤ 320 }
 {
-    let Some(front) = room.first_chunk_mut::<LINE>() else {
-        unreachable!()
-    };
+    let front = room.first_chunk_mut::<LINE>().unwrap();
     rules.write_line(i, front)
 }
 
