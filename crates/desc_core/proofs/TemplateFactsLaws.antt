@@ -11,7 +11,6 @@ use Rattle.desc_core.specs.TemplateConditions as test
 use Rattle.desc_core.specs.TemplateConditions.{are_different, bad_template, first_bad, has_kinds, has_strategy, is_well_formed, is_kind, kind_limit, uses_kinds}
 use Rattle.desc_core.specs.inner.TemplateFacts.{Denies, HasPartner, IsKind, IsTemplate}
 use Rattle.desc_form.specs.Refusals.{refused}
-use Rattle.desc_form.specs.RawDescription.{RawDescription}
 use Rattle.desc_form.specs.RawTemplate.{RawPair, RawTemplate}
 use Rattle.desc_form.specs.declared.refusal.Place.TheVariants.{Template}
 use Rattle.desc_form.specs.declared.refusal.Why.TheVariants.{BadTemplate}
