@@ -1,4 +1,3 @@
-mod DenialLemmas
 mod LineLemmas
 mod OffenceLemmas
 mod Pushing
