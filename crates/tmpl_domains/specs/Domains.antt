@@ -1,6 +1,6 @@
 -- The domain hierarchy template: a host sends to its own position and to all positions below it; its trust lets it act as if it were
--- higher. Based on the template of this name of Network_Security_Policy_Verification in the Archive of Formal Proofs, with the rule of
--- docs/FORMATS.md.
+-- higher. A host without a position receives from all, and sends only to hosts without one. Based on the theory SINVAR_DomainHierarchyNG of
+-- Network_Security_Policy_Verification in the Archive of Formal Proofs, with the rule of docs/FORMATS.md.
 use Rattle.std.specs.Prelude.{ℕ, ◌-◌, ◌≤◌, List, length, take, IfSome, IsTrue, Option, Some, None, codes}
 use Rattle.inv_law.specs.Template.{Template, edge_template}
 use Rattle.inv_law.specs.declared.strategy.Strategy.TheVariants.{Access}
@@ -11,7 +11,7 @@ pub record Place : Type 0 where
   pub path : List (List ℕ)
   pub trust : ℕ
 
--- A position that a host may have.
+-- A position that a host may have. The empty path, which no description can specify, is above all others.
 pub record IsPlace (place : Place) : Type 0 where
   pub path : IsTrue (are_names place.path)
   pub trust : place.trust ≤ 16

@@ -1,5 +1,5 @@
 -- The dependability template: a bound on the number of other hosts that a host depends on. A host depends on the hosts that it reaches,
--- never on itself. Based on the template of this name in the entry Network_Security_Policy_Verification of the Archive of Formal Proofs.
+-- never on itself. Based on the theory SINVAR_Dependability_norefl of Network_Security_Policy_Verification in the Archive of Formal Proofs.
 use Rattle.std.specs.Prelude.{ℕ, ◌<◌, List, length, slice_index, codes}
 use Rattle.flow_set.specs.declared.flow.Flow.{Flow}
 use Rattle.inv_law.specs.Template.{AnyAttribute, Template, walk_template}

@@ -1,4 +1,4 @@
--- The no-reach template: hosts that a host must not reach, on any path. Based on the template of this name in the entry
+-- The no-reach template: hosts that a host must not reach, on any path. Based on the theory SINVAR_ACLnotCommunicateWith in the entry
 -- Network_Security_Policy_Verification of the Archive of Formal Proofs.
 use Rattle.std.specs.Prelude.{◌≢◌, ℕ, not, ◌==◌, List, slice_index_or, IsTrue, codes}
 use Rattle.std.specs.FinSet as set

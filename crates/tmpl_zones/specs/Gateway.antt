@@ -1,4 +1,4 @@
--- The security gateway template: four pairs of kinds fail, and all others pass. Based on the template of this name of
+-- The security gateway template: four pairs of kinds fail, and all others pass. Based on the theory SINVAR_SecGwExt of
 -- Network_Security_Policy_Verification in the Archive of Formal Proofs, with the table of docs/FORMATS.md.
 use Rattle.std.specs.Prelude.{Bool, true, false, codes}
 use Rattle.inv_law.specs.Template.{AnyAttribute, Template, edge_template}

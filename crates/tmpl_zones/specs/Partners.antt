@@ -1,4 +1,4 @@
--- The communication partners template: the hosts from which a host receives packets. Based on the template of this name
+-- The communication partners template: the hosts from which a host receives packets. Based on the theory SINVAR_CommunicationPartners
 -- of Network_Security_Policy_Verification in the Archive of Formal Proofs, with the table of docs/FORMATS.md.
 use Rattle.std.specs.Prelude.{◌≡◌, ℕ, Bool, true, false, IsFalse, List, length, codes, slice_index_or, slice_set}
 use Rattle.inv_law.specs.Attributes.{PassesBetween}
