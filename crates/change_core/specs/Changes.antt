@@ -1,4 +1,4 @@
--- Changes from an old policy to a new one: the packets that the two policies treat differently, by pair of owners.
+-- Changes from an old policy to a new one: the packets that only one of them permits, or permits answers to, by pair of owners.
 use Rattle.std.specs.Prelude.{◌≡◌, ◌<◌, ◌++◌, Bool, IsTrue, IsFalse, List, [], ◌∷◌, length}
 use Rattle.std.specs.List.{Contains}
 use Rattle.host_net.specs.declared.packet.Packet.{Packet}
@@ -41,7 +41,8 @@ ChangesBy old new FlowGoes p = Comes (permits new p) (permits old p)
 ChangesBy old new AnswersCome p = Comes (permits_reply_to old p) (permits_reply_to new p)
 ChangesBy old new AnswersGo p = Comes (permits_reply_to new p) (permits_reply_to old p)
 
--- The policies are equivalent: both permit the same packets, and permit answers to the same packets.
+-- The policies have the same permitted and the same stateful packets. Then they forward alike; policies that differ only in answers that a
+-- reverse flow permits forward alike too.
 abbrev pub TreatAlike : (old new : Policy) → Type 0
 TreatAlike old new = (p : Packet) → IsPacket p → (permits old p ≡ permits new p) × (permits_reply_to old p ≡ permits_reply_to new p)
 

@@ -10,11 +10,11 @@ use Rattle.flow_set.specs.FlowSet.{has}
 use Rattle.header_space.specs.Owners.{IsOfPair}
 use Rattle.change_core.specs.declared.weaker.Weaker.{Weaker}
 
--- Packet p belongs to flow f: host f.from owns its source, and host f.to owns its destination.
+-- Packet p goes from host f.from to host f.to, whatever its service.
 abbrev pub IsOfFlow : List Host → Flow → Packet → Type 0
 IsOfFlow hosts f p = IsOfPair hosts (Some f.from) (Some f.to) p
 
--- Flow f of the new hosts and flow g of the old hosts share a packet: some packet belongs to both.
+-- Flow f of the new hosts and flow g of the old hosts share a packet: some packet goes between the hosts of both.
 abbrev pub SharePacket : (new old : List Host) → (f g : Flow) → Type 0
 SharePacket new old f g = (p : Packet) × IsOfFlow new f p × IsOfFlow old g p
 
@@ -38,7 +38,7 @@ pub record AreWeaker (old : List Host) (denied : List Flow) (new : List Host) (f
 
 -- ---- New gaps: `gaps` has the gaps of the new network, and `old_gaps` has the gaps of the old network.
 
--- Flow f is a gap of the new network, and some packet of f belongs to no gap of the old network.
+-- Flow f is a gap of the new network, and some packet goes between its hosts, and not between the hosts of a gap of the old network.
 pub record IsNewGap (old : List Host) (old_gaps : List Flow) (new : List Host) (gaps : List Flow) (f : Flow) : Type 0 where
   pub is_gap : IsTrue (has gaps f)
   pub packet : Packet

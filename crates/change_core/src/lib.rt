@@ -1,6 +1,6 @@
-//! The changes from an old policy to a new one: the packets that the two policies treat differently, by pair
-//! of owners of their addresses. Also, which flows the invariants of a new network no longer deny, and which of
-//! its gaps an old network does not have. The order and the names of hosts are irrelevant.
+//! The changes from an old policy to a new one: the packets that only one of them permits, or permits answers
+//! to, by pair of owners of their addresses. Also, which flows the invariants of a new network no longer deny,
+//! and which of its gaps an old network does not have. The order and the names of hosts are irrelevant.
 #![tactic(auto)]
 
 mod change;

@@ -1,4 +1,4 @@
--- Dead rules of both dialects, by their places: rules that decide or meet no packet that is forwarded.
+-- Dead rules of both dialects, by their places: rules that no packet that enters FORWARD meets, and entries that decide no IPv4 packet.
 use Rattle.std.specs.Prelude.{◌≡◌, List, map}
 use Rattle.std.specs.List.{All}
 use Rattle.ipt_rules.specs.declared.marks.Place.{Place}

@@ -31,7 +31,7 @@ pub data MeetsFrom (fits : Rule → Bool) (chains : List Chain) (place : Place) 
 abbrev pub Meets : (Rule → Bool) → List Chain → ℕ → Place → Type 0
 Meets fits chains c place = MeetsFrom fits chains place c 0 (rules_of chains c)
 
--- A packet that is forwarded meets the rule at a place: its traversal of FORWARD, chain 1, does.
+-- A packet that enters FORWARD, chain 1, meets the rule at a place.
 abbrev pub IsMet : List Chain → Packet → CtState → Place → Type 0
 IsMet chains packet state = Meets (matches packet state) chains 1
 
@@ -56,10 +56,10 @@ abbrev pub DecidesWalk : (Rule → Bool) → List Chain → ℕ → Option Place
 DecidesWalk fits chains c None = (place : Place) → Meets fits chains c place → verdict_at chains place ≡ None
 DecidesWalk fits chains c (Some place) = Meets fits chains c place × IsSome (verdict_at chains place)
 
--- The decider of a packet that is forwarded.
+-- The decider of a packet that enters FORWARD.
 abbrev pub IsDecider : List Chain → Packet → CtState → Option Place → Type 0
 IsDecider chains packet state = DecidesWalk (matches packet state) chains 1
 
--- The verdict of a decider on a packet that is forwarded: the verdict of the rule, or the policy of FORWARD.
+-- The verdict of a decider on a packet that enters FORWARD: the verdict of the rule, or the policy of FORWARD.
 abbrev pub decided : List Chain → Option Place → Verdict
 decided chains decider = verdict_by (policy_of chains 1) (option_and_then (verdict_at chains) decider)

@@ -1,4 +1,4 @@
--- The names that a user chain may have (iptables(8), iptables-restore(8)).
+-- The names that a user chain may have here. iptables(8) refuses those of more than 28 bytes.
 use Rattle.std.specs.Prelude.{ℕ, Bool, false, ◌&&◌, ◌||◌, not, nat_le, ◌==◌, List, [], ◌∷◌, length, codes, bytes_eq}
 use Rattle.std.specs.List.{list_all, list_any}
 

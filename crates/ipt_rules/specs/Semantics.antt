@@ -43,7 +43,7 @@ pub data Gives (fits : Rule → Bool) (chains : List Chain) : List Rule → Opti
   comes_back : {r : Rule} {rs : List Rule} {o : Option Verdict} {c : ℕ} → step_of (fits r) r.target ≡ JumpsTo c
       → Gives fits chains (rules_of chains c) None → Gives fits chains rs o → Gives fits chains (r ∷ rs) o
 
--- The verdict of a policy.
+-- The verdict of a policy. A user chain, which has no policy, drops.
 abbrev pub policy_verdict : Option Policy → Verdict
 policy_verdict None = Dropped
 policy_verdict (Some Accepting) = Forwarded
@@ -54,7 +54,7 @@ abbrev pub verdict_by : Option Policy → Option Verdict → Verdict
 verdict_by policy None = policy_verdict policy
 verdict_by policy (Some v) = v
 
--- The verdict of the chains on a packet in a state that enters built-in chain c is the verdict of c from its first rule.
+-- The chains have this verdict on a packet that enters built-in chain c in this state: the outcome of its rules, or else its policy.
 pub record HasVerdictIn (chains : List Chain) (c : ℕ) (packet : Packet) (state : CtState) (v : Verdict) : Type 0 where
   pub outcome : Option Verdict
   pub gives : Gives (matches packet state) chains (rules_of chains c) outcome

@@ -1,4 +1,4 @@
--- Dead rules: the rules that no forwarded packet meets, in any state of its connection.
+-- Dead rules: the rules that no packet that enters FORWARD meets, in any state of its connection.
 use Rattle.std.specs.Prelude.{◌≡◌, ◌≢◌, ◌⊎◌, ◌↔◌, ◌<◌, ◌==◌, ◌&&◌, ◌||◌, Bool, false, IsTrue, List, [], ◌∷◌, length}
 use Rattle.host_net.specs.declared.packet.Packet.{Packet}
 use Rattle.host_net.specs.declared.packet.CtState.{CtState}
@@ -10,7 +10,7 @@ use Rattle.ipt_rules.specs.DeadRules.{without_places}
 use Rattle.ipt_rules.specs.Meets.{IsMet}
 use Rattle.ipt_rules.specs.inner.OneOutcome.{HasVerdict}
 
--- The rule at the place is dead: no forwarded packet meets it, in any state.
+-- The rule at the place is dead: no packet that enters FORWARD meets it, in any state.
 abbrev pub IsDead : List Chain → Place → Type 0
 IsDead chains place = (p : Packet) (state : CtState) → IsPacket p → IsMet chains p state place → ⊥
 
@@ -52,7 +52,7 @@ pub record AreDead (chains : List Chain) (places : List Place) : Type 0 where
   pub ascending : AreAscending places
   pub exact : (place : Place) → IsTrue (is_listed places place) ↔ (HasForwardRule chains place × IsDead chains place)
 
--- The rules at the places are removable: without them, each forwarded packet has the same verdict in each state.
+-- The rules at the places are removable: without them, each packet that enters FORWARD has the same verdict in each state.
 abbrev pub AreRemovable : List Chain → List Place → Type 0
 AreRemovable chains places =
     (p : Packet) (state : CtState) (v : Verdict) → IsPacket p → (HasVerdict chains p state v ↔ HasVerdict (without_places (is_listed places) chains) p state v)

@@ -1,4 +1,4 @@
-//! The rules of a rule set that no forwarded packet meets.
+//! The rules of a rule set that no packet that enters FORWARD meets.
 
 ghost use Rattle.std.specs.Prelude.{◌≡◌, ◌+◌, ◌<◌, length, IfOk};
 ghost use Rattle.pass_core.specs.Dead.{AreDead, AreRemovable};
@@ -10,12 +10,12 @@ use header_space::{PacketBox, visit_all};
 use ipt_rules::{INPUT, Marks, OUTPUT, Place, Ruleset};
 use std::alloc::{AllocError, Global};
 
-/// Returns the places of the dead rules: no forwarded packet meets them, new or established. They are in
-/// ascending order, by chain and then by rule.
+/// Returns the places of the dead rules: no packet that enters `FORWARD` meets them, new or established. They
+/// are in ascending order, by chain and then by rule.
 ///
-/// Only rules of `FORWARD` and of user chains are listed: no forwarded packet meets a rule of `INPUT` or of
-/// `OUTPUT`. If no jump from `FORWARD` leads to a user chain, all of its rules are dead, even if `INPUT` or
-/// `OUTPUT` uses the chain: its rules may count packets that are not forwarded.
+/// Only rules of `FORWARD` and of user chains are listed: no packet that enters `FORWARD` meets a rule of `INPUT`
+/// or of `OUTPUT`. If no jump from `FORWARD` leads to a user chain, all of its rules are dead, even if `INPUT` or
+/// `OUTPUT` uses the chain: its rules may count packets that do not enter `FORWARD`.
 ///
 /// Costs two traversals for each box of packets that the rules distinguish.
 pub fn dead_rules(alloc: Global, rules: &Ruleset) -> Result<Vec<Place>, AllocError>

@@ -1,6 +1,6 @@
 //! The services that pass between two sets of addresses, or for each pair of owners, as exact and complete
 //! ranges. A packet passes if a question holds for it: for instance, whether rules accept it. Also the dead
-//! rules of a rule set, which no forwarded packet meets.
+//! rules of a rule set, which no packet that enters FORWARD meets.
 #![tactic(auto)]
 
 mod area;

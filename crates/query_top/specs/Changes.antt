@@ -1,4 +1,4 @@
--- `changes OLD NEW`: the packets that the policies of two descriptions treat differently.
+-- `changes OLD NEW`: the packets that only one of the policies of two descriptions permits, or permits answers to.
 use Rattle.std.specs.Prelude.{◌≡◌, ◌↔◌, ℕ, Bool, true, false, not, List, [], ◌∷◌}
 use Rattle.change_core.specs.Changes.{AreChanges, IsComplete, Policy as PolicyBetween, TreatAlike, policy_with}
 use Rattle.change_core.specs.declared.change.Change.{Change}
@@ -17,7 +17,7 @@ abbrev pub policy_between : Network → Policy → PolicyBetween
 policy_between d policy = policy_with (site_of d) policy.permitted.flows policy.stateful.flows
 
 -- The list has all changes from one policy to another: one for each kind and pair of owners of which some packet changes, and no other.
--- It is empty if and only if the policies treat all packets alike.
+-- It is empty if and only if the policies permit the same packets, and answers to the same packets.
 pub record AreAllChanges (old new : PolicyBetween) (changes : List Change) : Type 0 where
   pub are : AreChanges old new changes
   pub complete : IsComplete old new changes

@@ -1,4 +1,4 @@
-//! `changes OLD NEW`: the packets that the policies of two descriptions treat differently.
+//! `changes OLD NEW`: the packets that only one of two policies permits, or permits answers to.
 
 ghost use Rattle.std.specs.Prelude.{◌≡◌, Bool, IfOk, length, not, true, if◌then◌else◌};
 ghost use Rattle.net_core.specs.Policies.{IsPolicyOf};

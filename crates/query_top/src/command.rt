@@ -18,7 +18,7 @@ pub enum Command<'a> {
     Flows(Dialect, &'a str, &'a str),
     /// `compare DIALECT FILE RULES`: whether rules do what the policy says, for each pair of owners.
     Compare(Dialect, &'a str, &'a str),
-    /// `changes OLD NEW`: the packets that the policies of two descriptions treat differently.
+    /// `changes OLD NEW`: the packets that only one of two policies permits, or permits answers to.
     Changes(&'a str, &'a str),
 }
 

@@ -17,6 +17,6 @@ pub record GivesOne (fits : Rule → Bool) (chains : List Chain) (rules : List R
 abbrev pub AreDeterministic : List Chain → Type 0
 AreDeterministic chains = (fits : Rule → Bool) (c k : ℕ) → GivesOne fits chains (drop k (rules_of chains c))
 
--- The verdict on a packet that is forwarded is the verdict of FORWARD, chain 1.
+-- The verdict on a packet that enters FORWARD is the verdict of FORWARD, chain 1.
 abbrev pub HasVerdict : List Chain → Packet → CtState → Verdict → Type 0
 HasVerdict chains = HasVerdictIn chains 1
