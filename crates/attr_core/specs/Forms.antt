@@ -37,9 +37,11 @@ abbrev pub bad_from : {A : Type 0} → (List Given → Given → Option A) → L
 bad_from says earlier [] = None
 bad_from says earlier (a ∷ rest) = if is_some (says earlier a) then bad_from says (earlier ++ a ∷ []) rest else Some (length earlier)
 
+-- The number, from 0, of the first assign without an attribute.
 abbrev pub bad_assign : Form → List Host → List Given → Option ℕ
 bad_assign form hosts assigns = bad_from (says form hosts) [] assigns
 
+-- The attribute of each host.
 abbrev pub attributes_in : (form : Form) → List Host → List Given → List form.template.Attribute
 attributes_in form hosts assigns = assigned (says form hosts) (form.template.default (length hosts)) (length hosts) assigns
 

@@ -8,6 +8,7 @@ use Rattle.tmpl_zones.specs.declared.gateway.GateKind.TheVariants.{Gateway, Gate
 use Rattle.attr_core.specs.Forms.{Form}
 use Rattle.attr_core.specs.Kinds.{by_kind}
 
+-- The kinds, by their words.
 abbrev pub gateway_kinds : List (List ℕ × GateKind)
 gateway_kinds =
     (codes "gateway", Gateway)

@@ -10,6 +10,7 @@ use Rattle.table_core.specs.Keys.{Key, Text, needed}
 use Rattle.table_core.specs.Tables.{text_at}
 use Rattle.text_core.specs.Steps.{◌>>=◌}
 
+-- The required key `kind`, a string.
 abbrev pub kind_key : Key
 kind_key = needed (codes "kind") Text
 

@@ -8,6 +8,7 @@ use Rattle.tmpl_reach.specs.declared.non_interference.Interference.TheVariants.{
 use Rattle.attr_core.specs.Forms.{Form}
 use Rattle.attr_core.specs.Kinds.{by_kind}
 
+-- The kinds, by their words.
 abbrev pub interference_kinds : List (List ℕ × Interference)
 interference_kinds = (codes "unrelated", Unrelated) ∷ (codes "interfering", Interfering) ∷ []
 

@@ -20,6 +20,7 @@ use Rattle.attr_core.specs.Peers.{peer}
 unfoldable pub master_of : List Host → ℕ → List Data → Option Partner
 master_of hosts host ds = option_map (fold with_sender (Master (replicate (length hosts) false))) (each (peer hosts host) ds)
 
+-- The kinds without a list of senders.
 abbrev pub listless_kinds : List (List ℕ × Partner)
 listless_kinds = (codes "dontcare", DontCare) ∷ (codes "care", Care) ∷ []
 

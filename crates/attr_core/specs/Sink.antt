@@ -8,6 +8,7 @@ use Rattle.tmpl_zones.specs.declared.sink.SinkKind.TheVariants.{Sink, Pool, Unas
 use Rattle.attr_core.specs.Forms.{Form}
 use Rattle.attr_core.specs.Kinds.{by_kind}
 
+-- The kinds, by their words.
 abbrev pub sink_kinds : List (List ℕ × SinkKind)
 sink_kinds = (codes "sink", Sink) ∷ (codes "pool", Pool) ∷ (codes "unassigned", Unassigned) ∷ []
 

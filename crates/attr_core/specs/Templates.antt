@@ -28,6 +28,7 @@ form Dependability = dependability_form
 form NonInterference = interference_form
 form NoReach = noreach_form
 
+-- All ten templates.
 abbrev pub templates : List Template
 templates = Blp ∷ Tainting ∷ Sink ∷ Gateway ∷ Subnets ∷ Partners ∷ Domains ∷ Dependability ∷ NonInterference ∷ NoReach ∷ []
 

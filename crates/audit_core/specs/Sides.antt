@@ -20,17 +20,19 @@ pub record Sides : Type 0 where
 abbrev pub sides_of : Site → (permitted stateful : List Flow) → Rules → Sides
 sides_of site permitted stateful rules = record { site = site; permitted = permitted; stateful = stateful; rules = rules }
 
--- The policy permits the packet (`permits`), or it permits answers to the packet (`permits_reply_to`).
+-- The policy permits the packet.
 abbrev pub permits : Sides → Packet → Bool
 permits sides = is_of sides.site sides.permitted
 
+-- The policy permits answers to the packet.
 abbrev pub permits_reply_to : Sides → Packet → Bool
 permits_reply_to sides = is_of sides.site sides.stateful
 
--- The two sides agree on a list of events (`Agree`), or they differ on it (`Differ`).
+-- The two sides agree on a list of events.
 abbrev pub Agree : Sides → List Event → Type 0
 Agree sides = AgreeOn (filter_of sides.rules) (permits sides) (permits_reply_to sides)
 
+-- The two sides differ on a list of events.
 abbrev pub Differ : Sides → List Event → Type 0
 Differ sides = DifferOn (filter_of sides.rules) (permits sides) (permits_reply_to sides)
 

@@ -15,6 +15,7 @@ use Rattle.inv_law.specs.declared.strategy.Strategy.{Strategy}
 use Rattle.inv_law.specs.declared.strategy.Strategy.TheVariants.{Access, Information}
 use Rattle.tmpl_table.specs.KindTable.{KindTable}
 
+-- The template of an invariant.
 pub data Choice : Type 0 where
   OneOfTen : (template : Template) → Choice
   OwnTable : (template : RawTemplate) → Choice
@@ -51,7 +52,7 @@ abbrev pub choice_form : Choice → Form
 choice_form (OneOfTen t) = form t
 choice_form (OwnTable t) = table_form (declared_by t)
 
--- The first assign that specifies no attribute.
+-- The number, from 0, of the first assign that specifies no attribute.
 unfoldable pub bad_of : List Host → Choice → List Given → Option ℕ
 bad_of hosts choice assigns = bad_assign (choice_form choice) hosts assigns
 

@@ -1,4 +1,4 @@
--- A description in version 2: the result of `migrate` for an accepted description (docs/FORMATS.md).
+-- A description in version 2: the result of `migrate` for an accepted description (docs/TEXTS.md).
 use Rattle.std.specs.Prelude.{◌≡◌, ◌≤◌, ℕ, pos, false, List, length, codes, Some, Ok}
 use Rattle.std.specs.Cmp.Lexicographic.{slice_cmp}
 use Rattle.std.specs.Ordering.{match_ordering, nat_cmp}

@@ -5,6 +5,7 @@ use Rattle.desc_form.specs.declared.refusal.Refusal.{Refusal}
 use Rattle.desc_form.specs.declared.refusal.Why.TheVariants.{UnknownKey, MissingKey, WrongType}
 use Rattle.desc_form.specs.Places.{first_place, has_missing_key, has_unknown_key, has_wrong_type}
 
+-- Conditions 3 to 5.
 unfoldable pub form_conditions : Members → List (Option Refusal)
 form_conditions table =
     first_place UnknownKey has_unknown_key table ∷ first_place MissingKey has_missing_key table ∷ first_place WrongType has_wrong_type table ∷ []

@@ -38,8 +38,8 @@ service_entry priority q t n =
 abbrev pub rest_drop : Option ℕ → ℕ → Prefix → Prefix → List Entry
 rest_drop rest priority q t = option_map_or (λ r. ip_entry priority (Some q) (Some t) Drop ∷ []) rest []
 
--- The entries from prefix q to prefix t. For a permitted flow: one for each service, and below them a drop entry if the flow is restricted.
--- For any other flow: only the drop entry.
+-- The entries from prefix q to prefix t. For a permitted flow: one for each service, and below them a drop entry if the flow is restricted
+-- and there is a rest host. For any other flow: only the drop entry, if there is a rest host.
 abbrev pub pair_entries : Bool → List Service → Option ℕ → Prefix → Prefix → List Entry
 pair_entries true ss rest q t =
     map (service_entry 40 (Some q) (Some t)) (service_matches ss) ++ (if is_whole ss then [] else rest_drop rest 35 q t)

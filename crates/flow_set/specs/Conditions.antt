@@ -4,7 +4,7 @@ use Rattle.flow_set.specs.declared.flow.Flow.{Flow}
 use Rattle.flow_set.specs.Flow.{before}
 use Rattle.flow_set.specs.FlowSet.{has, IsSubset, with_flow, without}
 
--- f is a minimal offending set of e: e without f satisfies the condition, and no flow of f can be retained
+-- f is a minimal offending set of e: the condition fails on e and holds on e without f, but fails once any flow of f is added back
 -- (Network_Security_Policy_Verification in the Archive of Formal Proofs).
 pub record IsMinimalOffending (Holds : List Flow → Type 0) (e f : List Flow) : Type 0 where
   pub within : IsSubset f e

@@ -27,7 +27,7 @@ pub record Narrows (old new : PacketBox) : Type 0 where
   pub is_box : IsBox new
   pub below : IsNoHigher new.greatest old.greatest
 
--- The swapped box contains the reply packets of a box: the swap exchanges source and destination.
+-- The box of the replies to the packets of a box: addresses and ports are exchanged.
 abbrev pub swapped : PacketBox → PacketBox
 swapped b = record { least = swap_of b.least; greatest = swap_of b.greatest }
 

@@ -32,8 +32,7 @@ rest_of hs = position_from (λ h. h.rest) 0 hs
 unfoldable pub owner_of : List Host → ℕ → Option ℕ
 owner_of hs a = option_or (prefix_owner_of hs a) (rest_of hs)
 
--- A host lacks an address specification if it has neither a prefix entry (valid or not) nor the rest mark, or if it has
--- both.
+-- A host has neither prefix entries (valid or not) nor the rest mark, or it has both.
 abbrev pub has_no_address : {A : Type 0} → List A → Bool → Bool
 has_no_address [] rest = not rest
 has_no_address (entry ∷ entries) rest = rest

@@ -29,12 +29,13 @@ pub data IsRestOfText : List (List ℕ) → Type 0 where
   closing : {w : List ℕ} (inside : List ℕ) → IsInside inside → w ≡ inside ++ (34 ∷ []) → IsRestOfText (w ∷ [])
   open_still : {w : List ℕ} {ws : List (List ℕ)} → IsInside (w ++ (32 ∷ [])) → IsRestOfText ws → IsRestOfText (w ∷ ws)
 
--- A string: one token that does not begin with `"`, or the tokens of a quoted string.
+-- A string: one token that does not begin with `"`, or the tokens of a quoted string. iptables-restore also opens a quoted string at a `"`
+-- further right in a token.
 pub data IsText : List (List ℕ) → Type 0 where
   bare : {w : List ℕ} → IsFalse (begins_with 34 w) → IsText (w ∷ [])
   in_quotes : {w : List ℕ} {ws : List (List ℕ)} → IsRestOfText (w ∷ ws) → IsText ((34 ∷ w) ∷ ws)
 
--- The connection states that a list may contain.
+-- The connection states that a list may contain. iptables accepts SNAT and DNAT only in a list of `--ctstate`.
 unfoldable pub is_state : List ℕ → Bool
 is_state word =
     list_any (bytes_eq word) (codes "NEW" ∷ codes "ESTABLISHED" ∷ codes "RELATED" ∷ codes "INVALID" ∷ codes "UNTRACKED" ∷

@@ -32,6 +32,6 @@ pub record AreReached (e : List Flow) (i : ℕ) (hosts : List ℕ) : Type 0 wher
   pub others : All (λ j. j ≢ i) hosts
   pub reached : All (Reaches e i) hosts
 
--- Host i reaches at most `limit` other hosts: no longer list of them is reached.
+-- Host i reaches at most `limit` other hosts: each list of distinct ones that it reaches has at most `limit` elements.
 abbrev pub ReachesAtMost : List Flow → ℕ → ℕ → Type 0
 ReachesAtMost e i limit = (hosts : List ℕ) → AreReached e i hosts → length hosts ≤ limit

@@ -1,4 +1,4 @@
--- The report of the sample (docs/TEXTS.md): the results of every command for its description, in numbers.
+-- The report of the sample (docs/TEXTS.md): the sizes of its policy, rules and offending sets, and the packets that the rules forward.
 use Rattle.std.specs.Prelude.{◌≡◌, ◌≤◌, ◌<◌, ℕ, ◌+◌, ◌*◌, ◌^◌, Bool, false, List, [], ◌++◌, length, map, filter, flat_map, Option, Ok, codes, decimal}
 use Rattle.std.specs.Option.{unwrap_or}
 use Rattle.text_core.specs.FirstMatch.{Numbered, numbered}
@@ -33,7 +33,7 @@ sample_address k = 10 * 2 ^ 24 + k
 abbrev pub packet_between : Flow → Packet
 packet_between f = record { src = sample_address f.from; dst = sample_address f.to; proto = 17; sport = 1000; dport = 1000 }
 
--- One packet is seen for each pair of hosts, in the order of flows.
+-- One packet is seen for each flow between two hosts, in order.
 abbrev pub sample_events : ℕ → List Event
 sample_events n = map Seen (map packet_between (every_flow n))
 

@@ -1,5 +1,5 @@
-//! The sample: a description with a given number of hosts, and the results of every command for it,
-//! in numbers.
+//! The sample: a description with a given number of hosts, the sizes of its policy, rules and offending sets,
+//! and the number of packets that the rules forward.
 #![tactic(auto)]
 
 mod counts;

@@ -1,6 +1,6 @@
 -- `audit DIALECT FILE RULES`: whether rules forward what the policy of a network expects. The texts of its three outcomes state
 -- what an operator may rely on: `run` guarantees it for a text with status done, violated or not emittable, and one of the three is reached
--- if its files are readable, no error occurs and memory suffices (`complete`).
+-- if its files are accepted, no error occurs and memory suffices (`complete`).
 use Rattle.std.specs.Prelude.{◌≡◌, ℕ, ◌≤◌, ◌<◌, List, [], ◌∷◌, ◌++◌, codes}
 use Rattle.audit_core.specs.Cuts.{cuts_between}
 use Rattle.audit_core.specs.Findings.{DifferSomewhere, IsFirstTrace, events_of}

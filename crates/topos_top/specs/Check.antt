@@ -12,7 +12,7 @@ use Rattle.topos_top.specs.declared.status.Status.TheVariants.{Violated, Done}
 abbrev pub AskedHolds : Network → Type 0
 AskedHolds d = MeetsAll d d.asked.flows
 
--- The report names exactly the violated invariants, each with a minimal offending set of the requested flows.
+-- The report states of each invariant whether the requested flows satisfy it, and if not, a minimal offending set of them.
 abbrev pub offences_when : Status → Type 0 → Network → Outcome
 offences_when ended when d = record { status = ended; when = when; is = IsCheckReport d; guarantees = ReportsViolations d }
 

@@ -6,6 +6,7 @@ use Rattle.topos_top.specs.Reply.{Reply, error}
 use Rattle.topos_top.specs.declared.dialect.Dialect.{Dialect}
 use Rattle.topos_top.specs.declared.status.Status.TheVariants as status
 
+-- A command with its arguments.
 pub data Command : Type 0 where
   Check : (file : List ℕ) → Command
   Policy : (file : List ℕ) → Command

@@ -16,7 +16,7 @@ use Rattle.topos_top.specs.Rules.{PolicyMeetsInvariants, ListedHolds, OfPolicy}
 use Rattle.topos_top.specs.declared.status.Status.TheVariants.{Violated, NotEmittable, Done}
 
 -- The reason for no rules for a host of that name, and the line that reports it (docs/TEXTS.md): there is no such host, or it is the rest
--- host, which has no machines.
+-- host, which has no prefixes.
 pub data CannotEmitLocal (d : Network) (host line : List ℕ) : Type 0 where
   NoHost : host_named d.hosts host ≡ None → line ≡ not_emittable (codes "no host " ++ (host ++ codes "\n")) → CannotEmitLocal d host line
   RestHost : (h : ℕ) → host_named d.hosts host ≡ Some h → rest_of d.hosts ≡ Some h → line ≡ not_emittable (host ++ codes " is the rest host\n") → CannotEmitLocal d host line
@@ -37,7 +37,8 @@ local_chains_for d policy = local_layout (site_of d) policy.permitted.flows poli
 
 -- The guarantee of the rules for the machines of a host. They enforce the policy on the host; the policy is that of the network and
 -- satisfies its invariants. If every specific host has its rules on its machines, a packet passes if and only if the policy and its answers
--- expect it, for every list of events. The text parses to exactly these rules.
+-- expect it, for every list of events with valid packets, none of which has both addresses in 127.0.0.0/8. If only some have them, packets
+-- between two others pass as well. The text parses to exactly these rules.
 pub record EnforcesPolicyLocally (d : Network) (host rules : List ℕ) : Type 0 where
   pub policy : Policy
   pub invariants : PolicyMeetsInvariants d policy

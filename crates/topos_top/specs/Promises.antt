@@ -81,9 +81,9 @@ Wrote out Keep = (text : List ℕ) × Appends out text × Keep text
 
 -- The headline, by command: for the commands that write rules or descriptions, and for the one that compares rules. Rules satisfy what is
 -- stated for their dialect (`EnforcesPolicyText`), or for the machines of a host (`EnforcesPolicyLocally`). `rules` writes them only if a listed policy
--- satisfies every invariant, so that it is permitted unchanged. `migrate` writes a document of the table of the given description, in
--- version 2, so that it describes the same network (`IsMigrated`). `audit` reports `equal` only if, for every list of packets and forget
--- events, the rules forward what the policy of the network and its answers expect (`AreEquivalent`).
+-- satisfies every invariant, so that it is permitted unchanged. `migrate` writes a document of the table of the given description in
+-- version 2, which describes the same network unless it is too long (`IsMigrated`). `audit` reports `equal` only if, for every list of valid
+-- packets and forget events, the rules forward what the policy of the network and its answers expect (`AreEquivalent`).
 abbrev pub MeetsHeadline : Command → ShelfChange → (out : SinkChange) → Type 0
 MeetsHeadline (Rules dialect file) shelf out = WasRead shelf kind.Description file (λ d. ListedHolds d × Wrote out (EnforcesPolicyText (rule_dialect_of dialect) d))
 MeetsHeadline (Repair dialect file) shelf out = WasRead shelf kind.Description file (λ d. Wrote out (EnforcesPolicyText (rule_dialect_of dialect) d))

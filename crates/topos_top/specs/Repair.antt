@@ -1,4 +1,4 @@
--- `repair DIALECT FILE`: the rules of the permitted policy, whether or not a policy was listed.
+-- `repair DIALECT FILE`: the rules of the permitted policy, also if a listed policy violates an invariant.
 use Rattle.net_core.specs.Network.{Network}
 use Rattle.topos_top.specs.Dialects.{rule_dialect_of}
 use Rattle.topos_top.specs.Outcomes.{Outcomes}

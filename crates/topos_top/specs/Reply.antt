@@ -24,6 +24,6 @@ cannot_read file = error status.ReadFault (codes "topos: cannot read " ++ (file 
 abbrev pub no_memory : Reply
 no_memory = error status.Memory (codes "topos: out of memory\n")
 
--- The line that reports that a result cannot be emitted, and the reason.
+-- The line that states why a result cannot be emitted; the reason ends the line.
 abbrev pub not_emittable : (why : List ℕ) → List ℕ
 not_emittable why = codes "topos: not emittable: " ++ why

@@ -44,9 +44,9 @@ abbrev pub rules_for : (language : RuleDialect) → Network → Policy → langu
 rules_for language d policy = language.layout (site_of d) policy.permitted.flows policy.stateful.flows
 
 -- The guarantee of the rules of a network. The policy has the properties above. The text parses to exactly these rules. From an empty
--- connection table, for every list of events, they forward exactly the packets of a permitted flow and those that answer a stateful flow.
--- For a single packet in either connection state they have exactly the verdict of the policy. They treat frames of other kinds as the
--- dialect specifies.
+-- connection table, for every list of events with valid packets, they forward exactly the packets of a permitted flow and those that answer
+-- a stateful flow. For a single packet in either connection state they have exactly the verdict of the policy. They treat frames of other
+-- kinds as the dialect specifies.
 pub record EnforcesPolicyText (language : RuleDialect) (d : Network) (rules : List ℕ) : Type 0 where
   pub policy : Policy
   pub invariants : PolicyMeetsInvariants d policy

@@ -1,4 +1,4 @@
--- `sample N`: the results of every command for the sample of N hosts, in numbers.
+-- `sample N`: the sizes of the policy, the rules and the offending sets of the sample of N hosts, and the packets that its rules forward.
 use Rattle.std.specs.Prelude.{ℕ}
 use Rattle.sample_core.specs.Sample.{IsSample}
 use Rattle.sample_core.specs.SamplePromises.{ReportsSample}

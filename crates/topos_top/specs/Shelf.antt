@@ -1,4 +1,4 @@
--- The observations of one call on its shelf.
+-- What one call observes of its shelf.
 use Rattle.std.specs.Prelude.{◌≡◌, ℕ, ◌+◌, ◌≤◌, ◌⊎◌, List, length, min, Option, None, Some, IfSome}
 use Rattle.std.specs.FinMap.{get}
 use Rattle.edge_io.specs.Counts.{more, Rose}
@@ -33,7 +33,7 @@ shelf_change H old new = record { before = shelf_view H old; after = shelf_view 
 abbrev pub since : Shelf → ShelfChange → ShelfChange
 since shelf change = record { before = shelf; after = change.after; only_failures = change.only_failures }
 
--- The bytes of a file, if the files of the shelf are observable.
+-- If the files of the shelf are observable, the file has these bytes.
 abbrev pub Holds : Shelf → (name bytes : List ℕ) → Type 0
 Holds shelf name bytes = IfSome shelf.told (λ files. get files name ≡ Some bytes)
 

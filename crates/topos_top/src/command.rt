@@ -24,7 +24,8 @@ pub enum Command<'a> {
     Repair(Dialect, &'a str),
     /// `trace DIALECT RULES EVENTS`: the result of each event.
     Trace(Dialect, &'a str, &'a str),
-    /// `sample N`: the results of every command for a network of N hosts, in numbers.
+    /// `sample N`: the sizes of the policy, the rules and the offending sets of the sample
+    /// of N hosts, and the number of packets that its rules forward.
     Sample(u16),
     /// `migrate FILE`: the description in version 2.
     Migrate(&'a str),

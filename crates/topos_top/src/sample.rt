@@ -1,4 +1,5 @@
-//! `sample N`: the results of every command for the sample of N hosts, in numbers.
+//! `sample N`: the sizes of the policy, the rules and the offending sets of the sample of N hosts, and the
+//! number of packets that its rules forward.
 
 ghost use Rattle.std.specs.Prelude.{◌≤◌, IfOk, false};
 ghost use Rattle.host_net.specs.Limits.{host_limit};

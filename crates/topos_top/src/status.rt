@@ -10,7 +10,7 @@ pub enum Status {
     Done,
     /// The arguments form no command.
     Usage,
-    /// A required property is violated.
+    /// An invariant fails, or the rules differ from the policy.
     Violated,
     /// The description is refused.
     BadDescription,
