@@ -40,10 +40,10 @@ by_repair dialect d text (inl hindered) = let other = hindered.0.0 in cc other
 by_repair dialect d text (inr (inl written)) = written.1
 by_repair dialect d text (inr (inr none)) = absurd none
 
-by_local : (d : Network) (host text : List ℕ) → AnyOutcome (EndsWithGuarantee Done text) (local_outcomes d host) → EnforcesPolicyLocally d host text
+by_local : (d : Network) (host text : List ℕ) → AnyOutcome (EndsWithGuarantee Done text) (local_outcomes d host) → ListedHolds d × EnforcesPolicyLocally d host text
 by_local d host text (inl violated) = let other = violated.0.0 in cc other
 by_local d host text (inr (inl barred)) = let other = barred.0.0 in cc other
-by_local d host text (inr (inr (inl written))) = written.1
+by_local d host text (inr (inr (inl written))) = (written.0.1.0, written.1)
 by_local d host text (inr (inr (inr none))) = absurd none
 
 by_audit : (d : Network) (rules : AuditedRules) (text : List ℕ) → AnyOutcome (EndsWithGuarantee Done text) (audit_outcomes d rules) → (text ≡ codes "equal\n") × OfSides d rules AreEquivalent
@@ -69,7 +69,8 @@ kept (Migrate file) shelf out (inr on) = elim on.next.1.1 [
 ]
 kept (Local file host) shelf out (inl stopped) = absurd stopped
 kept (Local file host) shelf out (inr on) =
-    record { bytes = on.bytes; held = on.held; said = on.said; read = on.read; so = (on.next.1.0, on.next.1.2, by_local on.said host on.next.1.0 on.next.1.1) }
+    let end = by_local on.said host on.next.1.0 on.next.1.1 in
+    record { bytes = on.bytes; held = on.held; said = on.said; read = on.read; so = (end.0, (on.next.1.0, on.next.1.2, end.1)) }
 kept (Audit dialect file rules) shelf out (inl stopped) = absurd stopped
 kept (Audit dialect file rules) shelf out (inr on) = elim on.next [
   | inl stopped ↦ absurd stopped

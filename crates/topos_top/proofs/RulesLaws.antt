@@ -29,7 +29,7 @@ policy_keeps d policy network is = record {
   meets = is.permitted.holds;
   left_out = λ f asked absent meets. first_with (MeetsAll d) d.asked.flows policy.permitted.flows f is.permitted asked absent meets;
   greatest = IsGreatestPolicy-from_policy d policy network is;
-  listed = λ given holds. ap (λ (set : SetOfFlows). set.flows) (asked_is_permitted d policy network holds is);
+  unchanged = λ holds. ap (λ (set : SetOfFlows). set.flows) (asked_is_permitted d policy network holds is);
   complies = CompliesWithAll-from_policy d policy network is;
 }
 

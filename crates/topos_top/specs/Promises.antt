@@ -80,8 +80,8 @@ abbrev pub Wrote : (out : SinkChange) → (List ℕ → Type 0) → Type 0
 Wrote out Keep = (text : List ℕ) × Appends out text × Keep text
 
 -- The headline, by command: for the commands that write rules or descriptions, and for the one that compares rules. Rules satisfy what is
--- stated for their dialect (`EnforcesPolicyText`), or for the machines of a host (`EnforcesPolicyLocally`). `rules` writes them only if a listed policy
--- satisfies every invariant, so that it is permitted unchanged. `migrate` writes a document of the table of the given description in
+-- stated for their dialect (`EnforcesPolicyText`), or for the machines of a host (`EnforcesPolicyLocally`). `rules` and `local` write them only if a
+-- listed policy satisfies every invariant, so that it is permitted unchanged. `migrate` writes a document of the table of the given description in
 -- version 2, which describes the same network unless it is too long (`IsMigrated`). `audit` reports `equal` only if, for every list of valid
 -- packets and forget events, the rules forward what the policy of the network and its answers expect (`AreEquivalent`).
 abbrev pub MeetsHeadline : Command → ShelfChange → (out : SinkChange) → Type 0
@@ -90,7 +90,7 @@ MeetsHeadline (Repair dialect file) shelf out = WasRead shelf kind.Description f
 MeetsHeadline (Migrate file) shelf out = WasRead shelf kind.Document file (λ migrated. Appends out migrated)
 MeetsHeadline (Audit dialect file rules) shelf out = WasRead shelf kind.Description file
     (λ d. WasRead shelf (kind.Rules dialect) rules (λ said. OfSides d ((rule_dialect_of dialect).audited said) AreEquivalent × Appends out (codes "equal\n")))
-MeetsHeadline (Local file host) shelf out = WasRead shelf kind.Description file (λ d. Wrote out (EnforcesPolicyLocally d host))
+MeetsHeadline (Local file host) shelf out = WasRead shelf kind.Description file (λ d. ListedHolds d × Wrote out (EnforcesPolicyLocally d host))
 MeetsHeadline _ shelf out = Unit {0}
 
 -- ---- the sample

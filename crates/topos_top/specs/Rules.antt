@@ -29,14 +29,14 @@ IsRules language d rules = OfPolicy d (λ site p s. rules ≡ language.text (lan
 
 -- The properties of a policy of a network, regardless of what is emitted for it. The permitted flows are the first subset of the requested
 -- flows that satisfies every invariant, and the greatest if all of them are edge-wise. Each requested flow that is omitted violates an
--- invariant together with the permitted flows. A listed policy that satisfies every invariant is permitted unchanged. The stateful flows
+-- invariant together with the permitted flows. Requested flows that satisfy every invariant are permitted unchanged. The stateful flows
 -- are the first whose answers violate no strict invariant, and with these answers the policy complies with every invariant.
 pub record PolicyMeetsInvariants (d : Network) (policy : Policy) : Type 0 where
   pub is_policy : IsPolicyOf d policy
   pub meets : MeetsAll d policy.permitted.flows
   pub left_out : (f : Flow) → IsTrue (has d.asked.flows f) → IsFalse (has policy.permitted.flows f) → MeetsAll d (with_flow policy.permitted.flows f) → ⊥
   pub greatest : IsEdgeWiseNetwork d → IsGreatestPolicy d policy
-  pub listed : IsTrue d.given → AskedHolds d → policy.permitted.flows ≡ d.asked.flows
+  pub unchanged : AskedHolds d → policy.permitted.flows ≡ d.asked.flows
   pub complies : CompliesWithAll d policy
 
 -- The rules of a policy of the network.
