@@ -1,4 +1,4 @@
--- The result of edits is unique, and their two outcomes are mutually exclusive.
+-- The result of edits is unique, their two outcomes are mutually exclusive, and the sets of a session are its policy.
 use Rattle.std.proofs.Common.{◌≡◌, ℕ, ◌+◌, List, [], ◌∷◌, ◌++◌, Ok, Err, inl, false, refl, sym, subst, ◌∙◌, ap, append_assoc, append-nil}
 use Rattle.desc_core.proofs.NetworkLaws.{IsNetwork-table}
 use Rattle.desc_core.specs.Description.{described_by_table}
@@ -52,10 +52,10 @@ policy_kept table d other policy described kept =
     subst (λ (n : Network). IsPolicyOf n policy) same kept.is_policy
 
 -- The two sets of a session are the policy of the network that its table describes.
-pub is_policy_given : (table : Members) (d : Network) (permitted stateful : SetOfFlows) → described_by_table table ≡ Ok d
+pub sets_are_policy : (table : Members) (d : Network) (permitted stateful : SetOfFlows) → described_by_table table ≡ Ok d
     → HasPolicy table (λ policy. permitted ≡ policy.permitted) → HasPolicy table (λ policy. stateful ≡ policy.stateful)
     → IsPolicyOf d (record { permitted = permitted; stateful = stateful })
-is_policy_given table d permitted stateful described has other =
+sets_are_policy table d permitted stateful described has other =
     let policy = has.1 in
     let is_policy = policy_kept table d has.0 policy described has.2 in
     let one : other.1 ≡ policy = policy_is_one d other.1 policy (policy_kept table d other.0 other.1 described other.2) is_policy in
