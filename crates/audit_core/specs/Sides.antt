@@ -41,6 +41,7 @@ Differ sides = DifferOn (filter_of sides.rules) (permits sides) (permits_reply_t
 abbrev pub DifferThen : Sides → List Event → Packet → Bool → Type 0
 DifferThen sides = DifferAfter (filter_of sides.rules) (permits sides) (permits_reply_to sides)
 
--- Over every list of events, from an empty connection table, the rules forward exactly the packets that the policy and its answers expect.
+-- Over every list of events with valid packets, from an empty connection table, the rules forward exactly the packets that the policy and
+-- its answers expect.
 abbrev pub AreEquivalent : Sides → Type 0
 AreEquivalent sides = ForwardsAsExpected (filter_of sides.rules) sides.site sides.permitted sides.stateful

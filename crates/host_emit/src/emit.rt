@@ -38,7 +38,7 @@ pub fn emit_local(
     ensures enforces_at_host { IfOk result (λ rules. EnforcesAtHost rules (site_with hosts.now services.now) p.now.flows s.now.flows host) }
 
     // If the machines of every specific host have its rules, a packet passes if and only if it is
-    // expected to, for every list of events.
+    // expected to, for every list of events with external packets.
     ensures passes { OnOk result (DeliversAsExpected (local_layout (site_with hosts.now services.now) p.now.flows s.now.flows)
         (site_with hosts.now services.now) p.now.flows s.now.flows) }
 {

@@ -13,7 +13,7 @@ ghost use Rattle.host_emit.specs.LocalEvents.{AreExternal, LocalRuns};
 ghost use Rattle.host_emit.specs.LocalLayout.{local_layout};
 
 /// If each specific host has the rules of its layout, the same packets pass between the hosts as
-/// through one firewall with the layout of the whole network, for every list of events.
+/// through one firewall with the layout of the whole network, for every list of events with external packets.
 pub fn firewalls_pass_as_one()
     ensures { (site : Site) (p s : List Flow) → IsHosts site.hosts → IsSubset s p → (events : List Event) → AreExternal events →
         (passes forwards : List (Option Bool)) → LocalRuns (local_layout site p s) site.hosts events passes →

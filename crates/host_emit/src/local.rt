@@ -29,7 +29,7 @@ pub fn local_rules(alloc: Global, policy: &FlowPolicy<'_>, host: u16) -> Result<
     ensures enforces_at_host { IfOk result (λ rules. EnforcesAtHost rules policy.now.site policy.now.permitted policy.now.stateful host) }
 
     // If the machines of every specific host have its rules, a packet passes if and only if the
-    // policy and its answers expect it, for every list of events.
+    // policy and its answers expect it, for every list of events with external packets.
     ensures passes { OnOk result (DeliversAsExpected (local_layout policy.now.site policy.now.permitted policy.now.stateful)
         policy.now.site policy.now.permitted policy.now.stateful) }
 {

@@ -47,8 +47,8 @@ pub record HasCause (ended : Status) (words : List (List ℕ)) (shelf : ShelfCha
       (λ outcomes before. (shelf.after ≡ before) × HoldsAtOutcome ended out err outcomes)
 
 -- The answer to a question is on the output: the file, as the run saw it, describes a network, and the answer is for that network and the
--- other file. A comparison says that rules and policy are equal only if the rules forward over every list of events what the policy and its
--- answers expect.
+-- other file. A comparison says that rules and policy are equal only if, over every list of events with valid packets, the rules forward what
+-- the policy and its answers expect.
 abbrev pub AnswersQuestion : Command → ShelfChange → (out : SinkChange) → Type 0
 AnswersQuestion (Why file from to) shelf out = WasRead shelf kind.Description file (λ d. Wrote out (IsWhy d from to))
 AnswersQuestion (Network file) shelf out = WasRead shelf kind.Description file (λ d. Wrote out (IsNetworkAnswer d))
