@@ -5,6 +5,7 @@ is not counted: the printed host replaces it.
 """
 from __future__ import annotations
 
+import re
 from ipaddress import IPv4Network
 
 from .import_sets import Numbers, difference, intersection, joined, prefix, prefixes
@@ -25,6 +26,7 @@ SCHEMA = 'topos-rest 1'
 PRIVATE = ('10.0.0.0/8', '172.16.0.0/12', '192.168.0.0/16')
 HOSTS, PREFIXES = 256, 1024  # as many as a description may have
 LONGEST_READING = 30  # seconds for a description that the program refuses
+NAME = re.compile('[A-Za-z0-9_-]{1,32}')  # of a host
 NOWHERE = '255.255.255.255'  # the address of the host while the others are read
 WIDTH = 112  # of a line of prefixes
 
@@ -110,6 +112,8 @@ def refuse_unfit(hosts: list[dict[str, Any]], taken: list[IPv4Network], prefixes
 def main(values: dict[str, str], options: set[str], words: list[str]) -> int:
     need_words(words, 1, 'a file is required', len(words))
     name, text = values.get('--name', 'unlisted'), read_bytes(words[0])
+    if not NAME.fullmatch(name):
+        raise Stopped(f'{name} is not a name of a host', USAGE)
     networks = list(map(read_network, words[1:] or PRIVATE))
     hosts = others(Programs.find(values.get('--program')), text, name)
     taken = [IPv4Network(prefix) for host in hosts for prefix in host['at']]
