@@ -76,7 +76,25 @@ read_filter() { filter_now | cat >"$1"; }
 
 # Writes the table `filter` into a file, and refuses if iptables cannot read it.
 save_filter() {
+  local found
   read_filter "$1" || refuse "$save cannot read the table filter, or not all nft rules in it: nothing is changed"
+  found=$(misread_rules)
+  if [ -z "$found" ]; then return; fi
+  say "$save prints some nft rules as different rules: nothing is changed. These commands remove them:"
+  printf '%s\n' "$found" >&2
+  exit 69
+}
+
+# Prints a command for each nft rule in the replaced chains that iptables prints as a different rule: it omits sets, prints
+# a range of addresses as its last address, and only the last of two matches on an address.
+misread_rules() {
+  if [ "$backend" = legacy ] || ! command -v nft >/dev/null; then return; fi
+  nft -t --debug=netlink list table ip filter 2>/dev/null | awk -v ours="^($entries|$chains)$" '
+    /^ip filter / { rule = $3 ~ ours ? $3 " handle " $4 : ""; split("", loaded); next }
+    rule == "" || !/^  \[ / { next }
+    / load / { field = $0; sub(/load [0-9]+b/, "load", field); again = loaded[field]++ }
+    / lookup / || field ~ / network header [+] 1[26] / && (again || / cmp [lg]te? /) { wrong[rule] }
+    END { for (rule in wrong) print "nft delete rule ip filter " rule }' | sort -V
 }
 
 # Prints the chains of topos in a text.
