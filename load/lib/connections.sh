@@ -42,9 +42,13 @@ tracked() {
     }' <(own_addresses) -
 }
 
-# Prints the addresses of the firewall itself, without a tool that it may lack.
+# Prints the addresses of the firewall itself, without a tool that it may lack. In a table of another number, such as that of
+# a transparent proxy, only a single address is its own, such as that of an interface of a VRF.
 own_addresses() {
-  awk '$1 == "|--" { address = $2 } $3 ~ /^(LOCAL|BROADCAST)$/ { print tolower($3), address $1 }' /proc/net/fib_trie
+  awk '
+    /^[A-Z]/ { other = $1 == "Id" }
+    $1 == "|--" { address = $2 }
+    $3 ~ /^(LOCAL|BROADCAST)$/ && !(other && $1 != "/32") { print tolower($3), address $1 }' /proc/net/fib_trie
 }
 
 # Writes what a packet meets in a built-in chain of a text, as rules of FORWARD, which topos trace reads.
