@@ -133,13 +133,19 @@ nft_chains() {
   nft list chains 2>/dev/null | awk -v hook="hook ($hooks|prerouting|postrouting|ingress|egress) " '
     $1 == "table" { table = $2 " " $3 }
     $1 == "chain" { chain = $2 }
-    $0 !~ hook || table ~ /^(ip6|arp) / { next }
-    table ~ /^ip (filter|mangle|raw|nat|security)$/ &&
-      chain ~ /^(INPUT|FORWARD|OUTPUT|PREROUTING|POSTROUTING)$/ { next } # of iptables
-    { print table, chain }' |
+    $0 ~ hook && table !~ /^(ip6|arp) / { print table, chain }' |
     while read -r family table chain; do
+      if is_shown "$family $table $chain"; then continue; fi
       echo "$family $table $chain$(nft list table "$family" "$table" 2>/dev/null | drops_in "$chain")"
     done
+}
+
+# Whether a chain of nft is one of iptables, and iptables can read its table.
+is_shown() {
+  local chain='^ip (filter|mangle|raw|nat|security) (INPUT|FORWARD|OUTPUT|PREROUTING|POSTROUTING)$' saved
+  if ! [[ $1 =~ $chain ]]; then return 1; fi
+  if [ "$backend ${BASH_REMATCH[1]}" = 'nft filter' ]; then return; fi # save_filter has read it
+  saved=$(table_of nft "${BASH_REMATCH[1]}") && [[ $saved == *$'\n'COMMIT* && $saved != *'# Table '* ]]
 }
 
 # Notes flow tables and chains of nft.
