@@ -43,6 +43,9 @@ is_held() { ! flock -n "$1/lock" true; }
 end_broken_load() {
   local was now
   if ! is_pending "$state"; then return; fi
+  if [ -n "$dry_run" ] || [ "$action" = clean ]; then # neither changes a verdict
+    refuse 'a load was interrupted before its confirmation: topos-load --back ends it'
+  fi
   if [ "$(cat "$state/local" 2>/dev/null)" != "$local" ]; then
     refuse "a load ${local:+without --local }was interrupted: topos-load --back ends it"
   fi
