@@ -69,7 +69,7 @@ carry_out() {
   takes_change 2>/dev/null || flush=yes takes_change || refuse "$restore rejects the rules: nothing is changed"
   remember_connections
   end_told=''
-  trap '' PIPE TSTP # a stopped restore would hold the lock that the way back waits for
+  trap '' PIPE TSTP TTIN TTOU # a stopped process would hold the locks that the way back and the next load need
   trap 'decide back' INT TERM
   start_guard
   trap 'end_told=yes; exit 129' HUP
@@ -148,13 +148,13 @@ wait_for_decision() {
     if ! kill -0 "$guard" 2>/dev/null; then decide back; return; fi # nobody else would go back
     if [ -z "$open" ]; then sleep 0.5; continue; fi
     word='' status=0
-    read -r -t 1 word || status=$?
+    read -r -t 1 word 2>/dev/null || status=$?
     if [ "$status" -gt 128 ]; then continue; fi
     case $status:$word:$local in
       0:yes:) decide kept ;;
       0:yes:*) say "this login may predate the rules: log in again, and run there: $self --confirm" ;;
       0:*) decide back ;;
-      *) open='' ;;
+      *) if [ -t 0 ]; then sleep 0.5; else open=''; fi ;; # in the background of a terminal it may come back
     esac
   done
 }
