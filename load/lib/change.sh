@@ -143,19 +143,21 @@ ask() {
 
 # Reads what is typed until there is a decision. Without a terminal a user decides elsewhere, or the time limit.
 wait_for_decision() {
-  local word status open=yes
+  local word line='' status open=yes
   while ! is_decided; do
     if ! kill -0 "$guard" 2>/dev/null; then decide back; return; fi # nobody else would go back
     if [ -z "$open" ]; then sleep 0.5; continue; fi
     word='' status=0
     read -r -t 1 word 2>/dev/null || status=$?
+    line+=$word # a line can come in parts
     if [ "$status" -gt 128 ]; then continue; fi
-    case $status:$word:$local in
+    case $status:$line:$local in
       0:yes:) decide kept ;;
       0:yes:*) say "this login may predate the rules: log in again, and run there: $self --confirm" ;;
       0:*) decide back ;;
       *) if [ -t 0 ]; then sleep 0.5; else open=''; fi ;; # in the background of a terminal it may come back
     esac
+    line=''
   done
 }
 
