@@ -47,16 +47,25 @@ copy_description() {
   note_writers "$file"
 }
 
-# Names a file or its folder if a user other than root may change it.
+# Names a file, or a folder on the way to it, if a user other than root may change it.
 note_writers() {
-  local path each mode owner
-  path=$(readlink -f -- "$1")
-  for each in "$path" "$(dirname -- "$path")"; do
+  local each mode owner
+  while IFS= read -rd '' each; do
+    if [ -L "$each" ]; then continue; fi # what it leads to is another path
     read -r mode owner < <(stat -c '%A %u' "$each")
     if [ "$owner" != 0 ]; then note "$each is owned by a user other than root, who can change the loaded rules"
-    elif [[ $mode == ?????w???? || $mode == ????????w[^tT] ]]; then
+    elif [[ $mode == ?????w???[^tT] || $mode == ????????w[^tT] ]]; then
       note "$each is writable by users other than root, who can change the loaded rules"
     fi
+  done < <({ path_to "$(realpath -ms -- "$1")"; path_to "$(readlink -f -- "$1")"; } | sort -zu)
+}
+
+# Prints a path and the folders that lead to it.
+path_to() {
+  local path=$1
+  until [ "$path" = / ]; do
+    printf '%s\0' "$path"
+    path=$(dirname -- "$path")
   done
 }
 
