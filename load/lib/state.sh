@@ -164,9 +164,10 @@ result_status() { readlink "$state/result" | sed 's/ .*//'; }
 
 # Writes a line into the journal: what happened, who asked for it, and the digests of the texts and of the description.
 record() {
-  local who=${SUDO_USER:-$(id -un)}
+  local who=${SUDO_USER:-$(id -un)} line
   if ! command -v logger >/dev/null; then return; fi
-  timeout 5 logger -t topos-load -- "$1 (by $who, loginuid $(login_of); $backend${digests:-$(digests_now)}; $words_given)" 2>/dev/null
+  line="$1 (by $who, loginuid $(login_of); $backend${digests:-$(digests_now)}; $words_given)"
+  timeout 5 logger -t topos-load -- "${line//[[:cntrl:]]/?}" 2>/dev/null
 }
 
 # Prints the digests of the table before, of the rules and of the description.
