@@ -86,7 +86,7 @@ carry_out() {
 }
 
 # Whether iptables accepts the change.
-takes_change() { change "$was" "$loaded" | "$restore" --noflush --test; }
+takes_change() { change "$was" "$loaded" | "$restore" --noflush --wait 10 --test; }
 
 # Makes the change, and deletes old connections. `made` says that it came to its end.
 make_change() {
