@@ -90,8 +90,11 @@ keep_old() {
 
 # Saves what a change leaves, once it is kept.
 settle() {
-  local digests
+  local digests now words=kept
   digests=$(digests_now)
+  if [ -e "$state/asked" ] && ! { now=$(filter_now) && is_same_text "$now" "$loaded"; }; then
+    words="kept, but another tool has changed $changed since the load"
+  fi
   if [ -e "$state/staying" ]; then mv "$state/staying" "$stayed"; else rm -f "$stayed"; fi
   case $(cat "$state/settle") in
     first) keep_old "$first"; rename_state "$state/before" "$first" && mv "$state/rules" "$last" ;;
@@ -99,7 +102,7 @@ settle() {
     unknown) keep_old "$first"; mv "$state/rules" "$last" ;;
     nothing) rm -f "$first" "$(older_of "$first")" "$last" "$stayed" ;;
   esac
-  finish 0 kept
+  finish 0 "$words"
 }
 
 # Lists the saved states: the time, the size in bytes and the name of each file.
