@@ -55,10 +55,11 @@ find_tools() {
 
 # Whether the program may be run: it exists, and a list beside it says that it was proved. If not, `reason` says why.
 is_program_there() {
-  local built=${self%/*/*}/out/topos
+  local built=${self%/*/*}/out/topos beside=${self%/*}/topos
   if [ -n "$program" ]; then :
   elif [ -x "$built" ]; then program=$built
   elif [ -n "${TOPOS:-}" ]; then program=$TOPOS
+  elif [ -x "$beside" ]; then program=$beside # cron does not search /usr/local/bin
   else program=topos; fi
   reason="cannot find $program"
   command -v "$program" >/dev/null || return 1
