@@ -95,6 +95,9 @@ table_of() {
   if command -v "iptables-$1-save" >/dev/null; then "iptables-$1-save" -t "$2" 2>/dev/null; fi
 }
 
+# Prints the tables of the back end legacy that no tool can read.
+unread_tables() { if ! command -v iptables-legacy-save >/dev/null; then paste -s -d ' ' /proc/net/ip_tables_names 2>/dev/null; fi; }
+
 # Prints the other tables of iptables that have a line which matches: `the table TABLE (BACK END)` each.
 tables_with() {
   local each
@@ -121,6 +124,8 @@ note_tables() {
   if grep -q '^# Table .filter. is incompatible' <<<"$found"; then
     note "the table filter has rules in the back end $other that iptables cannot read: $both"
   fi
+  found=$(unread_tables)
+  if [ -n "$found" ]; then note "the back end legacy has tables, and iptables-legacy-save is not installed: $both ($found)"; fi
   while read -r each; do
     note "$each has rules: the proof does not cover packets that it rewrites or drops"
   done < <(tables_with '^-A ')
@@ -189,6 +194,7 @@ others_that_drop() {
     if grep -q "^:$each DROP " <<<"$found"; then echo "$each in the back end $other (policy drop)"
     elif grep -q "^-A $each " <<<"$found"; then echo "$each in the back end $other (has rules)"; fi
   done
+  unread_tables | sed 's/^/the back end legacy (iptables-legacy-save is not installed): /'
   tables_with '^:[A-Z]+ DROP |^-A .*-j (DROP|REJECT|NOTRACK|CT --notrack)' | sed 's/$/ (has rules that drop)/'
 }
 
