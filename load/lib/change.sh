@@ -171,13 +171,14 @@ tell_end() {
   exit "$(result_status)"
 }
 
-# Waits until the load has ended. This process ends the load if its guard is gone, or, with --confirm and --back, if the
-# lock is free: then all processes of the load are gone, and the tools that they started.
+# Waits until the load has ended: ten minutes, or one if its folder is gone. This process ends the load if its guard is
+# gone, or, with --confirm and --back, if the lock is free: then all processes of the load are gone, and the tools that they
+# started.
 is_told() {
   local tries=0
   until [ -L "$state/result" ]; do
     tries=$((tries + 1))
-    if [ "$tries" -gt 600 ]; then return 1; fi
+    if [ "$tries" -gt 6000 ] || { [ "$tries" -gt 600 ] && ! [ -d "$state" ]; }; then return 1; fi
     case $action in
       confirm | back) if flock -n 9; then end_in_place; fi ;;
       *) if [ -n "$guard" ] && ! kill -0 "$guard" 2>/dev/null; then end_unguarded; fi ;;
