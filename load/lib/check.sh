@@ -101,6 +101,10 @@ compare_rules() {
     return
   fi
   forwarding_rules "$1" >"$folder/compared"
+  if [ -n "$(misread_rules "$(chains_of "$folder/compared")")" ]; then
+    say "verdict: cannot determine whether these rules implement $file: $save prints some nft rules as different rules"
+    return
+  fi
   "$query" compare iptables "$folder/rules.description" "$folder/compared" >"$folder/found" 2>"$folder/refused" || status=$?
   case $status in
     0) say "verdict: these rules differ from those of topos, but implement $file" ;;
@@ -114,6 +118,9 @@ compare_rules() {
       say "verdict: cannot determine whether these rules implement $file" ;;
   esac
 }
+
+# Prints the pattern of the chains that have rules in a file.
+chains_of() { sed -n 's/^-A \([^ ]*\) .*/\1/p' "$1" | sort -u | sed 's/[^A-Za-z0-9_-]/[&]/g' | paste -s -d '|'; }
 
 # Prints how many pairs of hosts a list has.
 number_of_pairs() {

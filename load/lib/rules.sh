@@ -85,11 +85,11 @@ save_filter() {
   exit 69
 }
 
-# Prints a command for each nft rule in the replaced chains that iptables prints as a different rule: it omits sets, prints
-# a range of addresses as its last address, and only the last of two matches on an address.
+# Prints a command for each nft rule in chains, by default the replaced ones, that iptables prints as a different rule: it
+# omits sets, prints a range of addresses as its last address, and only the last of two matches on an address.
 misread_rules() {
   if [ "$backend" = legacy ] || ! command -v nft >/dev/null; then return; fi
-  nft -t --debug=netlink list table ip filter 2>/dev/null | awk -v ours="^($entries|$chains)$" '
+  nft -t --debug=netlink list table ip filter 2>/dev/null | awk -v ours="^(${1:-$entries|$chains})$" '
     /^ip filter / { rule = $3 ~ ours ? $3 " handle " $4 : ""; split("", loaded); next }
     rule == "" || !/^  \[ / { next }
     / load / { field = $0; sub(/load [0-9]+b/, "load", field); again = loaded[field]++ }
