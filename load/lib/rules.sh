@@ -78,18 +78,18 @@ read_filter() { filter_now | cat >"$1"; }
 save_filter() {
   local found
   read_filter "$1" || refuse "$save cannot read the table filter, or not all nft rules in it: nothing is changed"
-  found=$(misread_rules)
+  found=$(misread_rules "$entries|$chains")
   if [ -z "$found" ]; then return; fi
   say "$save prints some nft rules as different rules: nothing is changed. These commands remove them:"
   printf '%s\n' "$found" >&2
   exit 69
 }
 
-# Prints a command for each nft rule in chains, by default the replaced ones, that iptables prints as a different rule: it
-# omits sets, prints a range of addresses as its last address, and only the last of two matches on an address.
+# Prints a command for each nft rule in some chains that iptables prints as a different rule: it omits sets, prints a range
+# of addresses as its last address, and only the last of two matches on an address.
 misread_rules() {
   if [ "$backend" = legacy ] || ! command -v nft >/dev/null; then return; fi
-  nft -t --debug=netlink list table ip filter 2>/dev/null | awk -v ours="^(${1:-$entries|$chains})$" '
+  nft -t --debug=netlink list table ip filter 2>/dev/null | awk -v ours="^($1)$" '
     /^ip filter / { rule = $3 ~ ours ? $3 " handle " $4 : ""; split("", loaded); next }
     rule == "" || !/^  \[ / { next }
     / load / { field = $0; sub(/load [0-9]+b/, "load", field); again = loaded[field]++ }
