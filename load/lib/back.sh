@@ -80,8 +80,9 @@ end_as_decided() {
   esac
 }
 
-# Goes back to the text `was`, and does not give up. From the third try on, rules that the kernel rejects are left out. At
-# the sixth one a machine that may be locked out is opened. On a firewall the guard goes on, and says that it could not yet.
+# Goes back to the text `was`, and does not give up. From the third try on, rules that the kernel rejects are left out, and if
+# iptables cannot read the table, which has nft rules by then, the rules of the load are taken for it. At the sixth one a
+# machine that may be locked out is opened. On a firewall the guard goes on, and says that it could not yet.
 go_back() {
   local tries=0 now target='' changed_back='' reason='' flush='' told=$as_before
   local -a refused=()
@@ -93,6 +94,7 @@ go_back() {
       if [ "$tries" -ge 2 ]; then flush=yes; fi
       if [ "$tries" -ge 3 ]; then leave_out; fi
       if load_change "$now" "$target" back; then changed_back=yes; fi
+    elif [ "$tries" -ge 3 ] && flush=yes load_change "$loaded" "$was" back; then changed_back=yes; break
     fi
     tries=$((tries + 1))
     if [ "$tries" -ge 6 ] && cannot_go_back "$tries"; then return; fi
