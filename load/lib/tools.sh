@@ -59,7 +59,7 @@ is_program_there() {
   if [ -n "$program" ]; then :
   elif [ -x "$built" ]; then program=$built
   elif [ -n "${TOPOS:-}" ]; then program=$TOPOS
-  elif [ -x "$beside" ]; then program=$beside # cron does not search /usr/local/bin
+  elif [ -f "$beside" ] && [ -x "$beside" ]; then program=$beside # cron does not search /usr/local/bin
   else program=topos; fi
   reason="cannot find $program"
   command -v "$program" >/dev/null || return 1
