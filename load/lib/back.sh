@@ -22,11 +22,8 @@ await_changes() { flock 8 && flock -u 8; }
 
 # Starts the process that goes back, and waits until it is ready.
 start_guard() {
-  local words=(--guard --wait "$seconds" --backend "$backend") tries=0
-  if [ -n "$keep" ]; then words+=(--keep-connections); fi
-  if [ -n "$local" ]; then words+=(--local); fi
-  if [ -n "$program" ]; then words+=(--program "$program"); fi
-  if [ -n "$unproved" ]; then words+=("$unproved"); fi
+  local words=(--guard --wait "$seconds" --backend "$backend" ${keep:+--keep-connections} ${local:+--local}
+    ${program:+--program "$program"} ${unproved:+"$unproved"}) tries=0
   TOPOS_LOAD=$$ setsid "$self" "${words[@]}" </dev/null >>"$state/log" 2>&1 &
   guard=$!
   disown "$guard" # no message of bash where it is killed
