@@ -96,7 +96,9 @@ table_of() {
 }
 
 # Prints the tables of the back end legacy that no tool can read.
-unread_tables() { if ! command -v iptables-legacy-save >/dev/null; then paste -s -d ' ' /proc/net/ip_tables_names 2>/dev/null; fi; }
+unread_tables() {
+  if ! command -v iptables-legacy-save >/dev/null; then paste -s -d ' ' /proc/net/ip_tables_names 2>/dev/null; fi
+}
 
 # Prints the other tables of iptables that have a line which matches: `the table TABLE (BACK END)` each.
 tables_with() {
