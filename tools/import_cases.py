@@ -74,6 +74,7 @@ CASES = (
          {A: NONE, B: BOTH}),
     Case('-A FORWARD -m string --string "-j DROP" --algo bm -j DROP\n-A FORWARD -j ACCEPT', {A: DOUBT}),
     Case('-A FORWARD -m unheard --of 1 -j ACCEPT', {A: DOUBT}),
+    Case('-A FORWARD -m policy --dir in --pol ipsec --reqid 1 --proto esp -j ACCEPT', {A: DOUBT, ESP: DOUBT}),
     Case('-A FORWARD -g c\n-A FORWARD -j ACCEPT\n-A c -s 10.1.0.0/16 -j ACCEPT', {A: BOTH, B: NONE}),
     Case('-A FORWARD -j c\n-A FORWARD -s 10.2.0.0/16 -j ACCEPT\n-A c -g d\n-A c -j ACCEPT\n'
          '-A d -s 10.1.0.0/16 -j ACCEPT', {A: BOTH, B: BOTH, C: NONE}),

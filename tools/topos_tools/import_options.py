@@ -10,7 +10,7 @@ from .import_words import PROTOCOLS, Refused, Word, address_range, addresses, de
 
 SPELLINGS = {
     '--source': '-s', '--src': '-s', '--destination': '-d', '--dst': '-d', '--in-interface': '-i',
-    '--out-interface': '-o', '--protocol': '-p', '--proto': '-p', '--match': '-m', '--jump': '-j', '--goto': '-g',
+    '--out-interface': '-o', '--protocol': '-p', '--match': '-m', '--jump': '-j', '--goto': '-g',
     '--fragment': '-f', '--source-port': '--sport', '--destination-port': '--dport', '--source-ports': '--sports',
     '--destination-ports': '--dports', '--set-counters': '-c', '--append': '-A'}
 KNOWN_MODULES = {'addrtype', 'icmp', 'tcp', 'udp', 'conntrack', 'state', 'comment', 'multiport', 'iprange', 'set'}
