@@ -61,6 +61,7 @@ CASES = (
     Case('-A FORWARD -p sctp -m multiport --dports 80 -j ACCEPT', {'10.1.0.7 8.8.8.8 132 1 80': DOUBT, A: NONE}),
     Case('-A FORWARD ! -p tcp -j ACCEPT', {A: NONE, DNS: BOTH, ESP: BOTH}),
     Case('-A FORWARD -p gre -j ACCEPT', {'10.1.0.7 8.8.8.8 47 0 0': BOTH, ESP: NONE}),
+    Case('-A FORWARD -p ipip -j ACCEPT', {'10.1.0.7 8.8.8.8 94 0 0': BOTH, '10.1.0.7 8.8.8.8 4 0 0': NONE}),
     Case('-A FORWARD -m iprange --src-range 10.1.0.3-10.1.0.7 -j ACCEPT',
          {A: BOTH, B: NONE, '10.1.0.8 1.1.1.1 50 0 0': NONE}),
     Case('-A FORWARD -m iprange ! --src-range 10.1.0.3-10.1.0.7 -j ACCEPT', {A: NONE, B: BOTH}),
