@@ -82,7 +82,7 @@ def read_sets(text: str) -> dict[str, Numbers]:
     kinds: dict[str, str] = {}
     entries: dict[str, list[tuple[Numbers, bool]]] = {}
     for number, line in enumerate(text.splitlines(), 1):
-        words = [word.text for word in words_of(line)]
+        words = [word.text for word in words_of(line) if not word.is_quoted]  # without comments
         if words and words[0] not in ('create', 'add') and not words[0].startswith('#'):
             raise Refused(f'sets: line {number}: {line.strip()[:100]!r}')
         if words[:1] == ['create'] and len(words) > 2 and _is_plain(words[2], words[3:]):
