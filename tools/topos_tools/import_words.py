@@ -13,7 +13,8 @@ ESCAPED = re.compile(r'\\(.)', re.DOTALL)
 PROTOCOLS = {
     'icmp': 1, 'igmp': 2, 'ipencap': 4, 'tcp': 6, 'egp': 8, 'udp': 17, 'dccp': 33, 'ipv6': 41, 'rsvp': 46,
     'gre': 47, 'esp': 50, 'ipv6-crypt': 50, 'ah': 51, 'ipv6-auth': 51, 'icmpv6': 58, 'ipv6-icmp': 58, 'eigrp': 88,
-    'ospf': 89, 'ipip': 94, 'pim': 103, 'vrrp': 112, 'l2tp': 115, 'sctp': 132, 'mh': 135, 'ipv6-mh': 135, 'udplite': 136}
+    'ospf': 89, 'ipip': 94, 'pim': 103, 'vrrp': 112, 'l2tp': 115, 'sctp': 132, 'mh': 135, 'ipv6-mh': 135,
+    'udplite': 136}
 
 
 class Refused(Stopped):
