@@ -117,8 +117,8 @@ def other_lines(save: Save) -> Iterator[str]:
 def effect_of(rule: OtherRule) -> str | None:
     if rule.target in STOPPING and rule.chain not in ('INPUT', 'OUTPUT'):
         return 'drops packets, so the box may forward less than lower'
-    if rule.target == 'NOTRACK' or rule.target == 'CT' and '--notrack' in rule.text:
-        return 'exempts packets from tracking, so states are in doubt'
+    if rule.changes_tracking():
+        return 'exempts packets from tracking, or puts them into a zone, so states are in doubt'
     return REWRITES.get(rule.target)
 
 

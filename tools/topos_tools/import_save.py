@@ -14,7 +14,6 @@ Given = tuple[int, str, list[Word]]  # number, text and words of a rule
 
 BUILT_IN = ('INPUT', 'FORWARD', 'OUTPUT')
 COUNTS = re.compile(r'\[\d+:\d+\]')
-NOT_TRACKED = re.compile(r'-[jg] (?:NOTRACK|CT .*--notrack)')
 CHANGED_SET = re.compile(r'--(?:add|del|map)-set (\S+)')
 MARK = '# topos-import '  # the head of a text that `topos-import` wrote
 
@@ -36,6 +35,10 @@ class OtherRule:
     chain: str
     target: str
     text: str
+
+    def changes_tracking(self) -> bool:
+        """Whether packets are exempt from tracking, or tracked in a zone, in which their answers may not be."""
+        return self.target == 'NOTRACK' or self.target == 'CT' and ('--notrack' in self.text or '--zone' in self.text)
 
 
 @dataclass
@@ -142,7 +145,7 @@ class Save:
         self.context = Context(set(table.chains) - set(BUILT_IN), interfaces,
                                {name: each for name, each in (sets or {}).items() if name not in changed},
                                written if 'nat' in tables.names else ALL_ADDRESSES,
-                               any(NOT_TRACKED.search(each.text) for each in self.others), is_syn_first)
+                               any(each.changes_tracking() for each in self.others), is_syn_first)
         self.rules: dict[str, list[Rule]] = {}
         self.read_rules(table)
         self.left = {chain: len(rules) for chain, rules in table.chains.items() if chain not in self.rules}
