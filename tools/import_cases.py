@@ -108,6 +108,8 @@ CASES = (
     Case('-A FORWARD -m conntrack --ctstate DNAT -j ACCEPT', {A: DOUBT}),
     Case(f'-A FORWARD -m conntrack --ctstate DNAT -j ACCEPT{NAT}',
          {A: NONE, C: DOUBT, '8.8.8.8 10.1.0.9 udp 1 1': NONE}),
+    Case('-A FORWARD -m conntrack --ctstate DNAT -j ACCEPT\nCOMMIT\n*nat\n'
+         '-A PREROUTING --jump DNAT --to-destination 10.1.0.7', {A: NONE, C: DOUBT}),
     Case(f'-A FORWARD -m conntrack --ctstate DNAT,SNAT -j ACCEPT{NAT}', {A: DOUBT}),
     Case(f'-A FORWARD -m conntrack ! --ctstate DNAT -j ACCEPT{NAT}', {A: DOUBT}),
     Case(f'-A FORWARD -i eth7 -m state --state NEW,DNAT -j ACCEPT{NAT}', {A: DOUBT}),

@@ -13,6 +13,7 @@ from .import_words import Refused, Word, words_of
 Given = tuple[int, str, list[Word]]  # number, text and words of a rule
 
 BUILT_IN = ('INPUT', 'FORWARD', 'OUTPUT')
+TARGET_FLAGS = ('-j', '--jump', '-g', '--goto')
 COUNTS = re.compile(r'\[\d+:\d+\]')
 CHANGED_SET = re.compile(r'--(?:add|del|map)-set (\S+)')
 MARK = '# topos-import '  # the head of a text that `topos-import` wrote
@@ -105,7 +106,7 @@ class Tables:
             return
         given = words_at(number, line)
         targets = [word.text for flag, word in zip(given, given[1:])
-                   if not flag.is_quoted and flag.text in ('-j', '-g')]
+                   if not flag.is_quoted and flag.text in TARGET_FLAGS]
         if targets and len(given) > 1:
             self.others.append(OtherRule(number, self.table, given[1].text, targets[-1], line))
 
