@@ -16,6 +16,7 @@ BUILT_IN = ('INPUT', 'FORWARD', 'OUTPUT')
 TARGET_FLAGS = ('-j', '--jump', '-g', '--goto')
 COUNTS = re.compile(r'\[\d+:\d+\]')
 CHANGED_SET = re.compile(r'--(?:add|del|map)-set (\S+)')
+WARNING = re.compile("# (?:Warning|Table `([a-z]+)' (?:is|contains) incompatible)")
 MARK = '# topos-import '  # the head of a text that `topos-import` wrote
 
 
@@ -56,6 +57,7 @@ class Tables:
     def __init__(self, text: str) -> None:
         self.others: list[OtherRule] = []
         self.names: set[str] = set()
+        self.unread: set[str | None] = set()  # tables that iptables cannot list, or not whole
         self.notes: list[str] = []
         self.filters: list[Filter] = []
         self.table = ''
@@ -64,7 +66,7 @@ class Tables:
         if self.table:
             raise Refused(f'the table {self.table} has no COMMIT: the text is cut off')
         if not self.filters:
-            raise Refused('there is no table filter')
+            raise Refused('; '.join(['there is no table filter', *self.notes]))
 
     def read_line(self, number: int, line: str) -> None:
         if line.startswith('#'):
@@ -85,8 +87,10 @@ class Tables:
     def read_remark(self, number: int, line: str) -> None:
         if 'ip6tables-save' in line:
             raise Refused(f'line {number}: rules for IPv6')
-        if line.startswith('# Warning'):
+        warning = WARNING.match(line)
+        if warning:
             self.notes.append(f'line {number}: {line[2:]}')
+            self.unread.add(warning[1])
 
     def begin_table(self, number: int, table: str) -> None:
         if self.table:
@@ -145,8 +149,9 @@ class Save:
         written = written_receivers((each.target, each.text) for each in self.others if each.table == 'nat')
         self.context = Context(set(table.chains) - set(BUILT_IN), interfaces,
                                {name: each for name, each in (sets or {}).items() if name not in changed},
-                               written if 'nat' in tables.names else ALL_ADDRESSES,
-                               any(each.changes_tracking() for each in self.others), is_syn_first)
+                               written if 'nat' in tables.names - tables.unread else ALL_ADDRESSES,
+                               'raw' in tables.unread or any(each.changes_tracking() for each in self.others),
+                               is_syn_first)
         self.rules: dict[str, list[Rule]] = {}
         self.read_rules(table)
         self.left = {chain: len(rules) for chain, rules in table.chains.items() if chain not in self.rules}
