@@ -266,7 +266,7 @@ class RuleReader:
     def match_flags(self, mask: str, flags: str) -> None:
         masked, wanted = (ALL_FLAGS if word == 'ALL' else set(word.split(',')) - {'NONE'} for word in (mask, flags))
         reason = f'tcp-flags {mask} {flags}'
-        may_match = masked & {'SYN'} == wanted & DECIDED_FLAGS
+        may_match = wanted <= masked and masked & {'SYN'} == wanted & DECIDED_FLAGS
         if not self.context.is_syn_first or may_match and masked - DECIDED_FLAGS:
             self.doubt(reason)
             return
