@@ -97,6 +97,7 @@ CASES = (
     Case('-A FORWARD -p tcp --syn -j ACCEPT', {A: BOTH, DNS: NONE}, syn=True),
     Case('-A FORWARD -p tcp -m tcp --tcp-flags SYN,PSH SYN -j ACCEPT', {A: DOUBT}, syn=True),
     Case('-A FORWARD -p tcp -m tcp --tcp-flags SYN SYN,PSH -j ACCEPT', {A: NONE}, syn=True),
+    Case('-A FORWARD -p tcp -m tcp --tcp-flags 0x17 0x02 -j ACCEPT', {A: DOUBT}, syn=True),
     Case('-A FORWARD -p icmp -m icmp --icmp-type 3 -j ACCEPT\n-A FORWARD -p icmp -m icmp --icmp-type any -s 8.0.0.0/8'
          ' -j ACCEPT', {PING: NONE, OTHER: BOTH}),
     Case('-A FORWARD -p icmp -m icmp --icmp-type 8 -j ACCEPT', {PING: DOUBT, A: NONE}),

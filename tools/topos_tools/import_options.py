@@ -267,7 +267,8 @@ class RuleReader:
         masked, wanted = (ALL_FLAGS if word == 'ALL' else set(word.split(',')) - {'NONE'} for word in (mask, flags))
         reason = f'tcp-flags {mask} {flags}'
         may_match = wanted <= masked and masked & {'SYN'} == wanted & DECIDED_FLAGS
-        if not self.context.is_syn_first or may_match and masked - DECIDED_FLAGS:
+        is_known = self.context.is_syn_first and masked | wanted <= ALL_FLAGS
+        if not is_known or may_match and masked - DECIDED_FLAGS:
             self.doubt(reason)
             return
         is_matched = may_match is not self.is_negated
