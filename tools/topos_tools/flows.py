@@ -64,7 +64,7 @@ def list_flows(words: list[str], values: dict[str, str], options: set[str]) -> i
     if '--json' in values:
         write_text(values['--json'], data_text(listing.tree()))
     if '--against' in options:
-        found = differences(listing, permitted(programs, description, omitted), owned)
+        found = differences(listing, permitted(programs, description, omitted), omitted, owned)
         write_text(None, lines_text(found or ['equal']))
         return DIFFERS if found else 0
     notes = [*parts_of_hosts(save, owned), *(f'# {each}' for each in remedies(save, save.all_rules()))] if save else []

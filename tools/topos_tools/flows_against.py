@@ -23,19 +23,21 @@ def size(numbers: Numbers) -> int:
     return sum(high - low + 1 for low, high in numbers)
 
 
-def differences(listing: Listing, flows: dict[Pair, Numbers], owned: dict[str, Numbers]) -> list[str]:
+def differences(listing: Listing, flows: dict[Pair, Numbers], omitted: Numbers, owned: dict[str, Numbers]) -> list[str]:
     """Returns a line for each pair that differs: most services first, then most senders, on either side."""
     found: list[tuple[bool, int, int, str]] = []
     for pair in listing.pairs():
-        for services, line in lines_of(listing, pair, flows.get(pair, ())):
+        for services, line in lines_of(listing, pair, flows.get(pair, ()), omitted):
             found.append((line.startswith('description'), -size(services), -size(owned[pair[0]]), line))
     return [each[-1] for each in sorted(found, key=lambda each: each[:-1])]
 
 
-def lines_of(listing: Listing, pair: tuple[str, str], services: Numbers) -> Iterator[tuple[Numbers, str]]:
+def lines_of(listing: Listing, pair: tuple[str, str], services: Numbers,
+             omitted: Numbers) -> Iterator[tuple[Numbers, str]]:
     """Yields what the rules may let pass and the description does not permit, and the other way round."""
     arrow = f'{pair[0]} -> {pair[1]}'
-    open_ = difference(listing.upper.any(pair), services)
+    left_out = () if listing.upper.whole(pair) == ALL_SERVICES else omitted
+    open_ = difference(listing.upper.any(pair), joined(services + left_out))
     if open_:
         parts = [part for part in listing.upper.pairs[pair] if intersection(part.services, open_)]
         lines = lines_text({line for part in parts for line in part.lines})
