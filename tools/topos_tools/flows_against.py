@@ -41,8 +41,8 @@ def lines_of(listing: Listing, pair: tuple[str, str], services: Numbers,
     if open_:
         parts = [part for part in listing.upper.pairs[pair] if intersection(part.services, open_)]
         lines = lines_text({line for part in parts for line in part.lines})
-        yield open_, (f'rules alone: {arrow}: {told_services(open_)}{limits(listing, pair, open_)} ({lines}), '
-                      f'as {parts[0].passes}')
+        example = next((f', as {each}' for part in parts if (each := part.example(open_))), '')
+        yield open_, f'rules alone: {arrow}: {told_services(open_)}{limits(listing, pair, open_)} ({lines}){example}'
     closed = difference(services, listing.lower.whole(pair))
     if closed:
         yield closed, f'description alone: {arrow}: {told_services(closed)}{limits(listing, pair, closed)}'

@@ -3,10 +3,10 @@ import re
 from dataclasses import dataclass
 from typing import Any
 
-from .flows_services import ALL_SERVICES, number_of
+from .flows_services import ALL_SERVICES, PORTS, number_of
 from .import_bounds import Bound
 from .import_save import MARK, Save
-from .import_sets import Numbers, is_subset, joined
+from .import_sets import Numbers, intersection, is_subset, joined, single
 from .query import Programs, Stopped
 
 Pair = tuple[str | None, str | None]  # None is for the addresses of no host
@@ -22,6 +22,17 @@ class Range:
     passes: str
     drops: str | None  # if some packets of the services do not pass
     lines: tuple[int, ...]
+    shown: int  # the service of `passes`
+
+    def example(self, services: Numbers) -> str | None:
+        """Returns a packet of the services that passes, if one is known: if none is dropped, every packet passes."""
+        shared = intersection(self.services, services)
+        if is_subset(single(self.shown), shared):
+            return self.passes
+        if not shared or self.drops is not None:
+            return None
+        protocol, port = divmod(shared[0][0], PORTS)
+        return f'{" ".join(self.passes.split()[:3])} {PROTOCOLS.get(protocol, protocol)} 0 {port}'
 
 
 @dataclass
@@ -94,8 +105,9 @@ def range_of(part: dict[str, Any], places: Places) -> Range:
         raise Stopped('the answer of topos-query names a rule that the text does not have')
     lines = {places[place] for place in rules} | ({POLICY} if part.get('default') else set())
     drops = None if part['drops'] is None else event_of(part['drops'])
-    return Range(((number_of(part['low']), number_of(part['high'])),), event_of(part['passes']), drops,
-                 tuple(sorted(lines)))
+    passes = part['passes']
+    return Range(((number_of(part['low']), number_of(part['high'])),), event_of(passes), drops, tuple(sorted(lines)),
+                 number_of([passes['proto'], passes['dport']]))
 
 
 def event_of(packet: dict[str, Any]) -> str:
