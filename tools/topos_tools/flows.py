@@ -5,7 +5,7 @@ from .flows_hosts import interfaces_of_hosts, owned_addresses, parts_of_hosts, p
 from .flows_list import Listing
 from .flows_services import of_list
 from .import_files import file_name, import_save, read_text
-from .import_report import remedies
+from .import_report import caveats, remedies
 from .import_save import Save
 from .import_sets import Numbers
 from .query import (READS_ANSWERS, USAGE, Programs, Stopped, Tool, data_text, lines_text, need_words, read_bytes,
@@ -53,6 +53,12 @@ def omitted_services(values: dict[str, str]) -> Numbers:
         raise Stopped(f'--omit: no list of services: {values["--omit"]}', USAGE) from None
 
 
+def notes_on(save: Save, owned: dict[str, Numbers]) -> list[str]:
+    """Returns comments on hosts that rules split, on missing files, and on what the bounds leave out."""
+    told = [*remedies(save, save.all_rules()), *caveats(save)]
+    return [*parts_of_hosts(save, owned), *(f'# {each}' for each in told)]
+
+
 def list_flows(words: list[str], values: dict[str, str], options: set[str]) -> int:
     programs, description, text = Programs.find(values.get('--program')), read_bytes(words[0]), read_text(words[1])
     hosts = {each['name']: each.get('at', []) for each in programs.table(description).get('host', [])}
@@ -67,7 +73,7 @@ def list_flows(words: list[str], values: dict[str, str], options: set[str]) -> i
         found = differences(listing, permitted(programs, description, omitted), omitted, owned)
         write_text(None, lines_text(found or ['equal']))
         return DIFFERS if found else 0
-    notes = [*parts_of_hosts(save, owned), *(f'# {each}' for each in remedies(save, save.all_rules()))] if save else []
+    notes = notes_on(save, owned) if save else []
     notes += [f'# left out, except where all services pass: {values["--omit"]}'] if omitted else []
     write_text(None, listing.text(file_name(words[1]), file_name(words[0]), notes))
     return 0

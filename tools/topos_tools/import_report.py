@@ -28,8 +28,12 @@ def report(save: Save, name: str) -> list[str]:
     return [f'{name}: rules that FORWARD leads to: exact {exact}, in doubt {len(doubtful)}, never {len(never)}, '
             f'without effect {len(idle)}',
             *left_lines(save), *doubtful_lines(save, doubtful), *never_lines(never), *idle_lines(idle),
-            *related_lines(rules), *type_lines(rules), *shadowed_lines(save), *other_lines(save), *save.notes,
-            *route_lines(save), *list_lines(save)]
+            *related_lines(rules), *type_lines(rules), *shadowed_lines(save), *caveats(save), *list_lines(save)]
+
+
+def caveats(save: Save) -> list[str]:
+    """Returns lines on what the bounds leave out: other tables, warnings of the save, and other routes."""
+    return [*other_lines(save), *save.notes, *route_lines(save)]
 
 
 def shown(rule: Rule) -> str:
