@@ -235,7 +235,7 @@ WRONG = (
     ('the shortest prefix has an address', 'tables',
      'sorted(routes.items(), key=lambda route:', 'sorted(routes.items(), key=lambda route: -1 *'),
     ('nomatch is taken first', 'tables',
-     'key=lambda each: each[0][0][0] - each[0][0][1]', 'key=lambda each: each[0][0][1] - each[0][0][0]'),
+     'entry[0][0] - entry[0][1]', 'entry[0][1] - entry[0][0]'),
     ('a mask of a set is forgotten', 'tables', 'WITH_VALUE = {', "WITH_VALUE = {'netmask', "),
     ('a changed set is sure', 'save', 'if name not in changed}', '}'),
     ('untracked packets have a state', 'save', 'any(each.changes_tracking() for each in self.others)', 'False'),

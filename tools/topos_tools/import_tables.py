@@ -116,7 +116,10 @@ def _entry(kind: str, word: str) -> Numbers | None:
 
 def _addresses(entries: list[tuple[Numbers, bool]]) -> Numbers:
     """Returns the addresses of the entries. The longest prefix with an address decides, so it is taken last."""
+    by_size: dict[int, tuple[list[tuple[int, int]], list[tuple[int, int]]]] = {}
+    for entry, is_exception in entries:
+        by_size.setdefault(entry[0][0] - entry[0][1], ([], []))[is_exception].extend(entry)
     found: Numbers = ()
-    for entry, is_exception in sorted(entries, key=lambda each: each[0][0][0] - each[0][0][1]):
-        found = difference(found, entry) if is_exception else joined(found + entry)
+    for _, (members, exceptions) in sorted(by_size.items()):
+        found = difference(joined((*found, *members)), joined(exceptions))
     return found
