@@ -161,6 +161,15 @@ ACCEPTING = (  # whether every established packet is seen to be accepted
     (f'-A FORWARD -p tcp -j c\n-A FORWARD {EST} -j ACCEPT\n-A c -p tcp -j ACCEPT', True),
     (f'-A FORWARD -p tcp -j c\n-A FORWARD {EST} -j ACCEPT\n-A c -p tcp -j DROP', False),
     (f'-A FORWARD -j NFQUEUE\n-A FORWARD {EST} -j ACCEPT', False))
+SHADOWED = (  # conditions of a rule, those of a rule below, and whether no packet at all meets the second one
+    ('', '', True), ('', '-m state --state INVALID,NEW', True), ('-m state --state NEW,ESTABLISHED', '', False),
+    ('-m state --state NEW,ESTABLISHED', '-m state --state NEW', True),
+    ('-m state --state RELATED,ESTABLISHED', '-m state --state ESTABLISHED,RELATED', True),
+    ('-m state --state RELATED,ESTABLISHED', '-m state --state ESTABLISHED,INVALID', False),
+    ('-m state ! --state INVALID', '-m state --state NEW,RELATED', True), ('-m state ! --state INVALID', '', False),
+    ('-m state --state NEW,ESTABLISHED,DNAT', '-m state --state NEW,DNAT', False),
+    ('-p icmp -m icmp ! --icmp-type 3', '-p icmp', False), ('-p icmp', '-p icmp -m icmp ! --icmp-type 3', True),
+    ('-p icmp -m icmp ! --icmp-type 3', '-p icmp -m state --state NEW', True))
 HEAD = '*filter\n:FORWARD DROP [0:0]\n:c - [0:0]\n'
 REFUSED = (
     ('', 'no table filter'), ('*nat\nCOMMIT\n', 'no table filter'), ('iptables -A FORWARD -j DROP\n', 'not in a table'),

@@ -2,7 +2,7 @@
 from collections.abc import Callable
 from dataclasses import dataclass, field
 
-from .import_pieces import BOTH, ESTABLISHED, NEW, Action, Piece, Rule, in_doubt, in_states, restricted
+from .import_pieces import BOTH, ESTABLISHED, NEW, OTHERS, Action, Piece, Rule, in_doubt, in_states, restricted
 from .import_sets import ALL_ADDRESSES, MOST_ADDRESS, MOST_PORT, MOST_PROTOCOL, Numbers, complement, single
 from .import_tables import Interfaces
 from .import_types import addresses_of_types
@@ -18,8 +18,8 @@ VERDICTS = {'ACCEPT': Action.ACCEPT, 'DROP': Action.DROP, 'REJECT': Action.DROP,
 CONTINUING = set('''
     LOG NFLOG ULOG MARK CONNMARK SECMARK CONNSECMARK TCPMSS CLASSIFY DSCP TOS TTL SET TRACE CT NOTRACK AUDIT CHECKSUM
     TEE TCPOPTSTRIP ECN HL IDLETIMER LED RATEEST HMARK SYSRQ ACCOUNT LOGMARK'''.split())
-STATES = {'NEW', 'ESTABLISHED', 'RELATED', 'INVALID', 'UNTRACKED', 'SNAT', 'DNAT'}
-TRACKED_STATES = STATES - {'SNAT', 'DNAT'}
+TRACKED_STATES = BOTH | OTHERS
+WRITTEN_STATES = {'SNAT', 'DNAT'}
 ICMP_TYPES = {
     'echo-reply': 0, 'pong': 0, 'destination-unreachable': 3, 'source-quench': 4, 'redirect': 5, 'echo-request': 8,
     'ping': 8, 'router-advertisement': 9, 'router-solicitation': 10, 'time-exceeded': 11, 'ttl-exceeded': 11,
@@ -212,10 +212,14 @@ class RuleReader:
         """In the model a packet is new or established: other states never match."""
         word = self.value()
         names = set(word.upper().split(','))
-        if not names <= STATES:
+        if not names <= TRACKED_STATES | WRITTEN_STATES:
             raise ValueError(word)
+        if names & WRITTEN_STATES:
+            self.rule.is_partial = True
+        else:
+            self.rule.others &= OTHERS - names if self.is_negated else names
         matching = frozenset(BOTH & names)
-        unsure = frozenset(BOTH - names if names & {'SNAT', 'DNAT'} else ())
+        unsure = frozenset(BOTH - names if names & WRITTEN_STATES else ())
         if self.context.is_untracked and not names >= TRACKED_STATES:
             matching, unsure = frozenset(), BOTH
         if self.is_negated:
@@ -243,6 +247,7 @@ class RuleReader:
         if name in ('any', '255'):
             self.pieces = [] if self.is_negated else self.pieces
             return
+        self.rule.is_partial = True
         number = decimal(name, 255) if name[:1].isdigit() else ICMP_TYPES.get(name)
         if number is None:
             self.doubt(f'icmp-type {word}')
@@ -265,6 +270,7 @@ class RuleReader:
 
     def match_flags(self, mask: str, flags: str) -> None:
         masked, wanted = (ALL_FLAGS if word == 'ALL' else set(word.split(',')) - {'NONE'} for word in (mask, flags))
+        self.rule.is_partial = True
         reason = f'tcp-flags {mask} {flags}'
         may_match = wanted <= masked and masked & {'SYN'} == wanted & DECIDED_FLAGS
         is_known = self.context.is_syn_first and masked | wanted <= ALL_FLAGS

@@ -7,6 +7,7 @@ from .import_sets import ALL_ADDRESSES, ALL_PORTS, ALL_PROTOCOLS, Numbers, inter
 
 NEW, ESTABLISHED = 'NEW', 'ESTABLISHED'
 BOTH = frozenset((NEW, ESTABLISHED))
+OTHERS = frozenset(('RELATED', 'INVALID', 'UNTRACKED'))  # the states of packets that the model leaves out
 
 
 class Action(StrEnum):
@@ -65,6 +66,8 @@ class Rule:
     target: str = ''
     comment: str = ''
     never: str = ''  # why no new or established packet matches, if an option says so
+    others: frozenset[str] = OTHERS  # the states that the model leaves out and of which packets may match
+    is_partial: bool = False  # whether only some of the packets in these states match
     named: list[Numbers] = field(default_factory=list)  # the sets of addresses of its options, without interfaces
 
     def sure_pieces(self) -> list[Piece]:

@@ -94,20 +94,22 @@ def type_lines(rules: list[Rule]) -> Iterator[str]:
 
 
 def shadowed_lines(save: Save) -> Iterator[str]:
-    """Yields a line for each rule that rules above it in its chain leave no packet."""
+    """Yields a line for each rule that rules above it in its chain leave no packet, in any state."""
     for rules in save.rules.values():
-        above: list[tuple[Piece, int]] = []
+        above: list[tuple[Piece, int, frozenset[str]]] = []
         for rule in rules:
             if rule.action is Action.CONTINUE or not rule.pieces:
                 continue
             if len(above) > MOST_COMPARED:
                 yield f'not looked for below line {above[-1][1]}: rules that others shadow in its chain'
                 break
-            covering = [next((line for piece, line in above if piece.covers(part)), None) for part in rule.pieces]
+            covering = [next((line for piece, line, others in above if rule.others <= others and piece.covers(part)),
+                             None) for part in rule.pieces]
             if None not in covering:
                 yield f'shadowed: line {rule.line}: by ' + ' '.join(map(str, dict.fromkeys(covering)))
             if rule.action in VERDICTS:
-                above += [(piece, rule.line) for piece in rule.sure_pieces()]
+                others = frozenset() if rule.is_partial else rule.others
+                above += [(piece, rule.line, others) for piece in rule.sure_pieces()]
 
 
 def other_lines(save: Save) -> Iterator[str]:
