@@ -97,7 +97,7 @@ class Listing:
     def dead_lines(self) -> Iterator[str]:
         dead = self.dead()
         if dead:
-            yield '# no forwarded packet meets the rules of ' + lines_text(dead, len(dead))
+            yield '# no new or established packet meets the rules of ' + lines_text(dead, len(dead))
 
     # The data.
 
