@@ -10,7 +10,7 @@ SETS = ('create a hash:net family inet hashsize 1024 maxelem 65536\nadd a 10.0.0
         'add a 10.1.0.7\ncreate t hash:ip timeout 60\nadd t 10.1.0.7 timeout 5\ncreate p hash:ip,port\n'
         'add p 10.1.0.7,tcp:80\ncreate m hash:ip family inet netmask 24\nadd m 10.1.0.0\n'
         'create b bitmap:ip range 10.1.0.0-10.1.0.255\nadd b 10.1.0.4-10.1.0.8\n'
-        'create n hash:ip family inet comment\nadd n 10.1.0.7 comment "nomatch"\n')
+        'create n hash:ip family inet comment\nadd n 10.1.0.7 comment "nomatch \\"\n')
 
 A, B, C = '10.1.0.7 8.8.8.8 tcp 1 80', '10.2.0.7 8.8.8.8 tcp 1 80', '8.8.8.8 10.1.0.7 tcp 1 80'
 SSH, DNS, HIGH = '10.1.0.7 8.8.8.8 tcp 1 22', '10.1.0.7 8.8.8.8 udp 1 53', '10.1.0.7 8.8.8.8 tcp 80 1'

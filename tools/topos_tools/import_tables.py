@@ -1,14 +1,16 @@
 """Reads the table of interfaces, and the sets that `ipset save` prints."""
+import re
 from collections.abc import Iterable
 
 from .import_sets import ALL_ADDRESSES, Numbers, difference, joined
-from .import_words import Refused, address, address_range, words_of
+from .import_words import Refused, address, address_range
 
 NO_INTERFACE = {'local', 'broadcast', 'multicast', 'anycast', 'unreachable', 'blackhole', 'prohibit', 'throw', 'nat'}
 REST = {'rest', 'default', '0.0.0.0/0'}
 NONE = 'none'
 KINDS = {'hash:ip', 'hash:net', 'bitmap:ip'}
 WITHOUT_VALUE = {'counters', 'comment', 'skbinfo', 'forceadd'}
+COMMENT = re.compile('"[^"]*"')  # has no escapes
 WITH_VALUE = {'hashsize', 'maxelem', 'bucketsize', 'initval', 'range'}
 
 
@@ -82,7 +84,7 @@ def read_sets(text: str) -> dict[str, Numbers]:
     kinds: dict[str, str] = {}
     entries: dict[str, list[tuple[Numbers, bool]]] = {}
     for number, line in enumerate(text.splitlines(), 1):
-        words = [word.text for word in words_of(line) if not word.is_quoted]  # without comments
+        words = COMMENT.sub('', line).split()
         if words and words[0] not in ('create', 'add') and not words[0].startswith('#'):
             raise Refused(f'sets: line {number}: {line.strip()[:100]!r}')
         if words[:1] == ['create'] and len(words) > 2 and _is_plain(words[2], words[3:]):
