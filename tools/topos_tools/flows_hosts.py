@@ -63,6 +63,8 @@ def interfaces_of_hosts(save: Save | None, hosts: dict[str, Numbers]) -> dict[st
 
 def proposal(save: Save, interfaces: Interfaces) -> str:
     """Returns hosts: the networks of each interface, and the sets that rules single out from them."""
+    if not interfaces.networks:
+        raise Refused('the table of interfaces is empty')
     named = named_sets(save)
     rest = max(interfaces.networks, key=lambda name: sum(high - low for low, high in interfaces.networks[name]))
     classes: dict[tuple[str, tuple[Numbers, ...]], Numbers] = {}
