@@ -5,7 +5,8 @@ from dataclasses import dataclass
 
 from .diff_flows import FlowChange
 from .diff_model import Difference, Judged
-from .diff_words import MOST_NAMES, arrow, invariant_name, invariant_names, plain, products
+from .diff_words import MOST_NAMES, arrow, invariant_name, invariant_names, products
+from .query import plain
 from .report_model import Flow, Source
 from .report_words import counted
 

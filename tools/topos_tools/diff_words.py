@@ -2,6 +2,7 @@
 import textwrap
 from collections.abc import Iterable
 
+from .query import plain
 from .report_model import Flow, Source
 from .why_network import joined
 
@@ -53,11 +54,6 @@ def few(words: Iterable[str], most: int | None = MOST_NAMES) -> str:
 
 def arrow(product: Product, most: int | None = MOST_NAMES) -> str:
     return f'{few(product[0], most)} -> {few(product[1], most)}'
-
-
-def plain(text: str) -> str:
-    """Returns a text of a description without codes for a terminal."""
-    return ''.join(each if each.isprintable() else '?' for each in text)
 
 
 def invariant_name(source: Source, number: int) -> str:

@@ -8,8 +8,8 @@ from .import_files import file_name, import_save, read_text
 from .import_report import caveats, remedies
 from .import_save import Save
 from .import_sets import Numbers
-from .query import (READS_ANSWERS, USAGE, Programs, Stopped, Tool, data_text, lines_text, need_words, read_bytes,
-                    write_text)
+from .query import (READS_ANSWERS, USAGE, Programs, Stopped, Tool, data_text, lines_text, need_words, plain,
+                    read_bytes, write_text)
 
 USAGE_TEXT = '''usage: topos-flows [--program TOPOS] [..] DESCRIPTION RULES
            lists the flows that RULES, of iptables-save or topos-import, let pass between the hosts of DESCRIPTION
@@ -56,7 +56,7 @@ def omitted_services(values: dict[str, str]) -> Numbers:
 def notes_on(save: Save, owned: dict[str, Numbers]) -> list[str]:
     """Returns comments on hosts that rules split, on missing files, and on what the bounds leave out."""
     told = [*remedies(save, save.all_rules()), *caveats(save)]
-    return [*parts_of_hosts(save, owned), *(f'# {each}' for each in told)]
+    return [*parts_of_hosts(save, owned), *(f'# {plain(each)}' for each in told)]
 
 
 def list_flows(words: list[str], values: dict[str, str], options: set[str]) -> int:

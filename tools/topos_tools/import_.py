@@ -4,7 +4,7 @@ import sys
 from .import_bounds import Bound
 from .import_files import file_name, import_save, read_text
 from .import_report import report
-from .query import Tool, need_words, write_text
+from .query import Tool, lines_text, need_words, plain, write_text
 
 USAGE_TEXT = '''usage: topos-import [--interfaces FILE] [--sets FILE] [--syn] [--upper OUT] [--lower OUT] RULES
            writes what iptables-save printed, RULES, as rules that topos reads
@@ -28,7 +28,7 @@ def main(values: dict[str, str], options: set[str], words: list[str]) -> int:
                                  for bound, text in texts.items()]
     is_exact = texts['upper'].chains == texts['lower'].chains
     told.append('upper and lower are the same' if is_exact else 'upper and lower differ')
-    sys.stderr.write(''.join(f'{line}\n' for line in told))
+    sys.stderr.write(lines_text(map(plain, told)))
     for bound, most in (('upper', 'least'), ('lower', 'most')):
         if '--' + bound in values:
             write_text(values['--' + bound], texts[bound].written(head(bound, most, name)))

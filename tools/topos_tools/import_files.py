@@ -4,7 +4,7 @@ import os
 from .import_save import Save
 from .import_tables import Interfaces, read_sets
 from .import_words import Refused
-from .query import NO_FILE, Stopped
+from .query import NO_FILE, Stopped, plain
 
 LONGEST_RULES = 67_108_864  # bytes of a text of rules that `topos` reads
 
@@ -23,8 +23,7 @@ def read_text(path: str) -> str:
 
 def file_name(path: str) -> str:
     """Returns the name of a file for a line of a text."""
-    name = 'the input' if path == '-' else os.path.basename(path)
-    return ''.join(letter if letter.isprintable() else '?' for letter in name)
+    return plain('the input' if path == '-' else os.path.basename(path))
 
 
 def import_save(text: str, interfaces: str | None, sets: str | None, is_syn_first: bool) -> Save:

@@ -37,8 +37,7 @@ def caveats(save: Save) -> list[str]:
 
 
 def shown(rule: Rule) -> str:
-    text = ''.join(letter if letter.isprintable() else '?' for letter in rule.text)
-    return text if len(text) < LONGEST else text[:LONGEST - 2] + '..'
+    return rule.text if len(rule.text) < LONGEST else rule.text[:LONGEST - 2] + '..'
 
 
 def numbers_of(rules: list[Rule]) -> str:

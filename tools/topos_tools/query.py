@@ -266,6 +266,11 @@ def data_text(tree: dict[str, Any]) -> str:
     return json.dumps(tree, indent=1) + '\n'
 
 
+def plain(text: str) -> str:
+    """Returns a text without codes for a terminal."""
+    return ''.join(each if each.isprintable() else '?' for each in text)
+
+
 def lines_text(lines: Iterable[str]) -> str:
     return ''.join(f'{line}\n' for line in lines)
 
