@@ -1,7 +1,7 @@
 """The types of addresses that `addrtype` matches, for packets that a kernel forwards.
 
-A kernel delivers what is for an address of its own or a broadcast address, with rp_filter drops what comes from one,
-and drops what is from or for 0.0.0.0/8. So a forwarded packet has addresses of two types.
+A kernel delivers what is for an address of its own or a broadcast address, and with rp_filter drops what comes from
+one. So a forwarded packet has addresses of two types.
 """
 from .import_sets import MOST_ADDRESS, Numbers, complement, joined
 
