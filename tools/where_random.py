@@ -7,6 +7,8 @@ code of topos-where.
 """
 import random
 import re
+import shlex
+import subprocess
 from typing import Any
 
 from topos_tools.query import Question, Stopped
@@ -242,17 +244,26 @@ def advised_fault(asked: Asked, text: str, finding: Finding) -> str:
     return f'not borne out: {found[0]}' if now[0] and now[1].split(',')[0] == finding.title.split(',')[0] else ''
 
 
-def findings_of(program: str, kind: str, text: str) -> list[Finding]:
+def page_of(program: str, kind: str, text: str) -> Page:
     """What topos-where --all shows of a text."""
     there, page = Program(program), Page('text', text, False)
     search = Search(there, page, True)
     if kind == 'description':
         search.description(text.encode(), None)
-        return page.findings
+        return page
     kinds: dict[str, Any] = {'rules': RulesText, 'flows': FlowsText, 'events': EventsText}
     lines: LineText = EditsText(there, page, NET.encode()) if kind == 'edits' else kinds[kind](there, page)
     search.lines(lines, None)
-    return page.findings
+    return page
+
+
+def command_fault(asked: Asked, text: str, sentences: list[str]) -> str:
+    """Whether the program refuses what the shown command leaves of a text."""
+    for command in [sentence.split(': sed ')[1] for sentence in sentences if ': sed ' in sentence]:
+        left = subprocess.run(['sed', *shlex.split(command)[:-1]], input=text, capture_output=True, text=True).stdout
+        if asked.line(left):
+            return f'sed {command}: {asked.line(left)}'
+    return ''
 
 
 def mended(kind: str, lines: list[str], numbers: set[int]) -> str:
@@ -309,7 +320,8 @@ def fault_of(program: str, kind: str, seed: int) -> str:
     number, name = asked.refusal(text)
     if not number:
         return ''
-    findings = findings_of(program, kind, text)
+    page = page_of(program, kind, text)
+    findings = page.findings
     if not findings:
         return f'{text}\n{name}: nothing is shown'
     first, fault = findings[0], ''
@@ -319,5 +331,5 @@ def fault_of(program: str, kind: str, seed: int) -> str:
         fault = place_fault(Expected(asked, text, number, name), first, Page('text', text, False))
     else:
         fault = f'shown as {first.title}'
-    fault = fault or follow_up(asked, text, findings)
+    fault = fault or follow_up(asked, text, findings) or command_fault(asked, text, page.sentences)
     return f'{text}\nline {number}: {name}: {fault}\n{[each.title for each in findings]}\n{first.sentences}' if fault else ''

@@ -302,9 +302,9 @@ class LineText:
 
     def command(self) -> str:
         dropped = ';'.join(f'{span.replace("-", ",")}d' for span in spans(sorted(self.dropped)).split(', ') if span)
-        first = [text for text in self.added if text.startswith('1')]
-        script = ';'.join(first + [dropped] * bool(dropped) + [text for text in self.added if text not in first])
-        return f'topos reads what this leaves{self.more}: sed \'{script}\' {shlex.quote(self.page.name)}'
+        scripts = [*self.added, *[dropped] * bool(dropped)]  # a line to insert goes on to the end of its script
+        words = ' '.join('-e ' * (len(scripts) > 1) + f"'{script}'" for script in scripts)
+        return f'topos reads what this leaves{self.more}: sed {words} {shlex.quote(self.page.name)}'
 
 
 def spans(numbers: list[int]) -> str:

@@ -23,7 +23,9 @@ class Finding:
 
 
 def say(sentence: str) -> None:
-    print(textwrap.fill(sentence, WIDTH, break_long_words=False, break_on_hyphens=False))
+    """Prints a sentence, a command of a shell on one line."""
+    is_command = ': sed ' in sentence
+    print(sentence if is_command else textwrap.fill(sentence, WIDTH, break_long_words=False, break_on_hyphens=False))
 
 
 def columns(text: str) -> int:
