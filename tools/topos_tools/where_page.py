@@ -23,9 +23,16 @@ class Finding:
 
 
 def say(sentence: str) -> None:
-    """Prints a sentence, a command of a shell on one line."""
-    is_command = ': sed ' in sentence
-    print(sentence if is_command else textwrap.fill(sentence, WIDTH, break_long_words=False, break_on_hyphens=False))
+    """Prints a sentence, a command of a shell on one line, and no character that acts on a terminal."""
+    plain = ''.join(char if char.isprintable() else char.encode('unicode_escape').decode() for char in sentence)
+    is_command = ': sed ' in plain
+    print(plain if is_command else textwrap.fill(plain, WIDTH, break_long_words=False, break_on_hyphens=False))
+
+
+def visible(text: str) -> str:
+    """Returns the text with a ? in the place of each character that has no column of its own on a terminal."""
+    return ''.join(char if char == '\t' or char.isprintable() and unicodedata.category(char)[0] != 'M' else '?'
+                   for char in text)
 
 
 def columns(text: str) -> int:
@@ -84,17 +91,19 @@ class Page:
             low = min(max(0, marks[0].start - begin - WIDTH // 3), len(text) - WIDTH)
             high = low + WIDTH
         before, after = '.. ' if low else '', ' ..' if high < len(text) else ''
-        shown = ''.join(char if char.isprintable() or char == '\t' else '?' for char in text[low:high])
+        shown = visible(text[low:high])
         print(f'{number:>{wide}} | {before}{shown}{after}'.rstrip())
-        plain = [mark for mark in marks if not mark.note]
-        rows = [plain] if plain else []
-        for row in rows + [[mark] for mark in marks if mark.note]:
+        near = [mark for mark in marks if mark is marks[0] or low <= mark.start - begin < high + (high == len(text))]
+        plain = [mark for mark in near if not mark.note]
+        for row in [plain] * bool(plain) + [[mark] for mark in near if mark.note]:
             under = ' ' * len(before)
-            for char_at in range(low, high + (high == len(text))):
-                hit = any(mark.start - begin <= char_at < mark.end - begin for mark in row)
-                char = text[char_at] if char_at < len(text) else ' '
+            for place, char in enumerate(shown + ' ' * (high == len(text)), low):
+                hit = any(mark.start - begin <= place < mark.end - begin for mark in row)
                 under += '\t' if char == '\t' and not hit else ('^' if hit else ' ') * columns(char)
             print(f'{"":>{wide}} | {under.rstrip()} {row[0].note}'.rstrip())
+        far = [mark for mark in marks if mark not in near]
+        if far:
+            self.show_line(number, far, wide)
 
     def tree(self) -> dict[str, Any]:
         """Returns the findings as data, with lines and columns counted from 1."""
