@@ -22,6 +22,14 @@ ENDING = {
     'NoCommit': 'The text ends without COMMIT: it was cut off. Save it again.',
     'TooLong': 'The text is too long: a text of rules has at most 67,108,864 bytes, of events 16,777,216, of edits '
                '1,048,576.'}
+WINDOWS = {  # characters that an editor adds there, with what is said of them, and a command of sed that takes them out
+    '\ufeff': ('The text begins with a byte order mark, U+FEFF: save it without one.', r'1s/^\xEF\xBB\xBF//'),
+    '\r': ("The line ends as those of Windows do: take the ends out with tr -d '\\r'.", r's/\r//g')}
+
+
+def unix(line: str) -> str:
+    """Returns the line without the characters that an editor adds on Windows."""
+    return line.removeprefix('\ufeff').replace('\r', '')
 
 
 def words_of(line: str) -> list[Word]:
@@ -243,9 +251,9 @@ class LineText:
         told = self.told(refused, refusal, at)
         if told is not None:
             return told
-        if '\r' in line and not refused.reason(line.replace('\r', '')):
-            return Told(0, len(line) - 1, ['The line ends as those of Windows do: take the ends out with '
-                                           'tr -d \'\\r\'.'])
+        if unix(line) != line and refused.reason(unix(line)) != refusal.name:
+            said = [sentence for char, (sentence, _) in WINDOWS.items() if char in line]
+            return Told(0, len(line) - 1 if '\r' in line else 1, said, drop=set())
         if refusal.name == 'TooMany':
             return Told(0, len(line), [self.sentence(refusal.name, '', line)])
         place, plain = refused.place(), re.sub('[\udc80-\udcff]', 'x', line)
@@ -296,6 +304,11 @@ class LineText:
 
     def go_on(self, refusal: Refusal, numbers: set[int] | None) -> bool:
         """Whether the copy is another one now, without these lines."""
+        line = self.lines[refusal.line - 1][1] if 0 < refusal.line <= len(self.lines) else ''
+        if numbers == set() and unix(line) != line:
+            self.added += [command for char, (_, command) in WINDOWS.items() if char in self.page.text]
+            self.lines = [(number, unix(line)) for number, line in self.lines]
+            return True
         self.dropped += sorted(numbers or [])
         self.lines = [(number, line) for number, line in self.lines if number not in (numbers or [])]
         return bool(numbers)

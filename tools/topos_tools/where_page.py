@@ -46,11 +46,11 @@ class Page:
         self.name, self.text, self.is_shown = name, text, is_shown
         self.findings: list[Finding] = []
         self.sentences: list[str] = []  # at the end
-        self.starts = [0] + [found.end() for found in re.finditer('\n', text)]
+        self.starts = [int(text.startswith('\ufeff'))] + [found.end() for found in re.finditer('\n', text)]
         self.said: set[str] = set()
 
     def line_of(self, at: int) -> int:
-        return bisect.bisect_right(self.starts, at)
+        return max(1, bisect.bisect_right(self.starts, at))
 
     def line(self, number: int) -> str:
         if number > len(self.starts):

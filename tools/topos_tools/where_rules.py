@@ -73,15 +73,16 @@ class RulesText(LineText):
 
     def go_on(self, refusal: Refusal, numbers: set[int] | None) -> bool:
         begun = any(line.lstrip(' \t').startswith('*') for _, line in self.lines)
+        if super().go_on(refusal, numbers):
+            return True
         if refusal.name == 'NoCommit' and begun and '$aCOMMIT' not in self.added:
             self.added.append('$aCOMMIT')
             self.lines.append((len(self.page.starts) + 1, 'COMMIT'))
         elif refusal.name == 'BadLine' and numbers == set() and '1i*filter' not in self.added:
             self.added.append('1i*filter')
             self.lines.insert(0, (0, '*filter'))
-        elif not numbers:
+        else:
             return False
-        super().go_on(refusal, numbers)
         return True
 
     # What a copy leaves out.
