@@ -6,11 +6,10 @@ import sys
 from .query import LONGEST as MOST
 from .query import NO_REFUSAL, UNAVAILABLE, Stopped, Tool, data_text, find_program, need_words, read_bytes, write_text
 from .toml_places import Fault
-from .where_advice import WORDS
 from .where_description import Explanation
 from .where_edits import EditsText
 from .where_flows import EventsText, FlowsText
-from .where_lines import LineText, spans, words_of
+from .where_lines import LineText, spans
 from .where_mends import Mends
 from .where_page import Finding, Mark, Page
 from .where_parts import Description
@@ -38,20 +37,16 @@ SCHEMA = 'topos-where 1'
 ROUNDS, LINE_ROUNDS = 50, 1000  # faults that are looked for, in a description and in another text
 LONGEST = 67_108_864  # bytes of the longest text that topos reads
 
+KINDS = {  # of texts that are no description, by how they begin
+    'rules': r'[*:-]\w|COMMIT\b|iptables|\[\d+:\d+\]', 'events': r'(packet|forget)\s+[^=\s]',
+    'edits': r'(add|remove|set|unset)\s+[^=\s]', 'flows': r'.*(actions=|_FLOW reply)'}
+
 
 def kind_of(text: str) -> str:
     """Returns the kind of a text without a refusal, by its first line that is no comment."""
-    for line in text.splitlines():
-        words = [word for word, _, _ in words_of(line)]
-        if words and not words[0].startswith('#'):
-            if words[0].startswith('*') or words[0] in ('-A', 'COMMIT', 'iptables') or re.match(r':\S', words[0]):
-                return 'rules'
-            if words[0] in ('packet', 'forget'):
-                return 'events'
-            if words[0] in WORDS['edits']['vocabulary'] and not re.match(r'\s*=', line.split(words[0], 1)[1]):
-                return 'edits'
-            return 'flows' if 'actions=' in line else 'description'
-    return 'description'
+    lines = (line.strip() for line in text.removeprefix('\ufeff').splitlines())
+    first = next((line for line in lines if line and not line.startswith('#')), '')
+    return next((kind for kind, pattern in KINDS.items() if re.match(pattern, first, re.IGNORECASE)), 'description')
 
 
 class Search:
