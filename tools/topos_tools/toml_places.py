@@ -165,7 +165,7 @@ class Scanner:
     def pair(self) -> tuple[list[Part], Node]:
         key = self.key()
         last, start, end = key[-1]
-        if self.peek() not in ('', '=', '\r', '\n') and self.at == end:
+        if self.peek() not in ('', *'=\r\n,]}#') and self.at == end:
             raise Fault(self.at, 'A key has letters A to Z, a to z, digits, - and _ only: write any other in quotes.')
         if self.peek() != '=':
             raise Fault(self.at, f'After the key {last} comes =.', first=(start, end))

@@ -25,7 +25,7 @@ class Advice:
     The advice is for a place where the program also accepts `kin`."""
 
     def __init__(self, pattern: str, said: str, put: str, example: str = '', kin: str = '') -> None:
-        self.pattern, self.said, self.put, self.shown, self.kin = re.compile(pattern), said, put, not example, kin
+        self.pattern, self.said, self.put, self.shown, self.kin = re.compile(pattern, re.ASCII), said, put, not example, kin
 
     def puts(self, found: re.Match[str]) -> Iterable[str]:
         return PUTS[self.put](found) if self.put.startswith('@') else [found.expand(self.put)]
@@ -93,8 +93,12 @@ def prefixes(found: re.Match[str]) -> Iterator[str]:
         yield ' '.join(told)
 
 
-def network(found: re.Match[str]) -> Iterator[str]:
-    yield str(IPv4Network(without_zeros(found[0]), strict=False))
+def prefix(found: re.Match[str]) -> Iterator[str]:
+    """The address with the length of its mask, if the mask has all its bits at the front."""
+    address, mask = without_zeros(found[1]), without_zeros(found[2])
+    network = IPv4Network(f'{address}/{mask}', strict=False)
+    if str(network.netmask) == mask:
+        yield f'{address}/{network.prefixlen}'
 
 
 def without_zeros(text: str) -> str:
@@ -121,7 +125,7 @@ def each_port(found: re.Match[str]) -> Iterator[str]:
 
 
 PUTS: dict[str, Callable[[re.Match[str]], Iterable[str]]] = {
-    '@prefixes': prefixes, '@network': network, '@ports_of': ports_of, '@protocol_of': protocol_of,
+    '@prefixes': prefixes, '@prefix': prefix, '@ports_of': ports_of, '@protocol_of': protocol_of,
     '@each_port': each_port, '@zeros': lambda found: [without_zeros(found[0])],
     '@lower': lambda found: [found[0].lower()], '@upper': lambda found: [found[0].upper()],
     '@small': lambda found: [found[0].lower().replace(' ', '')],

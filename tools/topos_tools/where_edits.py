@@ -78,7 +78,8 @@ class EditsText(LineText):
         return *self.vocabulary, *self.hosts
 
     def told(self, line: RefusedLine, refusal: Refusal, at: int) -> Told | None:
-        if line.words[0][0] != 'set' or len(line.words) < 3 or refusal.name in ('BadLine', 'TooMany', 'Absent'):
+        if line.words[0][0] != 'set' or len(line.words) < 3 or refusal.name in ('BadLine', 'TooMany', 'Absent') or \
+                not line.words[2][0].startswith('{'):
             return None
         begin = line.words[2][1]
         fault, shift = fault_in(VALUE + line.line[begin:]), begin - len(VALUE)

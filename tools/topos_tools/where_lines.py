@@ -106,7 +106,7 @@ class RefusedLine:
             return False
         said, end = self.reason(*lines), low + len(put)
         is_read = not said or not self.text.is_free and said not in (self.name, 'BadLine')
-        if not is_read and len(lines) == 1:
+        if not is_read and len(lines) == 1 and (self.text.is_free or said == self.name):
             other = RefusedLine(self.text, self.above, lines[0], said)
             count = sum(start < end for _, start, _ in other.words) + more
             is_read = count < len(other.words) + bool(other.tail) and not other.is_refused(count)
