@@ -148,7 +148,8 @@ class Search:
         except Fault:
             text = None
         if text is None or now.number != 1 and now != text.ask():
-            self.page.show(Finding(f'{now.number} {now.name} at {now.place}', [], [GENERAL[now.number]]))
+            if now.number != 1:
+                self.page.show(Finding(f'{now.number} {now.name} at {now.place}', [], [GENERAL[now.number]]))
             return self.status(False)
         findings, accepted = self.findings(text, edited)
         for finding in sorted(findings, key=lambda finding: finding.marks[0].start if finding.marks else 0):
