@@ -46,14 +46,16 @@ class RulesText(LineText):
 
     def block(self, name: str, at: int, line: RefusedLine) -> Told:
         """A table that is not read, up to the COMMIT after which topos reads on."""
-        said, drop, lines = [self.sentences[name]], set[int](), self.lines[at:]
+        said, drop = [self.sentences[name]], set[int]()
+        lines = [each for each in self.lines[at:] if each[1].strip()]
         for place, (number, other) in enumerate(lines, 1):
             if other.split() == ['COMMIT'] or place == len(lines):
                 now = self.whole(self.text([text for _, text in self.lines[:at] + lines[place:]]))
                 if now is None or now.line > at + 1:
                     said, drop = [f'{said[0]} This part ends in line {number}.'], {each for each, _ in lines[:place]}
                     break
-        self.other_tables |= drop
+        first = next((number for number, other in lines if other.lstrip(' \t').startswith('*')), 0)
+        self.other_tables |= {number for number in drop if first and number >= first}
         return Told(0, len(line.line.rstrip()), [f'{said[0]} {SAVE}'], drop=drop or None)
 
     def loop(self, refusal: Refusal, line: RefusedLine) -> Told:
