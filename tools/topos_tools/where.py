@@ -124,8 +124,7 @@ class Search:
             self.page.show(finding)
             if edited_on is None or not self.is_whole or len(self.page.findings) == ROUNDS:
                 return self.status(False)
-            edited, data = edited_on, edited_on.text.encode(errors='surrogateescape')
-            now = self.program.description(data)
+            edited, now = edited_on, self.program.description(edited_on.text.encode(errors='surrogateescape'))
         if now is None or now.number == 1 and not self.is_whole:
             return self.status(now is None)
         return self.go_through(edited, now)

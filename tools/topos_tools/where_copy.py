@@ -5,7 +5,6 @@ from ipaddress import IPv4Address
 from typing import Any
 
 from .toml_places import Node, quoted
-from .where_page import Mark
 
 Change = Callable[[], object]
 KINDS = {dict: 'table', list: 'array', bool: 'boolean', int: 'integer', str: 'text'}
@@ -96,17 +95,14 @@ class Copy:
     def rows(self, key: str) -> list[Node]:
         return self.root.rows(key)
 
-    def entries(self) -> list[Node]:
-        """The entries of all invariants."""
-        return [entry for row in self.rows('invariant') for entry in row.rows('assign')]
-
     def names(self) -> list[str]:
         return [name for host in self.rows('host') if (name := text_of(host.get('name'))) is not None]
 
     def mentions(self, name: str) -> list[Node]:
         """The places of the text in flows and in entries."""
         found = [item for flow in self.rows('flow') for item in flow.items()[:2]]
-        found += [each for entry in self.entries() for value in entry.inner() for each in (value, *value.items())]
+        found += [each for row in self.rows('invariant') for entry in row.rows('assign') for value in entry.inner()
+                  for each in (value, *value.items())]
         return [node for node in found if text_of(node) == name]
 
     # New values for it.
@@ -137,7 +133,3 @@ def all_of(*changes: Change) -> Change:
 
 def text_of(node: Node | None) -> str | None:
     return node.value if node is not None and node.kind == 'text' else None
-
-
-def mark(node: Node, note: str = '') -> Mark:
-    return Mark(node.start, node.end, note)

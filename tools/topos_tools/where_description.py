@@ -6,7 +6,7 @@ from typing import Any
 
 from .toml_places import Node, quoted, scalar
 from .where_advice import Accepts, Advice, advice, explained, first_where, near
-from .where_copy import Change, all_of, made, mark, text_of, written
+from .where_copy import Change, all_of, made, text_of, written
 from .where_page import Finding, Mark, Page
 from .where_parts import Description, Parts
 from .where_refusals import Refusal
@@ -66,7 +66,7 @@ class Explanation(Finding):
 
     def add(self, node: Node, note: str = '', is_key: bool = False) -> None:
         self.nodes.append(node)
-        self.marks.append(Mark(*node.key_at, note) if is_key else mark(node, note))
+        self.marks.append(Mark(*(node.key_at if is_key else (node.start, node.end)), note))
 
     def say(self, sentence: str) -> None:
         if sentence not in self.sentences:

@@ -1,9 +1,4 @@
-"""Texts that are read line by line: the place of a fault in a line, and advice, both by answers of the program.
-
-A mark begins with the first word from which on the program refuses the line for the reason that it reports, and it ends
-with the first word after which none of the endings helps that are tried. Advice is shown if the program bears it out:
-it accepts the advised line, or refuses it further right.
-"""
+"""Texts that are read line by line: the place of a fault in a line, and advice, both by answers of the program."""
 import itertools
 import re
 import shlex
@@ -252,8 +247,8 @@ class LineText:
         if told is not None:
             return told
         if unix(line) != line and refused.reason(unix(line)) != refusal.name:
-            said = [sentence for char, (sentence, _) in WINDOWS.items() if char in line]
-            return Told(0, len(line) - 1 if '\r' in line else 1, said, drop=set())
+            sentences = [said for char, (said, _) in WINDOWS.items() if char in line]
+            return Told(0, len(line) - 1 if '\r' in line else 1, sentences, drop=set())
         if refusal.name == 'TooMany':
             return Told(0, len(line), [self.sentence(refusal.name, '', line)])
         place, plain = refused.place(), re.sub('[\udc80-\udcff]', 'x', line)
