@@ -25,7 +25,8 @@ class Advice:
     The advice is for a place where the program also accepts `kin`."""
 
     def __init__(self, pattern: str, said: str, put: str, example: str = '', kin: str = '') -> None:
-        self.pattern, self.said, self.put, self.shown, self.kin = re.compile(pattern, re.ASCII), said, put, not example, kin
+        self.pattern, self.said, self.put = re.compile(pattern, re.ASCII), said, put
+        self.shown, self.kin = not example, kin
 
     def puts(self, found: re.Match[str]) -> Iterable[str]:
         return PUTS[self.put](found) if self.put.startswith('@') else [found.expand(self.put)]
