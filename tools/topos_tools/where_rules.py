@@ -66,7 +66,8 @@ class RulesText(LineText):
             left = [each for each in self.lines if each != gone]
             now = self.whole(self.text([text for _, text in left]))
             return now is None or now.name != 'Loop' or left[now.line - 1] != here
-        jumps = [each[0] for each in self.lines if re.search(r'-[jg] ', each[1]) and is_needed(each)]
+        chains = set(list(self.known())[len(self.vocabulary):])  # the only targets of a jump
+        jumps = [each[0] for each in self.lines if chains & set(re.findall(r'-j +(\S+)', each[1])) and is_needed(each)]
         told = f'Jumps lead from {name} back to {name}. A kernel does not load such a text.'
         if not jumps:
             return Told(0, line.words[0][2], [told], drop=set())
