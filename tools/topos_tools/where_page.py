@@ -24,7 +24,8 @@ class Finding:
 
 def say(sentence: str) -> None:
     """Prints a sentence, a command of a shell on one line, and no character that acts on a terminal."""
-    plain = ''.join(char if char.isprintable() else char.encode('unicode_escape').decode() for char in sentence)
+    plain = ''.join(char if char == '\t' or char.isprintable() else char.encode('unicode_escape').decode()
+                    for char in sentence)
     is_command = ': sed ' in plain
     print(plain if is_command else textwrap.fill(plain, WIDTH, break_long_words=False, break_on_hyphens=False))
 
