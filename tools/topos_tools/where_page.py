@@ -100,7 +100,7 @@ class Page:
             under = ' ' * len(before)
             for place, char in enumerate(shown + ' ' * (high == len(text)), low):
                 hit = any(mark.start - begin <= place < mark.end - begin for mark in row)
-                under += '\t' if char == '\t' and not hit else ('^' if hit else ' ') * columns(char)
+                under += char if char == '\t' else ('^' if hit else ' ') * columns(char)
             print(f'{"":>{wide}} | {under.rstrip()} {row[0].note}'.rstrip())
         far = [mark for mark in marks if mark not in near]
         if far:
