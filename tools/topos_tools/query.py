@@ -130,10 +130,14 @@ class Programs:
         return [line.split()[1] for line in asked.answer().splitlines()]
 
     def _read(self, asked: Question, statuses: Sequence[int] = (0,)) -> dict[str, Any]:
-        answer: dict[str, Any] = json.loads(asked.answer(statuses))
-        if answer['version'] != VERSION:
-            raise Stopped(f'{self.query} answers in version {answer["version"]} of its format: '
-                          f'version {VERSION} is read')
+        text = asked.answer(statuses)
+        try:
+            answer: dict[str, Any] = json.loads(text)
+            version = answer['version']
+        except (ValueError, LookupError, TypeError):
+            raise Stopped(f'{self.query} is no topos-query: its answer cannot be read') from None
+        if version != VERSION:
+            raise Stopped(f'{self.query} answers in version {version} of its format: version {VERSION} is read')
         return answer
 
     def _read_if_accepted(self, asked: Question) -> dict[str, Any] | None:
@@ -196,7 +200,7 @@ def _memory_file(text: bytes) -> BinaryIO:
 
 def _content(file: BinaryIO) -> str:
     file.seek(0)
-    return file.read().decode()
+    return file.read().decode(errors='replace')
 
 
 def _spawn(words: list[str], actions: list[tuple[int, int, int]]) -> int:
@@ -251,12 +255,13 @@ def read_bytes(path: str, longest: int = LONGEST) -> bytes:
 
 def write_text(path: str | None, text: str) -> None:
     """Writes a text to a file, or to the output if no file is named."""
+    data = text.encode(errors='replace')  # the name of a file may have other bytes than UTF-8
     if path is None:
-        sys.stdout.buffer.write(text.encode())
+        sys.stdout.buffer.write(data)
         return
     try:
-        with open(path, 'w', encoding='utf-8') as file:
-            file.write(text)
+        with open(path, 'wb') as file:
+            file.write(data)
     except OSError:
         raise Stopped(f'cannot write {path}', NO_OUTPUT) from None
 
@@ -327,6 +332,14 @@ def tell_when_slow(name: str) -> None:
         signal.alarm(1)
 
 
+def set_streams() -> None:
+    """Opens closed streams, errors for nothing and the output so that it fails, and ends at an interrupt silently."""
+    sys.stderr = sys.stderr or open(os.devnull, 'w', encoding='utf-8')
+    sys.stdout = sys.stdout or open(os.open(os.devnull, os.O_RDONLY), 'w', encoding='utf-8')
+    if signal.getsignal(signal.SIGINT) is signal.default_int_handler:
+        signal.signal(signal.SIGINT, signal.SIG_DFL)
+
+
 class Tool:
     """A tool: its version, which begins with its name, its usage, its options with a value and without, and its work.
 
@@ -347,6 +360,7 @@ class Tool:
 
     def run(self) -> None:
         """Runs the tool on the words of the command line, and ends the process with its status."""
+        set_streams()
         try:
             limit()
             tell_when_slow(self.name)
@@ -366,4 +380,4 @@ class Tool:
             os.dup2(os.open(os.devnull, os.O_WRONLY), sys.stdout.fileno())
             if not isinstance(error, BrokenPipeError):
                 sys.stderr.write(f'{self.name}: the output cannot be written: {error.strerror}\n')
-            sys.exit(1)
+            sys.exit(NO_OUTPUT)
