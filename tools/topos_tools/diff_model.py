@@ -9,8 +9,8 @@ from typing import Any
 from .diff_flows import Changes, FlowChange
 from .diff_hosts import HostChange, host_changes, owned_by, renamed
 from .diff_invariants import InvariantChange, invariant_changes, numbers_of, setting_changes
-from .query import REFUSED, Programs, Stopped
-from .report_model import Flow, Source, flow_of
+from .query import Programs
+from .report_model import Flow, Source, flow_of, read_source
 
 SCHEMA = 'topos-diff 1'
 REVIEW, NOT_READ = 1, 2  # exit statuses
@@ -89,19 +89,9 @@ class Difference:
                 'invariants': [asdict(each) for each in self.invariants], 'settings': self.settings}
 
 
-def read_source(programs: Programs, path: str) -> Source:
-    """Reads a description. A refusal names the file."""
-    try:
-        return Source.read(programs, path)
-    except Stopped as stopped:
-        if stopped.status != REFUSED:
-            raise
-        raise Stopped(f'{path} is refused: {stopped}', NOT_READ) from None
-
-
 def read_difference(programs: Programs, before: str, after: str) -> Difference:
     """Reads two descriptions, and returns their difference."""
-    old, new = (read_source(programs, path) for path in (before, after))
+    old, new = (read_source(programs, path, NOT_READ) for path in (before, after))
     answer, back = programs.ask_changes(old.data, new.data), programs.ask_changes(new.data, old.data)
     names = renamed(owned_by(old.network), owned_by(new.network))
     same = numbers_of(old, new, names)

@@ -1,9 +1,9 @@
 """Writes a report of a description: an HTML page, or data for other programs."""
-from .query import READS_ANSWERS, USAGE, Programs, Stopped, Tool, data_text, need_words, write_text
+from .query import READS_ANSWERS, REFUSED, USAGE, Programs, Stopped, Tool, data_text, need_words, write_text
 from .report_changes import changes_between
 from .report_exceptions import read_exceptions
 from .report_export import csv_text, dot_text
-from .report_model import SCHEMA, Report, Source, read_reasons, read_report
+from .report_model import SCHEMA, Report, read_reasons, read_report, read_source
 from .report_orders import set_orders
 from .report_page import page_text
 from .report_steps import read_steps
@@ -21,6 +21,7 @@ USAGE_TEXT = '''usage: topos-report [--program TOPOS] [--against OLD] [--seconds
        -o OUT          the file that is written, else the output
        topos-query is the program in TOPOS_QUERY, else the one next to topos, else the one on the PATH
 '''
+MOST_DIGITS = 9  # of a number of seconds
 FORMS = ('--json', '--csv', '--dot')
 
 
@@ -28,8 +29,8 @@ def made_report(programs: Programs, path: str, against: str | None, seconds: flo
     """Returns the report, with the reasons, steps and exceptions for which the time suffices."""
     report = read_report(programs, path)
     set_orders(report)
-    if against:
-        report.changes = changes_between(Source.read(programs, against), report.source)
+    if against is not None:
+        report.changes = changes_between(read_source(programs, against, REFUSED), report.source)
     read_reasons(programs, report, seconds / 4)
     read_steps(programs, report, seconds / 4)
     read_exceptions(programs, report, seconds)
@@ -50,7 +51,7 @@ def main(values: dict[str, str], options: set[str], words: list[str]) -> int:
     if len(forms) > 1:
         raise Stopped(f'{" and ".join(sorted(forms))} exclude each other', USAGE)
     seconds = values.get('--seconds', '1')
-    if not seconds.isdecimal():
+    if not seconds.isdecimal() or len(seconds) > MOST_DIGITS:
         raise Stopped(f'{seconds}: a number of seconds is required', USAGE)
     needed = 0 if forms & {'--csv', '--dot'} else int(seconds)
     report = made_report(Programs.find(values.get('--program')), words[0], values.get('--against'), needed)

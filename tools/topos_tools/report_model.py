@@ -11,7 +11,7 @@ from dataclasses import asdict, dataclass, field
 from typing import Any
 
 from .page import Page, Place, read_page
-from .query import Programs, read_bytes
+from .query import REFUSED, Programs, Stopped, read_bytes
 from .report_words import (ANSWERED, COUNT_KEYS, DEFAULTS, DENIED, FORBIDDEN, GAP, ONE_WAY, PERMITTED, SELF,
                            attribute_words)
 
@@ -174,6 +174,16 @@ class Source:
     @property
     def has_flow_key(self) -> bool:
         return 'flow' in self.table
+
+
+def read_source(programs: Programs, path: str, status: int) -> Source:
+    """Reads one of several descriptions. A refusal names the file, and ends with a status."""
+    try:
+        return Source.read(programs, path)
+    except Stopped as stopped:
+        if stopped.status != REFUSED:
+            raise
+        raise Stopped(f'{path} is refused: {stopped}', status) from None
 
 
 def guards_of(network: Network, strategy: str, denied: list[Flow]) -> list[Guard]:
