@@ -94,10 +94,11 @@ def _entry_changes(before: Table, after: Table) -> Iterator[str]:
         elif host not in new:
             yield f'{host} is removed ({attribute_words(old[host])})'
         else:
-            changed = [_value_change(key, old[host].get(key), new[host].get(key))
-                       for key in dict.fromkeys([*new[host], *old[host]]) if old[host].get(key) != new[host].get(key)]
+            changed = ', '.join(filter(None, (
+                _value_change(key, old[host].get(key), new[host].get(key))
+                for key in dict.fromkeys([*new[host], *old[host]]) if old[host].get(key) != new[host].get(key))))
             if changed:
-                yield f'{host}: {", ".join(filter(None, changed))}'
+                yield f'{host}: {changed}'
 
 
 def _value_change(key: str, before: Any, after: Any) -> str:
