@@ -6,7 +6,6 @@ from dataclasses import dataclass
 from .diff_flows import FlowChange
 from .diff_model import Difference, Judged
 from .diff_words import MOST_NAMES, arrow, invariant_name, invariant_names, products
-from .query import plain
 from .report_model import Flow, Source
 from .report_words import counted
 
@@ -135,8 +134,8 @@ class View:
 
     def settings(self) -> Iterator[str]:
         for each in self.difference.invariants:
-            yield plain(each.text())
-        yield from map(plain, self.difference.settings)
+            yield each.text()
+        yield from self.difference.settings
 
 
 @dataclass
@@ -153,7 +152,7 @@ class Names:
 
 
 def _quoted(title: str) -> str:
-    return f' "{plain(title)}"' if title else ''
+    return f' "{title}"' if title else ''
 
 
 def _sentence(number: int, one: str, many: str) -> str:

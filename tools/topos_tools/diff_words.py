@@ -2,7 +2,6 @@
 import textwrap
 from collections.abc import Iterable
 
-from .query import plain
 from .report_model import Flow, Source
 from .why_network import joined
 
@@ -65,7 +64,7 @@ def invariant_name(source: Source, number: int) -> str:
     if not (place.title or place.comment):
         place = source.page.templates.get(template, place)
     title = place.title or textwrap.shorten(place.comment, MOST_TITLE, placeholder=' ..')
-    return f'{number} "{plain(title)}"' if title else f'{number} {template}'
+    return f'{number} "{title}"' if title else f'{number} {template}'
 
 
 def invariant_names(source: Source, numbers: Iterable[int]) -> str:

@@ -11,6 +11,7 @@ import re
 from dataclasses import dataclass, field
 from typing import Any
 
+from .query import plain
 from .toml_places import BLANK, Fault, Node, Scanner
 
 COMMENT = re.compile(r'#([^\n]*)')
@@ -43,7 +44,7 @@ class Document(Scanner):
         taken = super().take(pattern)
         for found in COMMENT.finditer(taken) if pattern is BLANK else []:
             if self.is_first(start + found.start()):
-                self.comments[self.line(start + found.start())] = found[1].lstrip('#').strip()
+                self.comments[self.line(start + found.start())] = plain(found[1]).lstrip('#').strip()
         return taken
 
     def line(self, at: int) -> int:

@@ -272,8 +272,8 @@ def data_text(tree: dict[str, Any]) -> str:
 
 
 def plain(text: str) -> str:
-    """Returns a text without codes for a terminal."""
-    return ''.join(each if each.isprintable() else '?' for each in text)
+    """Returns a text on one line, without codes for a terminal."""
+    return ''.join(each if each.isprintable() else ' ' if each.isspace() else '?' for each in text)
 
 
 def lines_text(lines: Iterable[str]) -> str:
