@@ -1,10 +1,11 @@
 """Services as sets of numbers: 65,536 times the protocol, plus the destination port."""
-from .import_sets import MOST_PORT, MOST_PROTOCOL, Numbers, difference, intersection, joined
+from .import_sets import MOST_PORT, MOST_PROTOCOL, Numbers, difference, intersection, is_subset, joined
 
 PORTS = MOST_PORT + 1
 MOST_SERVICE = (MOST_PROTOCOL + 1) * PORTS - 1
 ALL_SERVICES: Numbers = ((0, MOST_SERVICE),)
-NAMES = {6: 'tcp', 17: 'udp', 1: 'icmp'}
+TCP, UDP = 6, 17
+NAMES = {TCP: 'tcp', UDP: 'udp', 1: 'icmp'}
 OTHER_NAMES = {47: 'gre', 50: 'esp', 51: 'ah', 132: 'sctp'}
 MOST_OF_FLOW = 16  # services of a flow in a description
 
@@ -38,6 +39,11 @@ def of_list(words: str) -> Numbers:
 def of_words(words: list[str]) -> Numbers:
     """Returns the numbers of the services of a flow. No word means all services."""
     return joined(each for word in words for each in of_word(word)) or ALL_SERVICES
+
+
+def covers(words: list[str], protocol: int) -> bool:
+    """Whether the services of a flow have all ports of a protocol."""
+    return is_subset(of_protocol(protocol), of_words(words))
 
 
 def words_of_services(services: Numbers) -> list[str]:

@@ -10,6 +10,7 @@ import time
 from dataclasses import asdict, dataclass, field
 from typing import Any
 
+from .flows_services import TCP, covers
 from .page import Page, Place, read_page
 from .query import REFUSED, Programs, Stopped, read_bytes
 from .report_words import (ANSWERED, COUNT_KEYS, DEFAULTS, DENIED, FORBIDDEN, GAP, ONE_WAY, PERMITTED, SELF,
@@ -17,7 +18,6 @@ from .report_words import (ANSWERED, COUNT_KEYS, DEFAULTS, DENIED, FORBIDDEN, GA
 
 SCHEMA = 'topos-report 1'
 Flow = tuple[str, str]
-WHOLE_TCP = {'tcp', 'tcp/0-65535'}
 
 
 def flow_of(names: list[str]) -> Flow:
@@ -72,8 +72,7 @@ class Network:
         carries = not services or any(each.startswith('tcp') for each in services)
         if not carries or self.states[flow] != ONE_WAY:
             return False
-        covering = self.services(back)
-        return self.states[back] not in PERMITTED or bool(covering and WHOLE_TCP.isdisjoint(covering))
+        return self.states[back] not in PERMITTED or not covers(self.services(back), TCP)
 
 
 @dataclass

@@ -3,6 +3,7 @@ import functools
 from collections.abc import Iterator
 from ipaddress import IPv4Network
 
+from .flows_services import TCP, UDP, covers
 from .report_changes import Changes, EntryChange, FlowChange
 from .report_model import Flow
 from .report_view import FEW, View, note, table
@@ -10,7 +11,6 @@ from .report_words import FORBIDDEN, GAP, PERMITTED, STATES, counted, esc, verb
 from .rest import PRIVATE, left
 
 MOST_CHANGES = 400
-WHOLE = {'tcp', 'udp', 'tcp/0-65535', 'udp/0-65535'}
 
 
 def section(view: View) -> str:
@@ -129,7 +129,8 @@ def service_points(view: View) -> Iterator[str]:
     whole = [each.flow for each in permitted if not each.services]
     if whole:
         yield f'{counted(len(whole), "permitted flow")} without services, for all traffic: {view.few_flows(whole)}.'
-    ports = [each.flow for each in permitted if not WHOLE.isdisjoint(each.services)]
+    ports = [each.flow for each in permitted
+             if each.services and (covers(each.services, TCP) or covers(each.services, UDP))]
     if ports:
         yield f'{counted(len(ports), "permitted flow")} for all ports of TCP or UDP: {view.few_flows(ports)}.'
     bare = [each.flow for each in permitted if not (each.place.title or each.place.why)]

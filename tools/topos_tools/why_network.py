@@ -3,6 +3,7 @@ from __future__ import annotations
 
 import functools
 
+from .flows_services import TCP, covers
 from .query import LONGEST, Programs, Stopped, line_of, toml
 
 TYPE_CHECKING = False
@@ -161,8 +162,7 @@ class Network:
     def covers_answers(self, flow: Flow) -> bool:
         """Whether the flow back is permitted for all of TCP, since answers have any destination port."""
         back = self.flows[flow[::-1]]
-        is_whole = not back['services'] or not {'tcp', 'tcp/0-65535'}.isdisjoint(back['services'])
-        return bool(back['permitted']) and is_whole
+        return bool(back['permitted']) and covers(back['services'], TCP)
 
     def carries_tcp(self, flow: Flow) -> bool:
         services = self.flows[flow]['services']
