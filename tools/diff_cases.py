@@ -176,6 +176,12 @@ new gap: web db -> inet (2)
 closed gap: db -> web inet (2)
 ~ host db loses 10.0.2.21, now inet
 '''),
+    ('a host that is the rest host no more', [('rest = true', 'at = ["128.0.0.0/1"]')], 0,
+     '''no invariant is weaker, no gap is new, no invariant fails
+- flow inet (old addresses) -> web: everything
+closed gap: web db -> inet (2)
+~ host inet loses 0.0.0.0/5 8.0.0.0/7 10.0.0.0/24 10.0.1.0/29 and 34 more, now no host
+'''),
     ('other services', [('"tcp/5432"', '"tcp/5432", "icmp"')], 0,
      '''no invariant is weaker, no gap is new, no invariant fails
 ~ flow web -> db: tcp/5432 icmp, was tcp/5432

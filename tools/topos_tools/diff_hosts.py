@@ -51,7 +51,7 @@ def host_changes(old: Network, new: Network) -> list[HostChange]:
     before, after = owned_by(old), owned_by(new)
     names = renamed(before, after)
     found = [HostChange(host, 'renamed', '', [name]) for host, name in names.items()]
-    rest = {host['name'] for each in (old, new) for host in each.hosts if host['rest']}
+    rest = {host['name'] for host in old.hosts if host['rest']} & {host['name'] for host in new.hosts if host['rest']}
     came = [host for host in after if host not in before and host not in names.values()]
     went = [host for host in before if host not in after and host not in names]
     for host in came:
