@@ -87,7 +87,8 @@ def usage_of(command: str) -> Usage:
 
 def hosts(words: list[str]) -> list[str]:
     """Returns the hosts of the first file among the words, in its order."""
-    path = next((word for word in words if os.path.isfile(word)), None)
+    paths = (os.path.expanduser(re.sub(r'\\(.)', r'\1', word)) for word in words)  # as the command line has them
+    path = next(filter(os.path.isfile, paths), None)
     lines = printed([find_program(None), 'policy', path]).splitlines() if path else []
     flows = [line.split(' ') for line in lines if ' -> ' in line]
     return list(dict.fromkeys(flow[0] for flow in flows))
