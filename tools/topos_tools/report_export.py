@@ -15,6 +15,7 @@ def csv_text(report: Report) -> str:
     network, output = report.network, io.StringIO(newline='')
     lines = csv.writer(output)
     before = {change.flow: change.before for change in report.changes.flows} if report.changes else None
+    added = report.changes.hosts_added if report.changes else []
     lines.writerow(['from', 'to', 'state', 'asked', 'permitted', 'answered', 'services', 'denied_by', 'line', 'title',
                     *(['before'] if before is not None else [])])
     for flow, each in network.flows.items():
@@ -23,7 +24,8 @@ def csv_text(report: Report) -> str:
                *(str(each[key]).lower() for key in ('asked', 'permitted', 'answered')), ' '.join(each['services']),
                ' '.join(map(str, each['denied_by'])), place.line or '', place.title]
         if before is not None:
-            row.append(SHORT.get(before.get(flow, network.states[flow]), ''))
+            same = '' if flow[0] in added or flow[1] in added else network.states[flow]
+            row.append(SHORT.get(before.get(flow, same), ''))
         lines.writerow(row)
     return output.getvalue()
 
