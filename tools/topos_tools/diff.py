@@ -1,6 +1,7 @@
 """Lists for a reviewer the differences between two descriptions."""
 from .diff_model import SCHEMA, read_difference
 from .diff_text import View
+from .diff_words import MOST_NAMES
 from .query import READS_ANSWERS, USAGE, Programs, Stopped, Tool, data_text, need_words, write_text
 
 USAGE_TEXT = '''usage: topos-diff [--program TOPOS] [--all] [--markdown | --json] OLD NEW
@@ -18,7 +19,8 @@ def main(values: dict[str, str], options: set[str], words: list[str]) -> int:
     need_words(words, 2, 'two descriptions are required')
     if options >= {'--json', '--markdown'}:
         raise Stopped('--json and --markdown exclude each other', USAGE)
-    difference = read_difference(Programs.find(values.get('--program')), *words)
+    most = MOST_NAMES if options.isdisjoint({'--all', '--json'}) else None
+    difference = read_difference(Programs.find(values.get('--program')), words[0], words[1], most)
     view = View(difference, '--all' in options)
     if '--json' in options:
         write_text(None, data_text(difference.tree()))

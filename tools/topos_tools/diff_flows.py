@@ -26,9 +26,9 @@ class FlowChange:
     has_old_names: bool = False  # whether `flow` has names of OLD, and `part` those of NEW
     weight: int = 0  # services that are opened
 
-    def text(self) -> str:
+    def text(self, most: int | None) -> str:
         """Returns what follows the flow on a line."""
-        listed = '; '.join(arrow(product) for product in products(self.part))
+        listed = '; '.join(arrow(product, most) for product in products(self.part))
         part = f'in part ({"now" if self.has_old_names else "was"} {listed})' if listed else ''
         return ', '.join(filter(None, [self.services, self.before and f'was {self.before}', self.note, part]))
 

@@ -2,8 +2,9 @@
 from collections.abc import Iterator
 from dataclasses import dataclass
 
-from .flows_hosts import owned_addresses, told
-from .import_sets import Numbers, difference, intersection, joined
+from .diff_words import few
+from .flows_hosts import MOST_SHOWN, owned_addresses
+from .import_sets import Numbers, difference, intersection, joined, prefix_text, prefixes
 from .report_model import Network
 from .why_network import joined as listed
 
@@ -19,13 +20,18 @@ class HostChange:
     addresses: str
     others: list[str]  # owners of these addresses in the other description; of `renamed` the new name
 
-    def text(self) -> str:
+    def text(self, is_whole: bool) -> str:
         mark = {'comes': '+', 'goes': '-'}.get(self.change, '~')
         verb = {'comes': 'was', 'gains': 'was'}.get(self.change, 'now')
         if self.change == 'renamed':
             return f'~ host {self.host}: now {self.others[0]}'
         head = f'{self.host} {self.change}' if mark == '~' else f'{self.host}:'
-        return f'{mark} host {head} {self.addresses}, {verb} {listed(self.others)}'
+        addresses = few(self.addresses.split(), None if is_whole else MOST_SHOWN)
+        return f'{mark} host {head} {addresses}, {verb} {listed(self.others)}'
+
+
+def told(numbers: Numbers) -> str:
+    return ' '.join(prefix_text(*each).removesuffix('/32') for each in prefixes(numbers))
 
 
 def owned_by(network: Network) -> Owned:

@@ -61,7 +61,7 @@ def _template_of(source: Source, number: int) -> tuple[str, ...]:
     return (source.network.invariants[number - 1]['template'],)
 
 
-def invariant_changes(old: Source, new: Source, names: dict[str, str]) -> list[InvariantChange]:
+def invariant_changes(old: Source, new: Source, names: dict[str, str], most: int | None) -> list[InvariantChange]:
     """Lists the invariants that differ, in the order of NEW, and then those that are gone."""
     same, found = numbers_of(old, new, names), []
     for number, table in enumerate(new.table.get('invariant', []), 1):
@@ -69,7 +69,7 @@ def invariant_changes(old: Source, new: Source, names: dict[str, str]) -> list[I
             found.append(InvariantChange(invariant_name(new, number), None, number, [_summary(table)]))
             continue
         before = with_names(old.table['invariant'][same[number] - 1], names)
-        entries = list(_entry_changes(before, table))
+        entries = list(_entry_changes(before, table, most))
         if entries:
             found.append(InvariantChange(invariant_name(new, number), same[number], number, entries))
     for number, table in enumerate(old.table.get('invariant', []), 1):
@@ -83,7 +83,7 @@ def _summary(table: Table) -> str:
     return f'{table["template"]} with {counted(entries, "entry", "entries")}'
 
 
-def _entry_changes(before: Table, after: Table) -> Iterator[str]:
+def _entry_changes(before: Table, after: Table, most: int | None) -> Iterator[str]:
     """Yields the changes of an invariant: its template, entries that come and go, and their values."""
     if before['template'] != after['template']:
         yield f'template {after["template"]}, was {before["template"]}'
@@ -95,24 +95,24 @@ def _entry_changes(before: Table, after: Table) -> Iterator[str]:
             yield f'{host} is removed ({attribute_words(old[host])})'
         else:
             changed = ', '.join(filter(None, (
-                _value_change(key, old[host].get(key), new[host].get(key))
+                _value_change(key, old[host].get(key), new[host].get(key), most)
                 for key in dict.fromkeys([*new[host], *old[host]]) if old[host].get(key) != new[host].get(key))))
             if changed:
                 yield f'{host}: {changed}'
 
 
-def _value_change(key: str, before: Any, after: Any) -> str:
+def _value_change(key: str, before: Any, after: Any, most: int | None) -> str:
     """Returns the change of a value of an entry; nothing if only the order of a list differs."""
     if isinstance(before or after, list):
         more = [each for each in after or [] if each not in (before or [])]
         less = [each for each in before or [] if each not in (after or [])]
-        return ', '.join(f'{key} {verb} {few(words)}' for verb, words in (('adds', more), ('loses', less)) if words)
+        return ', '.join(f'{key} {verb} {few(words, most)}' for verb, words in (('adds', more), ('loses', less)) if words)
     said = ['absent' if value is None else str(value).lower() if isinstance(value, bool) else str(value)
             for value in (after, before)]
     return f'{key} {said[0]}, was {said[1]}'
 
 
-def setting_changes(old: Source, new: Source) -> Iterator[str]:
+def setting_changes(old: Source, new: Source, most: int | None) -> Iterator[str]:
     """Yields the changes of custom templates and of the keys `answers` and `flow`."""
     for key, default in (('answers', 'all'), ('flow', '')):
         before, after = (each.table.get(key, default) for each in (old, new))
@@ -123,13 +123,13 @@ def setting_changes(old: Source, new: Source) -> Iterator[str]:
     tables = [{each['name']: each for each in source.table.get('template', [])} for source in (old, new)]
     for name in dict.fromkeys([*tables[1], *tables[0]]):
         if tables[0].get(name) != tables[1].get(name):
-            yield _template_change(name, tables[0].get(name), tables[1].get(name))
+            yield _template_change(name, tables[0].get(name), tables[1].get(name), most)
 
 
-def _template_change(name: str, before: Table | None, after: Table | None) -> str:
+def _template_change(name: str, before: Table | None, after: Table | None, most: int | None) -> str:
     if before is None or after is None:
         return f'{"+" if after else "-"} template {name}'
-    changed = [_value_change(key, *([_words(value) for value in (before.get(key), after.get(key))]))
+    changed = [_value_change(key, _words(before.get(key)), _words(after.get(key)), most)
                for key in dict.fromkeys([*after, *before]) if before.get(key) != after.get(key)]
     return f'~ template {name}: {", ".join(filter(None, changed)) or "in another order"}'
 

@@ -89,8 +89,8 @@ class Difference:
                 'invariants': [asdict(each) for each in self.invariants], 'settings': self.settings}
 
 
-def read_difference(programs: Programs, before: str, after: str) -> Difference:
-    """Reads two descriptions, and returns their difference."""
+def read_difference(programs: Programs, before: str, after: str, most: int | None) -> Difference:
+    """Reads two descriptions, and returns their difference; `most` words are shown of a list in an entry, or all."""
     old, new = (read_source(programs, path, NOT_READ) for path in (before, after))
     answer, back = programs.ask_changes(old.data, new.data), programs.ask_changes(new.data, old.data)
     names = renamed(owned_by(old.network), owned_by(new.network))
@@ -98,7 +98,7 @@ def read_difference(programs: Programs, before: str, after: str) -> Difference:
     return Difference(
         old, new, same, list(_failing(old, new, same)), Openings.of(answer), Openings.of(back),
         Changes(old, new, answer).flows(), host_changes(old.network, new.network),
-        invariant_changes(old, new, names), list(setting_changes(old, new)))
+        invariant_changes(old, new, names, most), list(setting_changes(old, new, most)))
 
 
 def _failing(old: Source, new: Source, same: dict[int, int]) -> Iterable[Failing]:

@@ -121,7 +121,7 @@ class View:
         groups: dict[tuple[str, str], list[Flow]] = {}
         for each in found:
             source = self.difference.old if each.change == 'goes' else self.difference.new
-            told = each.text() + _quoted(source.page.flow(*each.flow).title)
+            told = each.text(self.most) + _quoted(source.page.flow(*each.flow).title)
             groups.setdefault((each.change, told), []).append(each.flow)
         for (change, told), flows in groups.items():
             for product in products(flows):
@@ -130,7 +130,7 @@ class View:
     def hosts(self) -> Iterator[str]:
         for each in self.difference.hosts:
             source = self.difference.old if each.change in ('goes', 'renamed') else self.difference.new
-            yield each.text() + _quoted(source.page.host(each.host).title)
+            yield each.text(self.is_whole) + _quoted(source.page.host(each.host).title)
 
     def settings(self) -> Iterator[str]:
         for each in self.difference.invariants:
