@@ -106,7 +106,8 @@ def _value_change(key: str, before: Any, after: Any, most: int | None) -> str:
     if isinstance(before or after, list):
         more = [each for each in after or [] if each not in (before or [])]
         less = [each for each in before or [] if each not in (after or [])]
-        return ', '.join(f'{key} {verb} {few(words, most)}' for verb, words in (('adds', more), ('loses', less)) if words)
+        changes = ('adds', more), ('loses', less)
+        return ', '.join(f'{key} {verb} {few(words, most)}' for verb, words in changes if words)
     said = ['absent' if value is None else str(value).lower() if isinstance(value, bool) else str(value)
             for value in (after, before)]
     return f'{key} {said[0]}, was {said[1]}'
