@@ -1,4 +1,9 @@
-"""Texts that are read line by line: the place of a fault in a line, and advice, both by answers of the program."""
+"""Texts that are read line by line: the place of a fault in a line, and advice, both by answers of the program.
+
+A mark begins with the first word from which on the program refuses the line for the reason that it reports, and it ends
+with the first word after which none of the endings helps that are tried. Advice is shown if the program bears it out:
+it accepts the advised line, or refuses it further right.
+"""
 import itertools
 import re
 import shlex

@@ -1,4 +1,8 @@
-"""The place of a refusal in a copy of a description, and which parts of a table or an array are at fault."""
+"""The place of a refusal in a copy of a description, and which parts of a table or an array are at fault.
+
+A refusal tells its place. For a table or an array with something wrong in it, its parts are put into the copy one after
+another, next to a sample that the program accepts: a part is at fault if the program refuses the copy with it.
+"""
 from functools import partial
 from typing import Any
 
@@ -155,7 +159,8 @@ class Description:
         return [word for word in dict.fromkeys(own) if word and word not in SAMPLES['kinds']]
 
     def values(self, key: str) -> list[Any]:
-        return [self.fresh(value) for value in values_of(key) + self.own_kinds() * (key in ('kind', 'default'))]
+        found = values_of(key) + self.own_kinds() * (key in ('kind', 'default'))
+        return [self.fresh(value) for place, value in enumerate(found) if value not in found[:place]]
 
     def fresh(self, value: Any) -> Any:
         """Returns the value with a new name or a new address where it has one."""
