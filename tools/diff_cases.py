@@ -258,6 +258,17 @@ topos-cuts: note: connections: 1 line is no connection, the first is line 8
      '''a load would delete 0 connections; 1 remain
 topos-cuts: note: connections: 1 line is no connection, the first is line 8
 '''),
+    ('of the firewall alone', ['--firewall', '10.20.2.0/29,10.20.50.8,10.20.20.5'], LOGGED, 2,
+     '''topos-cuts: note: connections: 1 line is no connection, the first is line 8
+topos-cuts: connections: no connection to evaluate
+'''),
+    ('an empty file', [], '', 2, 'topos-cuts: connections: no connection to evaluate\n'),
+    ('no entry', ['--json'], 'conntrack v1.4.7 (conntrack-tools): 0 flow entries have been shown.\n', 2,
+     'topos-cuts: connections: no connection to evaluate\n'),
+    ('IPv6 alone', [], 'fd00::1 fd00::2 tcp 40000 80\n', 2,
+     '''topos-cuts: note: connections: 1 line of IPv6 left out
+topos-cuts: connections: no connection to evaluate
+'''),
     ('many services', [],
      ''.join(f'10.20.20.{port % 3 + 1} 10.20.50.7 tcp 1 {port}\n' for port in range(1000, 1021)), 1,
      '''a load would delete 21 connections; 0 remain

@@ -17,10 +17,10 @@ USAGE_TEXT = '''usage: topos-cuts [--program TOPOS] [--firewall ADDRESSES] [--al
        --firewall ADDRESSES   leaves out the connections of the firewall itself; with commas between addresses
        --all                  lists every service, and cuts no list
        --json                 writes the data
-       exit status 0: the rules let all of them begin; 1: some are listed
+       exit status 0: the rules let all of them begin; 1: some are listed; 2: there is none to evaluate
        topos-query is the program in TOPOS_QUERY, else the one next to topos, else the one on the PATH
 '''
-FOUND = 1
+FOUND, NO_CONNECTION = 1, 2
 MOST_LINES = 20
 BROADCAST = 0xffffffff
 
@@ -48,8 +48,10 @@ def own_addresses(given: str) -> Numbers:
     return joined(found)
 
 
-def is_forwarded(connection: Connection, own: Numbers) -> bool:
-    return not any(intersection(single(each), own) for each in (connection.sender, connection.receiver))
+def forwarded(saved: Saved, own: Numbers) -> list[Connection]:
+    """Returns the connections that are not those of the firewall itself."""
+    return [each for each in saved.connections
+            if not any(intersection(single(end), own) for end in (each.sender, each.receiver))]
 
 
 def note(path: str, saved: Saved) -> None:
@@ -91,7 +93,10 @@ def main(values: dict[str, str], options: set[str], words: list[str]) -> int:
     programs = Programs.find(values.get('--program'))
     source, saved = Source.read(programs, words[0]), read_saved(words[1])
     note(words[1], saved)
-    found = Judge(programs, source).judge([each for each in saved.connections if is_forwarded(each, own)])
+    connections = forwarded(saved, own)
+    if not connections:
+        raise Stopped(f'{words[1]}: no connection to evaluate', NO_CONNECTION)
+    found = Judge(programs, source).judge(connections)
     write_text(None, json_of(found, saved) if '--json' in options else text_of(found, '--all' in options))
     return FOUND if found.deleted else 0
 
