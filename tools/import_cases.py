@@ -199,8 +199,12 @@ REFUSED = (
         (f'-A FORWARD -j c\n-A c -p tcp -m multiport --ports {ODD} -m iprange --src-range 1.0.0.1-223.255.255.254'
          ' -m iprange --dst-range 1.0.0.1-223.255.255.254 -j RETURN', 'would be written'))))
 BAD_SETS = ('eth0 rest', '"" x', 'flush a')
-BAD_TABLES = ('eth0', 'eth0 10.0.0.0/33', 'eth0 x', 'default dev', 'eth0 rest\neth1 rest',
-              'eth0 10.0.0.0/8\neth1 10.0.0.0/8')
+TWO_WAYS = 'default via 192.0.2.1 dev eth0 metric 100\ndefault via 198.51.100.1 dev eth1 metric 200\n'
+SAME_NETWORK = 'an address is behind one interface only'
+TWICE = ((TWO_WAYS, f'interfaces: line 2: 0.0.0.0/0 is behind eth0 and behind eth1: {SAME_NETWORK}'),
+         ('eth0 rest\neth1 10.0.0.0/8\n# x\neth2 10.0.0.0/8 10.1.0.0/16\n',
+          f'interfaces: line 4: 10.0.0.0/8 is behind eth1 and behind eth2: {SAME_NETWORK}'))
+BAD_TABLES = ('eth0', 'eth0 10.0.0.0/33', 'eth0 x', 'default dev')
 
 # Each replaces code by other code, in a module of topos_tools. The test has to fail.
 WRONG = (

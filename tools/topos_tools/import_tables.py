@@ -2,7 +2,7 @@
 import re
 from collections.abc import Iterable
 
-from .import_sets import ALL_ADDRESSES, Numbers, difference, joined
+from .import_sets import ALL_ADDRESSES, Numbers, difference, joined, prefix_text, prefixes
 from .import_words import Refused, address, address_range
 
 NO_INTERFACE = {'local', 'broadcast', 'multicast', 'anycast', 'unreachable', 'blackhole', 'prohibit', 'throw', 'nat'}
@@ -32,7 +32,7 @@ class Interfaces:
                 if words[1:] == [NONE]:
                     unused.append(words[0])
                 elif table == 'main':
-                    add_routes(routes, _routes(words))
+                    add_routes(routes, _routes(words), number)
                 elif table not in ['local', *self.left]:
                     self.left.append(table)
             except (ValueError, IndexError):
@@ -47,11 +47,13 @@ class Interfaces:
         return self.networks.get(name, () if name == 'lo' else None)  # the box forwards nothing from or to itself
 
 
-def add_routes(found: dict[Numbers, str], routes: Iterable[tuple[str, Numbers]]) -> None:
-    """Adds routes. Fails with ValueError if a network has another name already."""
+def add_routes(found: dict[Numbers, str], routes: Iterable[tuple[str, Numbers]], line: int) -> None:
+    """Adds the routes of a line. A network that has another name already is refused."""
     for name, network in routes:
-        if found.setdefault(network, name) != name:
-            raise ValueError(name)
+        other = found.setdefault(network, name)
+        if other != name:
+            raise Refused(f'interfaces: line {line}: {prefix_text(*prefixes(network)[0])} is behind {other} and behind '
+                          f'{name}: an address is behind one interface only')
 
 
 def by_longest(routes: dict[Numbers, str]) -> dict[str, Numbers]:
