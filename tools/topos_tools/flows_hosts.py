@@ -6,13 +6,14 @@ from collections.abc import Iterator
 from .flows_list import lines_text
 from .import_save import Save
 from .import_sets import (ALL_ADDRESSES, Numbers, address_text, difference, intersection, is_subset, joined,
-                          prefix_text, prefixes)
+                          prefix, prefix_text, prefixes)
 from .import_tables import Interfaces
 from .import_words import Refused
 
 REST = 'rest'
 MOST_HOSTS, MOST_PREFIXES, LONGEST_NAME = 256, 1024, 32  # of a description
 MOST_SHOWN = 4
+NO_HOST = prefix(0xe0000000, 3)  # multicast, reserved and broadcast addresses
 
 
 def named_sets(save: Save) -> dict[Numbers, list[int]]:
@@ -61,14 +62,25 @@ def interfaces_of_hosts(save: Save | None, hosts: dict[str, Numbers]) -> dict[st
 
 # A proposal of hosts.
 
+def sets_of_hosts(save: Save, interfaces: Interfaces) -> dict[Numbers, list[int]]:
+    """Returns the sets that rules name, without addresses that no host has, and except sets of broadcast addresses."""
+    found: dict[Numbers, list[int]] = {}
+    for numbers, lines in named_sets(save).items():
+        owned = difference(numbers, NO_HOST)
+        if not is_subset(owned, interfaces.broadcasts):
+            found.setdefault(owned, []).extend(lines)
+    return found
+
+
 def proposal(save: Save, interfaces: Interfaces) -> str:
     """Returns hosts: the networks of each interface, and the sets that rules single out from them."""
     if not interfaces.networks:
         raise Refused('the table of interfaces is empty')
-    named = named_sets(save)
+    named = sets_of_hosts(save, interfaces)
     rest = max(interfaces.networks, key=lambda name: sum(high - low for low, high in interfaces.networks[name]))
     classes: dict[tuple[str, tuple[Numbers, ...]], Numbers] = {}
-    for interface, networks in interfaces.networks.items():
+    for interface, behind in interfaces.networks.items():
+        networks = difference(behind, NO_HOST)
         cutting = [each for each in named if is_part(intersection(each, networks), networks)
                    and (interface != rest or is_subset(each, networks))]
         for numbers, within in split(networks, cutting):

@@ -18,7 +18,7 @@ class Interfaces:
     """The addresses behind each interface.
 
     The lines are `IFACE NET ..`, `IFACE rest` and `IFACE none`, or those of `ip -4 route`, also of `table all`. An
-    address is behind the interface with the longest prefix that has it.
+    address is behind the interface with the longest prefix that has it. The last address of a network is its broadcast.
     """
 
     def __init__(self, text: str) -> None:
@@ -38,6 +38,7 @@ class Interfaces:
             except (ValueError, IndexError):
                 raise Refused(f'interfaces: line {number}: {line.strip()[:100]!r}') from None
         self.networks = {**dict.fromkeys(unused, ()), **by_longest(routes)}
+        self.broadcasts = joined((high, high) for network in routes for low, high in network[-1:] if high > low + 1)
 
     def behind(self, name: str) -> Numbers | None:
         """Returns the addresses behind the interfaces of a name, which may end with `+`; None if there are none."""
