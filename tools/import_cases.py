@@ -203,7 +203,9 @@ TWO_WAYS = 'default via 192.0.2.1 dev eth0 metric 100\ndefault via 198.51.100.1 
 SAME_NETWORK = 'an address is behind one interface only'
 TWICE = ((TWO_WAYS, f'interfaces: line 2: 0.0.0.0/0 is behind eth0 and behind eth1: {SAME_NETWORK}'),
          ('eth0 rest\neth1 10.0.0.0/8\n# x\neth2 10.0.0.0/8 10.1.0.0/16\n',
-          f'interfaces: line 4: 10.0.0.0/8 is behind eth1 and behind eth2: {SAME_NETWORK}'))
+          f'interfaces: line 4: 10.0.0.0/8 is behind eth1 and behind eth2: {SAME_NETWORK}'),
+         ('e\033[31m rest\neth1 rest',
+          f'interfaces: line 2: 0.0.0.0/0 is behind e?[31m and behind eth1: {SAME_NETWORK}'))
 BAD_TABLES = ('eth0', 'eth0 10.0.0.0/33', 'eth0 x', 'default dev')
 
 # Each replaces code by other code, in a module of topos_tools. The test has to fail.

@@ -4,6 +4,7 @@ from collections.abc import Iterable
 
 from .import_sets import ALL_ADDRESSES, Numbers, difference, joined, prefix_text, prefixes
 from .import_words import Refused, address, address_range
+from .query import plain
 
 NO_INTERFACE = {'local', 'broadcast', 'multicast', 'anycast', 'unreachable', 'blackhole', 'prohibit', 'throw', 'nat'}
 REST = {'rest', 'default', '0.0.0.0/0'}
@@ -53,8 +54,9 @@ def add_routes(found: dict[Numbers, str], routes: Iterable[tuple[str, Numbers]],
     for name, network in routes:
         other = found.setdefault(network, name)
         if other != name:
-            raise Refused(f'interfaces: line {line}: {prefix_text(*prefixes(network)[0])} is behind {other} and behind '
-                          f'{name}: an address is behind one interface only')
+            both = plain(f'{other} and behind {name}')
+            raise Refused(f'interfaces: line {line}: {prefix_text(*prefixes(network)[0])} is behind {both}: an address '
+                          'is behind one interface only')
 
 
 def by_longest(routes: dict[Numbers, str]) -> dict[str, Numbers]:
