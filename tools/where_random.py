@@ -123,10 +123,11 @@ class Asked:
 
     def __init__(self, program: str, kind: str) -> None:
         self.kind = kind
-        words, self.before = {
+        kinds: dict[str, tuple[list[str], list[str]]] = {
             'rules': (['trace', 'iptables', '/dev/stdin', '/dev/null'], []), 'edits': (['edit', '/dev/stdin'], [NET]),
             'flows': (['trace', 'openflow', '/dev/stdin', '/dev/null'], []), 'description': (['migrate', '/dev/stdin'], []),
-            'events': (['trace', 'iptables', '/dev/stdin'], [EMPTY])}[kind]
+            'events': (['trace', 'iptables', '/dev/stdin'], [EMPTY])}
+        words, self.before = kinds[kind]
         self.words = [program, *words]
 
     def line(self, text: str) -> str:

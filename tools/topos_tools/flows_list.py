@@ -65,8 +65,8 @@ class Listing:
         """Yields the notes behind an entry."""
         yield lines_text({line for part in self.upper.pairs[pair] if self.has_parts or part.drops is None
                           for line in part.lines})
-        interface = self.interfaces.get(pair[0])
-        if interface and interface == self.interfaces.get(pair[1]):
+        interface = self.interfaces.get(pair[0] or '')
+        if interface and interface == self.interfaces.get(pair[1] or ''):
             yield f'both behind {interface}'
         doubtful = difference(listed, self.lower.any(pair)) if self.has_parts else self.doubtful(pair, listed)
         if doubtful:

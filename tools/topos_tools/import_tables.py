@@ -38,7 +38,7 @@ class Interfaces:
                     self.left.append(table)
             except (ValueError, IndexError):
                 raise Refused(f'interfaces: line {number}: {line.strip()[:100]!r}') from None
-        self.networks = {**dict.fromkeys(unused, ()), **by_longest(routes)}
+        self.networks: dict[str, Numbers] = {**dict.fromkeys(unused, ()), **by_longest(routes)}
         self.broadcasts = joined((high, high) for network in routes for low, high in network[-1:] if high > low + 1)
 
     def behind(self, name: str) -> Numbers | None:

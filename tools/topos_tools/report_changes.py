@@ -107,6 +107,6 @@ def changes_between(old: Source, new: Source) -> Changes:
         flow_changes(before, after),
         [number for number in range(1, len(tables[1]) + 1) if number not in same],
         [(number, each['template']) for number, each in enumerate(tables[0], 1) if number not in same.values()],
-        entry_changes(*tables, same),
+        entry_changes(tables[0], tables[1], same),
         [(number, after.invariants[number - 1]['holds']) for number, other in same.items()
          if after.invariants[number - 1]['holds'] != before.invariants[other - 1]['holds']])

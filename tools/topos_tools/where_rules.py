@@ -107,7 +107,8 @@ class RulesText(LineText):
     def is_reached(self, number: int) -> bool:
         """Whether some packet of a trace may get to the line: to a rule in its place that accepts all."""
         def chain_of(line: str) -> str:
-            return (re.findall(r'^\s*(?:\[\S*\s+)?-A\s+(\S+)', line) + [''])[0]
+            found = re.match(r'\s*(?:\[\S*\s+)?-A\s+(\S+)', line)
+            return found[1] if found else ''
         chain = chain_of(self.page.line(number))
         above = [text for other, text in self.lines if other < number]
         wide = [f'-A {chain} -j ACCEPT'] * 2

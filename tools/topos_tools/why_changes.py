@@ -14,12 +14,12 @@ from .why_reasons import FEW, SHOWN, hosts_of
 TYPE_CHECKING = False
 if TYPE_CHECKING:
     from collections.abc import Iterator
-    from typing import Any
+    from typing import Any, TypeAlias
 
     from .why_network import Flow, Table, Thing
     from .why_reasons import Given
 
-    Change = Entry | Without
+    Change: TypeAlias = 'Entry | Without'
 
 AT_ONCE = 16  # invariants of a description
 SCREENED = 2 * AT_ONCE  # entries that are screened together before changes are tried one by one; half on paths
