@@ -46,6 +46,10 @@ class Stopped(Exception):
         self.status = status
 
 
+class TimedOut(Stopped):
+    """The time limit is reached."""
+
+
 def find_program(given: str | None) -> str:
     """Returns the path of `topos`: as given, by TOPOS, next to the tool, built in the repository, or on the PATH."""
     return _find(given or os.environ.get('TOPOS'), 'topos', _beside_tool(), 'name the program with --program')
@@ -314,7 +318,7 @@ def need_words(words: list[str], count: int, missing: str, most: int = 0) -> Non
 def limit(seconds: int = SECONDS) -> None:
     """Limits the memory and the time of this process."""
     def end(*_: object) -> None:
-        raise Stopped(f'this took longer than {seconds} seconds')
+        raise TimedOut(f'this took longer than {seconds} seconds')
     _, hard = resource.getrlimit(resource.RLIMIT_AS)
     most = MEMORY if hard == resource.RLIM_INFINITY else min(MEMORY, hard)
     resource.setrlimit(resource.RLIMIT_AS, (most, hard))

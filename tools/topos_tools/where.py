@@ -4,7 +4,8 @@ import re
 import sys
 
 from .query import LONGEST as MOST
-from .query import NO_REFUSAL, UNAVAILABLE, Stopped, Tool, data_text, find_program, need_words, read_bytes, write_text
+from .query import (NO_REFUSAL, UNAVAILABLE, Stopped, TimedOut, Tool, data_text, find_program, need_words, read_bytes,
+                    write_text)
 from .toml_places import Fault
 from .where_description import Explanation
 from .where_edits import EditsText
@@ -70,6 +71,13 @@ class Search:
         more = '' if accepted else ', and there may be more once these are mended'
         self.page.say(f'{count:,} place{"s" * (count != 1)}{more}')
         return 2 if not accepted else 1 if count else 0
+
+    def stop(self, stopped: TimedOut) -> int:
+        """Says that the search is not complete, and returns the exit status; raises the error if nothing is found."""
+        if not self.is_whole or not self.page.findings:
+            raise stopped
+        self.page.say(f'The search was stopped: {stopped}.')
+        return self.status(False)
 
     # Texts that are read line by line.
 
@@ -150,14 +158,16 @@ class Search:
             if now.number != 1:
                 self.page.show(Finding(f'{now.number} {now.name} at {now.place}', [], [GENERAL[now.number]]))
             return self.status(False)
-        findings, accepted = self.findings(text, edited)
-        for finding in sorted(findings, key=lambda finding: finding.marks[0].start if finding.marks else 0):
-            self.page.show(finding)
+        findings: list[Finding] = []
+        try:
+            accepted = self.find(text, edited, findings)
+        finally:  # also at the time limit
+            for finding in sorted(findings, key=lambda finding: finding.marks[0].start if finding.marks else 0):
+                self.page.show(finding)
         return self.status(accepted)
 
-    def findings(self, text: Description, edited: Edited) -> tuple[list[Finding], bool]:
-        """Returns the findings of a description, and whether the copy without the faults is accepted."""
-        findings: list[Finding] = []
+    def find(self, text: Description, edited: Edited, findings: list[Finding]) -> bool:
+        """Adds the findings of a description, and returns whether the copy without the faults is accepted."""
         mends, is_hidden = Mends(text, bool(edited.touched)), False
         now, most = text.ask(), ROUNDS - len(self.page.findings)
         while now is not None and len(findings) < most:
@@ -165,11 +175,12 @@ class Search:
             is_lost = bool(edited.touched) and (now.place == 'document' or not finding.marks)
             hides = is_lost or any(map(edited.is_touched, finding.marks)) or mends.hides(finding)
             finding.marks = list(map(edited.mark, finding.marks))
-            findings, is_hidden = findings + [finding] * (not hides), is_hidden or hides
+            findings += [finding] * (not hides)
+            is_hidden = is_hidden or hides
             if not self.is_whole or not mends.mend(finding):
                 break
             now = text.ask()
-        return findings, now is None and not is_hidden
+        return now is None and not is_hidden
 
 
 def search(words: list[str], program: Program, page: Page, data: bytes, is_whole: bool) -> int:
@@ -180,10 +191,13 @@ def search(words: list[str], program: Program, page: Page, data: bytes, is_whole
         raise Stopped('no refusal of topos on the standard input: topos check FILE 2>&1 | topos-where FILE', NO_REFUSAL)
     refusal = found[0] if found else None
     what, task = refusal.what if refusal else kind_of(page.text), Search(program, page, is_whole)
-    if what == 'description':
-        return task.description(data, refusal)
-    description = read_bytes(words[1], LONGEST) if len(words) > 1 else None
-    return task.lines(task.line_text(what, refusal, description), refusal)
+    try:
+        if what == 'description':
+            return task.description(data, refusal)
+        description = read_bytes(words[1], LONGEST) if len(words) > 1 else None
+        return task.lines(task.line_text(what, refusal, description), refusal)
+    except TimedOut as stopped:
+        return task.stop(stopped)
 
 
 def main(values: dict[str, str], options: set[str], words: list[str]) -> int:

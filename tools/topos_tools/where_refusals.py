@@ -3,7 +3,7 @@ import re
 from dataclasses import dataclass, field
 from typing import Any
 
-from .query import Programs, Question, Stopped, find_query
+from .query import Programs, Question, Stopped, TimedOut, find_query
 
 PLACE = r'document|host \d+|invariant \d+(?: assign \d+)?|flow \d+|template \d+'
 DESCRIPTION = re.compile(rf'topos: description: (\d+) (\w+) at ({PLACE})(?: item (\d+))?(?:, other (\d+))?(?:: .*)?$')
@@ -63,5 +63,7 @@ class Program:
         """Returns what rules let pass, and which are dead, or None if topos-query is missing or refuses them."""
         try:
             return Programs(self.path, find_query(self.path)).ask_flows(b'topos = 2\nhost = []\n', rules)
+        except TimedOut:
+            raise
         except Stopped:
             return None
