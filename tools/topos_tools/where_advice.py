@@ -135,14 +135,23 @@ PUTS: dict[str, Callable[[re.Match[str]], Iterable[str]]] = {
 
 
 def near(word: str, words: Iterable[str]) -> str | None:
-    """Returns the word that is like another one, but for the order of letters or a few of them."""
-    known = [other for other in dict.fromkeys(words) if other != word]
+    """Returns the word that is like another one, but for the order of letters or a few of them.
+
+    A word that differs in digits only is another host, and not meant."""
+    known = [other for other in dict.fromkeys(words) if other != word and not differ_in_digits(word, other)]
     swapped = [other for other in known if sorted(other.lower()) == sorted(word.lower())]
     if swapped:
         return swapped[0]
     found = difflib.get_close_matches(word.lower(), [other.lower() for other in known], 1,
                                       0.6 if len(word) < 5 else 0.75)
     return next((other for other in known if other.lower() == found[0]), None) if found else None
+
+
+def differ_in_digits(word: str, other: str) -> bool:
+    """Whether two words have the same letters and signs, but other digits."""
+    without = [re.sub('[0-9]', '', each.lower()) for each in (word, other)]
+    digits = [re.sub('[^0-9]', '', each) for each in (word, other)]
+    return without[0] == without[1] and digits[0] != digits[1]
 
 
 def first_where(holds: Callable[[int], bool], low: int, high: int) -> int:
