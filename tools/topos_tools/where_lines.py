@@ -210,6 +210,10 @@ class LineText:
         """Returns what is wrong in a line of the copy, whose place is counted from 0, if that is known otherwise."""
         return None
 
+    def is_read_as(self, refused: RefusedLine, plain: str) -> bool:
+        """Whether another line in the place of a refused one is not refused for the same reason."""
+        return refused.reason(plain) != refused.name
+
     def depends(self, refusal: Refusal, line: str) -> bool:
         """Whether the line may be refused only because a line was dropped."""
         return False
@@ -251,7 +255,7 @@ class LineText:
         told = self.told(refused, refusal, at)
         if told is not None:
             return told
-        if unix(line) != line and refused.reason(unix(line)) != refusal.name:
+        if unix(line) != line and self.is_read_as(refused, unix(line)):
             sentences = [said for char, (said, _) in WINDOWS.items() if char in line]
             return Told(0, len(line) - 1 if '\r' in line else 1, sentences, drop=set())
         if refusal.name == 'TooMany':

@@ -58,6 +58,9 @@ class RulesText(LineText):
         self.other_tables |= {number for number in drop if first and number >= first}
         return Told(0, len(line.line.rstrip()), [f'{said[0]} {SAVE}'], drop=drop or None)
 
+    def is_read_as(self, refused: RefusedLine, plain: str) -> bool:
+        return super().is_read_as(refused, plain) or not refused.reason('*filter', plain)
+
     def loop(self, refusal: Refusal, line: RefusedLine) -> Told:
         """The jumps without each of which topos finds no loop here."""
         here, name = self.lines[refusal.line - 1], line.words[0][0][1:]
