@@ -9,7 +9,7 @@ from .where_lines import CONFLICTS, LineText, RefusedLine, Told, Word, words_of
 from .where_page import Page
 from .where_parts import Description
 from .where_refusals import Program, Refusal
-from .where_toml import Edited, fault_in
+from .where_toml import Edited, NoToml, fault_in
 
 VALUE = 'v = '  # before what follows the number of an invariant: a TOML value
 EMPTY = b'topos = 2\nhost = []\nflow = []\n'  # in the place of a description that is not named
@@ -84,10 +84,23 @@ class EditsText(LineText):
         begin = line.words[2][1]
         fault, shift = fault_in(VALUE + line.line[begin:]), begin - len(VALUE)
         if fault:
+            told = self.unclosed(line, shift, fault)
+            if told:
+                return told
             said = fault.sentence.replace(' that begins in line {}', '').replace('line {}', 'it')
             start = shift + max(fault.at, len(VALUE))
             return Told(start, max(start + 1, shift + fault.end), [said])
         return None if refusal.name == 'BadValue' else self.entry(line, shift)
+
+    def unclosed(self, line: RefusedLine, shift: int, fault: Fault) -> Told | None:
+        """Returns where a comma, a quote or a bracket is missing with which the program reads the line on."""
+        toml = NoToml(self.program, Edited(VALUE + line.line[shift + len(VALUE):]))
+        for at, gone, put in toml.repairs(fault) if fault.first and fault.open else ():
+            mended = toml.text[:at] + put + toml.text[at:]
+            if put and not gone and fault_in(mended) is None and line.helps(shift + at, shift + at, put):
+                said = toml.missing(fault, at, put, []).replace(' that begins in line 1', '')
+                return Told(shift + at, shift + at + 1, [f'{said} With `{put}` topos reads on.'])
+        return None
 
     def entry(self, line: RefusedLine, shift: int) -> Told | None:
         """What a description with this entry alone is refused for."""
