@@ -169,7 +169,8 @@ class Expected:
         if self.asked.kind == 'events':
             return [' '.join('packet 10.0.0.1 10.0.0.2 tcp 0 0'.split()[count:])]
         if self.asked.kind == 'edits' and count < 3:
-            ones = [*HOSTS, *(f'{{ host = "{host}" }}' for host in HOSTS)]
+            has_entry = not count or self.words[0][0] not in ('add', 'remove', 'unset')
+            ones = [*HOSTS, *(f'{{ host = "{host}" }}' for host in HOSTS if has_entry)]
             return ['', *ones, *(f'{first} {second}' for first in ('1', *HOSTS) for second in ones if count < 2)]
         return [self.tail]
 

@@ -14,6 +14,7 @@ from .where_toml import Edited, NoToml, fault_in
 VALUE = 'v = '  # before what follows the number of an invariant: a TOML value
 EMPTY = b'topos = 2\nhost = []\nflow = []\n'  # in the place of a description that is not named
 PARSED = ('BadLine', 'BadValue', 'TooMany', 'TooLong')  # reasons without a description
+NO_ENTRY = ('add', 'remove', 'unset')  # first words that no entry follows
 MOST = 6  # hosts of which pairs are tried
 
 
@@ -44,17 +45,19 @@ class EditsText(LineText):
         return words, ''
 
     def closings(self, line: RefusedLine, count: int) -> Iterable[str]:
-        """Returns what makes an edit of the first words of a line: hosts, or an entry for one."""
+        """Returns what makes an edit of the first words of a line: hosts, or an entry for one unless the first word
+        takes none."""
         yield ''
         if count > 2:
             return
         hosts = self.hosts or ['a']
         few = hosts[:MOST]
+        entries = [f'{{ host = "{host}" }}' for host in few if not count or line.words[0][0] not in NO_ENTRY]
         yield from hosts
-        yield from (f'{{ host = "{host}" }}' for host in few)
+        yield from entries
         if count < 2:
             yield from (f'{first} {second}' for first in ('1', *few) for second in few)
-            yield from (f'1 {{ host = "{host}" }}' for host in few)
+            yield from (f'1 {entry}' for entry in entries)
 
     def depends(self, refusal: Refusal, line: str) -> bool:
         """Whether a line was dropped that names a host of this one, and no other invariant."""
