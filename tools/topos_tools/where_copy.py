@@ -98,6 +98,11 @@ class Copy:
     def names(self) -> list[str]:
         return [name for host in self.rows('host') if (name := text_of(host.get('name'))) is not None]
 
+    def names_of_file(self) -> list[str]:
+        """Returns the names of hosts without those that the copy has in addition."""
+        nodes = [node for host in self.rows('host') if (node := host.get('name')) and node.origin != 'made']
+        return [name for name in map(text_of, nodes) if name is not None]
+
     def mentions(self, name: str) -> list[Node]:
         """The places of the text in flows and in entries."""
         found = [item for flow in self.rows('flow') for item in flow.items()[:2]]

@@ -203,8 +203,8 @@ class Explanation(Finding):
             return f'The elements of `{key}` {pairs}.'
         if item.value in map(text_of, kept):
             return f'{quoted(item.value)} is in `{key}` twice.'
-        likely = near(item.value, [*copy.names(), *(text_of(each) or '' for other in self.node.inner()
-                                                    for each in other.items())])
+        texts = (text_of(each) or '' for other in self.node.inner() for each in other.items())
+        likely = near(item.value, [*copy.names_of_file(), *texts])
         meant = f' Is {quoted(likely)} meant?' if likely and fits(likely) else ''
         with copy.tried(partial(copy.declare, item.value)):
             if item.value not in copy.names()[:-1] and fits(item.value):
@@ -304,7 +304,7 @@ class Explanation(Finding):
             yield partial(take, net), said
         if number in (15, 16):
             own = [text_of(row.get('name')) or '' for row in copy.rows('template')]
-            likely = near(at.value, copy.names() if number == 16 else TEMPLATES + own)
+            likely = near(at.value, copy.names_of_file() if number == 16 else TEMPLATES + own)
             if likely:
                 yield partial(take, likely), f'Is {quoted(likely)} meant?'
         if number == 20:
