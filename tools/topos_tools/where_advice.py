@@ -137,8 +137,9 @@ PUTS: dict[str, Callable[[re.Match[str]], Iterable[str]]] = {
 def near(word: str, words: Iterable[str]) -> str | None:
     """Returns the word that is like another one, but for the order of letters or a few of them.
 
-    A word that differs in digits only is another host, and not meant."""
-    known = [other for other in dict.fromkeys(words) if other != word and not differ_in_digits(word, other)]
+    A number is like no word. A word that differs in digits only is another host, and not meant."""
+    known = [other for other in dict.fromkeys(words)
+             if other != word and not word.isdigit() and not differ_in_digits(word, other)]
     swapped = [other for other in known if sorted(other.lower()) == sorted(word.lower())]
     if swapped:
         return swapped[0]
