@@ -46,7 +46,7 @@ def answer(description: Description, words: list[str]) -> tuple[list[str], Table
         flows = description.network.flows
         return tcp_lines(description), {'tcp_without_answers': [
             {'flow': flow, 'services': flows[flow]['services'], 'by': by} for flow, by in silent(description)]}
-    flow = tuple(words)
+    flow = tuple(word.encode(errors='replace').decode() for word in words)  # no name has the `?` of a wrong byte
     given = asked(description, flow)
     if given is None:
         said = f'{words[0]} is one host: what goes from one of its addresses to another is dropped, and is no flow.'
