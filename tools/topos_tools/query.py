@@ -18,7 +18,7 @@ import sys
 TYPE_CHECKING = False  # as typing.TYPE_CHECKING, without the import
 if TYPE_CHECKING:
     from collections.abc import Callable, Iterable, Iterator, Mapping, Sequence
-    from typing import Any, BinaryIO
+    from typing import Any, BinaryIO, NoReturn
 
     Work = Callable[[dict[str, str], set[str], list[str]], int]
 
@@ -84,6 +84,21 @@ def _paths(name: str) -> list[str]:
     return [os.path.join(folder, name) for folder in os.environ.get('PATH', os.defpath).split(os.pathsep)]
 
 
+class Answer(dict[str, 'Any']):
+    """An answer of a program, which is no `topos-query` if the answer lacks a key that a tool reads."""
+
+    def __init__(self, content: dict[str, Any], query: str) -> None:
+        super().__init__(content)
+        self.query = query
+
+    def __missing__(self, key: str) -> NoReturn:
+        raise answers_otherwise(self.query)
+
+
+def answers_otherwise(query: str) -> Stopped:
+    return Stopped(f'{query} is no topos-query: its answer cannot be read')
+
+
 class Programs:
     """The two programs that a tool asks."""
 
@@ -136,10 +151,10 @@ class Programs:
     def _read(self, asked: Question, statuses: Sequence[int] = (0,)) -> dict[str, Any]:
         text = asked.answer(statuses)
         try:
-            answer: dict[str, Any] = json.loads(text)
-            version = answer['version']
-        except (ValueError, LookupError, TypeError):
-            raise Stopped(f'{self.query} is no topos-query: its answer cannot be read') from None
+            answer = Answer(json.loads(text), self.query)
+        except (ValueError, TypeError):
+            raise answers_otherwise(self.query) from None
+        version = answer['version']
         if version != VERSION:
             raise Stopped(f'{self.query} answers in version {version} of its format: version {VERSION} is read')
         return answer
