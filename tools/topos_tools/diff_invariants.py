@@ -4,7 +4,7 @@ from dataclasses import dataclass
 from typing import Any
 
 from .diff_words import few, invariant_name
-from .report_changes import matched
+from .report_changes import entries_of, matched, unordered
 from .report_model import Source
 from .report_words import attribute_words, counted
 
@@ -87,16 +87,17 @@ def _entry_changes(before: Table, after: Table, most: int | None) -> Iterator[st
     """Yields the changes of an invariant: its template, entries that come and go, and their values."""
     if before['template'] != after['template']:
         yield f'template {after["template"]}, was {before["template"]}'
-    old, new = ({entry['host']: entry for entry in each.get('assign', [])} for each in (before, after))
+    old, new = entries_of(before), entries_of(after)
     for host in dict.fromkeys([*new, *old]):
         if host not in old:
             yield f'{host} is added ({attribute_words(new[host])})'
         elif host not in new:
             yield f'{host} is removed ({attribute_words(old[host])})'
         else:
-            changed = ', '.join(filter(None, (
+            changed = ', '.join(
                 _value_change(key, old[host].get(key), new[host].get(key), most)
-                for key in dict.fromkeys([*new[host], *old[host]]) if old[host].get(key) != new[host].get(key))))
+                for key in dict.fromkeys([*new[host], *old[host]])
+                if unordered(old[host].get(key)) != unordered(new[host].get(key)))
             if changed:
                 yield f'{host}: {changed}'
 

@@ -59,21 +59,29 @@ def flow_changes(old: Network, new: Network) -> list[FlowChange]:
     return found
 
 
+def unordered(value: Any) -> Any:
+    """Returns a value of a description for comparisons: without the order of lists, which has no effect."""
+    if isinstance(value, dict):
+        return frozenset((key, unordered(inner)) for key, inner in value.items())
+    return frozenset(map(unordered, value)) if isinstance(value, list) else value
+
+
 def matched(old: list[dict[str, Any]], new: list[dict[str, Any]]) -> dict[int, int]:
-    """Returns the number of each invariant of the newer description with its number in the older description."""
+    """Returns the number of each invariant of the newer description with the number of an equal, older invariant."""
+    before, after = ([unordered({'assign': [], **each}) for each in invariants] for invariants in (old, new))
     free = list(range(len(old)))
     found = {}
-    for number, invariant in enumerate(new, 1):
-        same = next((place for place in free if old[place] == invariant), None)
+    for number, invariant in enumerate(after, 1):
+        same = next((place for place in free if before[place] == invariant), None)
         if same is not None:
             free.remove(same)
             found[number] = same + 1
     return found
 
 
-def attributes(invariant: dict[str, Any]) -> dict[str, str]:
-    """Returns the attribute of each host that has an entry."""
-    return {entry['host']: attribute_words(entry) for entry in invariant.get('assign', [])}
+def entries_of(invariant: dict[str, Any]) -> dict[str, dict[str, Any]]:
+    """Returns the entries of an invariant by host."""
+    return {entry['host']: entry for entry in invariant.get('assign', [])}
 
 
 def entry_changes(old: list[dict[str, Any]], new: list[dict[str, Any]], same: dict[int, int]) -> list[EntryChange]:
@@ -86,9 +94,11 @@ def entry_changes(old: list[dict[str, Any]], new: list[dict[str, Any]], same: di
         if other is None:
             continue
         free.remove(other)
-        before, after = attributes(old[other - 1]), attributes(new[number - 1])
-        found += [EntryChange(number, host, before.get(host, ''), after.get(host, ''))
-                  for host in dict.fromkeys([*after, *before]) if before.get(host) != after.get(host)]
+        before, after = entries_of(old[other - 1]), entries_of(new[number - 1])
+        changes = [EntryChange(number, host, *(attribute_words(each.get(host, {})) for each in (before, after)))
+                   for host in dict.fromkeys([*after, *before])
+                   if unordered(before.get(host)) != unordered(after.get(host))]
+        found += [each for each in changes if each.before != each.after]
     return found
 
 
