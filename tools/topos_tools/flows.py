@@ -8,8 +8,8 @@ from .import_files import file_name, import_save, read_text
 from .import_report import caveats, remedies
 from .import_save import Save
 from .import_sets import Numbers
-from .query import (READS_ANSWERS, USAGE, Programs, Stopped, Tool, data_text, lines_text, need_words, plain,
-                    read_bytes, write_text)
+from .query import (READS_ANSWERS, USAGE, Programs, Stopped, Tool, data_text, keep_inputs, lines_text, need_words,
+                    plain, read_bytes, write_text)
 
 USAGE_TEXT = '''usage: topos-flows [--program TOPOS] [..] DESCRIPTION RULES
            lists the flows that RULES, of iptables-save or topos-import, let pass between the hosts of DESCRIPTION
@@ -84,6 +84,7 @@ def main(values: dict[str, str], options: set[str], words: list[str]) -> int:
         need_words(words, 1, 'a file of rules is wanted')
         return propose(words[0], values, options)
     need_words(words, 2, 'a description and a file of rules are wanted')
+    keep_inputs([values.get('--json')], [*words, *map(values.get, ('--interfaces', '--sets'))])
     return list_flows(words, values, options)
 
 

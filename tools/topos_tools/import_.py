@@ -4,7 +4,7 @@ import sys
 from .import_bounds import Bound
 from .import_files import file_name, import_save, read_text
 from .import_report import report
-from .query import Tool, lines_text, need_words, plain, write_text
+from .query import Tool, keep_inputs, lines_text, need_words, plain, write_text
 
 USAGE_TEXT = '''usage: topos-import [--interfaces FILE] [--sets FILE] [--syn] [--upper OUT] [--lower OUT] RULES
            writes what iptables-save printed, RULES, as rules that topos reads
@@ -21,6 +21,7 @@ DOUBT = 2
 
 def main(values: dict[str, str], options: set[str], words: list[str]) -> int:
     need_words(words, 1, 'a file of rules is wanted')
+    keep_inputs(map(values.get, ('--upper', '--lower')), [words[0], *map(values.get, ('--interfaces', '--sets'))])
     save = import_save(read_text(words[0]), values.get('--interfaces'), values.get('--sets'), '--syn' in options)
     name = file_name(words[0])
     texts = {'upper': Bound(save, True).text, 'lower': Bound(save, False).text}

@@ -285,6 +285,23 @@ def write_text(path: str | None, text: str) -> None:
         raise Stopped(f'cannot write {path}', NO_OUTPUT) from None
 
 
+def keep_inputs(outputs: Iterable[str | None], inputs: Iterable[str | None]) -> None:
+    """Refuses an output that would overwrite an input; the input `-` is the standard input."""
+    read = {_plain_file(0 if path == '-' else path) for path in inputs if path is not None}
+    for path in outputs:
+        if path is not None and _plain_file(path) in read - {None}:
+            raise Stopped(f'cannot write {path}: it is an input', NO_OUTPUT)
+
+
+def _plain_file(path: str | int) -> tuple[int, int] | None:
+    """Returns the device and the inode of a plain file, or None."""
+    try:
+        found = os.stat(path)
+    except OSError:
+        return None
+    return (found.st_dev, found.st_ino) if stat.S_ISREG(found.st_mode) else None
+
+
 def data_text(tree: dict[str, Any]) -> str:
     """Returns data as the text that a tool writes with --json."""
     return json.dumps(tree, indent=1) + '\n'

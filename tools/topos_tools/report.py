@@ -1,5 +1,6 @@
 """Writes a report of a description: an HTML page, or data for other programs."""
-from .query import READS_ANSWERS, REFUSED, USAGE, Programs, Stopped, Tool, data_text, need_words, write_text
+from .query import (READS_ANSWERS, REFUSED, USAGE, Programs, Stopped, Tool, data_text, keep_inputs, need_words,
+                    write_text)
 from .report_changes import changes_between
 from .report_exceptions import read_exceptions
 from .report_export import csv_text, dot_text
@@ -53,6 +54,7 @@ def main(values: dict[str, str], options: set[str], words: list[str]) -> int:
     seconds = values.get('--seconds', '1')
     if not seconds.isdecimal() or len(seconds) > MOST_DIGITS:
         raise Stopped(f'{seconds}: a number of seconds is required', USAGE)
+    keep_inputs([values.get('-o')], [words[0], values.get('--against')])
     needed = 0 if forms & {'--csv', '--dot'} else int(seconds)
     report = made_report(Programs.find(values.get('--program')), words[0], values.get('--against'), needed)
     write_text(values.get('-o'), text_of_form(report, next(iter(forms), None)))
