@@ -2,6 +2,7 @@
 from dataclasses import dataclass
 from typing import Any
 
+from .flows_services import of_words
 from .report_model import Flow, Network, Source
 from .report_words import DENIED, PERMITTED, attribute_words
 
@@ -54,7 +55,8 @@ def flow_changes(old: Network, new: Network) -> list[FlowChange]:
         before, after = old.states.get(flow, ''), new.states.get(flow, '')
         services = [each.services(flow) if flow in each.states else [] for each in (old, new)]
         is_shown = bool(before and after) or (before or after) in SHOWN
-        if is_shown and (before != after or services[0] != services[1]):
+        has_others = services[0] != services[1] and of_words(services[0]) != of_words(services[1])
+        if is_shown and (before != after or has_others):
             found.append(FlowChange(flow, before, after, *services))
     return found
 
