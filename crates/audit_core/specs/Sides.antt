@@ -1,9 +1,13 @@
 -- The two sides of an audit, and their agreement, difference and equivalence.
-use Rattle.std.specs.Prelude.{Bool, List}
+use Rattle.std.specs.Prelude.{Bool, true, List}
 use Rattle.host_net.specs.declared.packet.Packet.{Packet}
+use Rattle.host_net.specs.declared.packet.CtState.{CtState}
+use Rattle.host_net.specs.Packet.{IsPacket}
 use Rattle.host_net.specs.Site.{Site}
 use Rattle.flow_set.specs.declared.flow.Flow.{Flow}
 use Rattle.pkt_core.specs.declared.event.Event.{Event}
+use Rattle.pkt_core.specs.AnyTracking.{IsSoundFor}
+use Rattle.pkt_core.specs.Expected.{Expected}
 use Rattle.pkt_core.specs.Filter.{ForwardsAsExpected}
 use Rattle.pkt_core.specs.FlowPolicy.{is_of}
 use Rattle.audit_core.specs.Agreement.{AgreeOn, DifferOn}
@@ -45,3 +49,8 @@ DifferThen sides = DifferAfter (filter_of sides.rules) (permits sides) (permits_
 -- its answers expect.
 abbrev pub AreEquivalent : Sides → Type 0
 AreEquivalent sides = ForwardsAsExpected (filter_of sides.rules) sides.site sides.permitted sides.stateful
+
+-- With any connection tracking, after every list of events, a packet in a state that is sound for the policy passes only if it is expected.
+abbrev pub AreSafe : Sides → Type 0
+AreSafe sides = (past : List Event) (packet : Packet) (state : CtState) → IsPacket packet → IsSoundFor (permits sides) past packet state
+    → filter_of sides.rules state packet true → Expected (permits sides) (permits_reply_to sides) past packet

@@ -17,7 +17,7 @@ ghost use Rattle.audit_core.specs.inner.Findings.{IsFinding};
 ghost use Rattle.audit_core.specs.Places.{IsClassPacket, representatives_of};
 ghost use Rattle.audit_core.specs.Rules.{Entries, filter_of};
 ghost use Rattle.audit_core.specs.Verdicts.{GivesOne};
-ghost use Rattle.audit_core.specs.Sides.{Agree, AreEquivalent, Sides, permits_reply_to, permits};
+ghost use Rattle.audit_core.specs.Sides.{Agree, AreEquivalent, AreSafe, Sides, permits_reply_to, permits};
 ghost use Rattle.audit_core.specs.inner.Sides.{AgreeAlways, AgreeShortly};
 
 /// Rules that agree with a policy on the three short lists at each packet agree with it on every list of
@@ -48,8 +48,9 @@ pub fn classes_are_uniform()
 {}
 
 /// Any finding for rules that forward what a policy expects is `Equal`, and rules whose finding is `Equal`
-/// forward what the policy expects.
+/// forward what the policy expects. Such rules are safe with any connection tracking.
 pub fn equal_is_expected()
     ensures equal { (sides : Sides) (finding : Finding) → AreEquivalent sides → IsFinding sides finding → finding ≡ Equal }
     ensures expected { (sides : Sides) → GivesOne (filter_of sides.rules) → IsFinding sides Equal → AreEquivalent sides }
+    ensures safe { (sides : Sides) → AreEquivalent sides → AreSafe sides }
 {}

@@ -21,6 +21,7 @@ use Rattle.ipt_rules.specs.RuleParts.{names_ports}
 use Rattle.ipt_rules.specs.inner.RuleParts.{is_protocol, are_ports, is_rule, AreRules}
 use Rattle.emit_core.specs.declared.direction.Direction.{Direction}
 use Rattle.emit_core.specs.declared.direction.Direction.TheVariants.{Outbound}
+use Rattle.emit_core.specs.OtherStates.{HaveNoOtherState, has_no_other_state}
 use Rattle.emit_core.specs.Layout.{for_each_prefix, match_peer, protocol_part, port_part, to_service, from_service, connects_unrestricted, accepts_flow, accepts_answers, accepts, drops, is_open, to_prefix, to_rest, host_rules, forward_rules, rest_jump, jump_from, from_source, chain_of, layout, host_chain}
 use Rattle.emit_core.specs.Directions.{connects, other_direction, services_on, flow_on}
 use Rattle.emit_core.proofs.OwnerLaws.{rest_below}
@@ -192,3 +193,16 @@ forward_rules_are hosts = forward_rules_pass is_rule anywhere hosts (λ q i belo
 
 pub layout_rules_are : (site : Site) (p s : List Flow) → AreServices site.services → AreRules (layout site p s)
 layout_rules_are site p s are = layout_passes is_rule anywhere forms_are_rules (λ q i at. refl) site p s are (all_anywhere (all_prefixes site.hosts))
+
+-- 4. They match no state besides ESTABLISHED.
+
+forms_have_no_other_state : PassForms has_no_other_state anywhere
+forms_have_no_other_state = record { dropping = λ side q at. refl; flow = λ side q n at is. refl; answer = λ side q n at is. refl }
+
+pub host_rules_no_other_state : (side : Direction) (site : Site) (p s : List Flow) (i : ℕ) → AreServices site.services → list_all has_no_other_state (host_rules side site p s i) ≡ true
+host_rules_no_other_state side site p s i are =
+    host_rules_pass has_no_other_state anywhere forms_have_no_other_state side site p s i are (all_anywhere (all_prefixes site.hosts))
+
+pub layout_no_other_state : (site : Site) (p s : List Flow) → AreServices site.services → HaveNoOtherState (layout site p s)
+layout_no_other_state site p s are =
+    layout_passes has_no_other_state anywhere forms_have_no_other_state (λ q i at. refl) site p s are (all_anywhere (all_prefixes site.hosts))

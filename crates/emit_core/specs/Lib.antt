@@ -4,6 +4,7 @@ pub mod FlowTableEvents
 pub mod FlowTableForwarding
 pub mod Layout
 pub mod OtherAddress
+pub mod OtherStates
 pub mod PortRanges
 pub mod Directions
 pub mod inner

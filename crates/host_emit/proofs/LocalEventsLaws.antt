@@ -1,5 +1,5 @@
 -- If the hosts enforce the policy, exactly the expected packets pass, and those between two hosts that do not enforce.
-use Rattle.std.proofs.Common.{◌≡◌, ℕ, Bool, true, false, ◌==◌, ◌&&◌, List, Option, Some, None, refl, sym, ap, subst, ◌∙◌, true≢false}
+use Rattle.std.proofs.Common.{◌≡◌, ◌⊎◌, IsTrue, ℕ, Bool, true, false, ◌==◌, ◌&&◌, List, Option, Some, None, refl, sym, ap, subst, ◌∙◌, true≢false}
 use Rattle.std.specs.Prelude.{if◌then◌else◌, IsSome}
 use Rattle.std.specs.Option.{option_map_or}
 use Rattle.host_net.specs.declared.packet.Packet.{Packet}
@@ -13,7 +13,9 @@ use Rattle.flow_set.specs.FlowSet.{has, IsSubset}
 use Rattle.ipt_rules.specs.Chain.{Chain}
 use Rattle.ipt_rules.specs.Semantics.{Passes}
 use Rattle.pkt_core.specs.declared.event.Event.{Event}
-use Rattle.pkt_core.specs.Expected.{AreExpected}
+use Rattle.host_net.specs.Packet.{swap_of}
+use Rattle.pkt_core.specs.Events.{WasSeen}
+use Rattle.pkt_core.specs.Expected.{AreExpected, Expected}
 use Rattle.pkt_core.proofs.ExpectedLaws.{expected_once}
 use Rattle.pkt_core.specs.Filter.{RunsFromNoConnections}
 use Rattle.pkt_core.proofs.FilterLaws.{is_of-within}
@@ -27,11 +29,11 @@ use Rattle.emit_core.specs.Directions.{other_direction}
 use Rattle.host_emit.specs.HostEnforcement.{EnforcesAtHost, IsExternal, PassesOn, is_own}
 use Rattle.host_emit.proofs.GuardingLaws.{layout_guards, owned_covered}
 use Rattle.host_emit.specs.inner.HostFirewalls.{AreFirewallsFor}
-use Rattle.host_emit.specs.LocalEvents.{AreExternal, AreSpecific, LocalRuns, DeliversAsExpected, RunsWith}
+use Rattle.host_emit.specs.LocalEvents.{AreExternal, AreSpecific, LocalRuns, DeliversAsExpected, PassesSoundly, RunsWith}
 use Rattle.host_emit.specs.LocalLayout.{is_specific, local_layout}
 use Rattle.host_emit.specs.Delivery.{empty_tables, or_unenforced}
 use Rattle.host_emit.specs.inner.Passing.{host_on}
-use Rattle.host_emit.proofs.PassingLaws.{all_guarded, pass_as_expected, pass_keeps_first, some_pass_run}
+use Rattle.host_emit.proofs.PassingLaws.{all_guarded, goes_permitted, goes_soundly, pass_as_expected, pass_keeps_first, some_pass_run}
 
 abbrev unless : Bool → Flow → Option Flow
 unless b g = if b then None else Some g
@@ -88,6 +90,12 @@ module _ (chains : ℕ → List Chain) (site : Site) (p s : List Flow) (subset :
   partly_expected enforces are_specific events answers known run =
       pass_as_expected site.hosts enforces (λ h. PassesOn (chains h)) IsExternal (is_of site p) (is_of site s) (guards_are_firewalls enforces are_specific) events known answers run
 
+  partly_soundly : (enforces : ℕ → Bool) → AreSpecific site.hosts enforces → (past : List Event) (packet : Packet) → IsExternal packet
+      → PassesSoundly enforces chains site.hosts past packet → Expected (or_unenforced site.hosts enforces (is_of site p)) (is_of site s) past packet
+  partly_soundly enforces are_specific past packet known soundly =
+      goes_soundly site.hosts enforces (λ h. PassesOn (chains h)) IsExternal (is_of site p) (is_of site s) (guards_are_firewalls enforces are_specific)
+      past soundly.tables packet known soundly.sound true soundly.behind soundly.passes refl
+
   all_are_specific : AreSpecific site.hosts (is_specific site.hosts)
   all_are_specific h specific = specific
 
@@ -110,6 +118,12 @@ module _ (chains : ℕ → List Chain) (site : Site) (p s : List Flow) (subset :
     some = λ events known. some_pass_run site.hosts (is_specific site.hosts) (λ h. PassesOn (chains h)) IsExternal (is_of site p) (is_of site s) firewalls empty_tables events known;
     one = λ events answers others known run other.
         expected_once (is_of site p) (is_of site s) events answers others (all_expected events answers known run) (all_expected events others known other);
+    only_expected = λ past packet known soundly.
+        subst (λ (b : Bool). IsTrue b ⊎ (IsTrue (is_of site s (swap_of packet)) × WasSeen past (swap_of packet))) (all_guarded site.hosts (is_of site p) packet)
+        (partly_soundly (is_specific site.hosts) all_are_specific past packet known soundly);
+    partial_only_expected = partly_soundly;
+    all_permitted = λ enforces are_specific tables behind packet passes known allowed goes.
+        goes_permitted site.hosts enforces (λ h. PassesOn (chains h)) IsExternal (is_of site p) (is_of site s) (guards_are_firewalls enforces are_specific) tables packet known allowed passes behind goes;
   }
 
 -- With the layouts of all hosts exactly the expected packets pass.

@@ -24,7 +24,8 @@ use Rattle.emit_core.specs.declared.direction.Direction.{Direction}
 use Rattle.emit_core.specs.declared.direction.Direction.TheVariants.{Outbound, Inbound}
 use Rattle.emit_core.proofs.FewRulesLaws.{few_host_rules}
 use Rattle.emit_core.specs.Layout.{host_rules}
-use Rattle.emit_core.proofs.LayoutRulesLaws.{host_rules_are}
+use Rattle.emit_core.specs.OtherStates.{HaveNoOtherState, has_no_other_state}
+use Rattle.emit_core.proofs.LayoutRulesLaws.{host_rules_are, host_rules_no_other_state}
 use Rattle.emit_core.proofs.WritableLaws.{host_rules_addresses, network_fits, prefix_fits}
 use Rattle.host_emit.specs.inner.LocalFilling.{AreChainRules}
 use Rattle.host_emit.specs.LocalLayout.{entry_rules, local_layout, machine_chains, own_jump, prefixes_of}
@@ -97,6 +98,18 @@ local_rules_are site p s h is =
     let own = prefixes_of site.hosts h in
     machine_passes is_rule (entry_rules Inbound own) (entry_rules Outbound own) (host_rules Inbound site p s h) (host_rules Outbound site p s h)
     (entries_are Inbound own) (entries_are Outbound own) (host_rules_are Inbound site p s h is.services) (host_rules_are Outbound site p s h is.services)
+
+-- They match no state besides ESTABLISHED.
+jumps_no_other_state : (side : Direction) (qs : List Prefix) → list_all has_no_other_state (flat_map (own_jump side) qs) ≡ true
+jumps_no_other_state side [] = refl
+jumps_no_other_state side (q ∷ qs) = jumps_no_other_state side qs
+
+pub local_no_other_state : (site : Site) (p s : List Flow) (h : ℕ) → IsSite site → HaveNoOtherState (local_layout site p s h)
+local_no_other_state site p s h is =
+    let own = prefixes_of site.hosts h in
+    machine_passes has_no_other_state (entry_rules Inbound own) (entry_rules Outbound own) (host_rules Inbound site p s h) (host_rules Outbound site p s h)
+    (jumps_no_other_state Inbound own) (jumps_no_other_state Outbound own)
+    (host_rules_no_other_state Inbound site p s h is.services) (host_rules_no_other_state Outbound site p s h is.services)
 
 -- The addresses of a host have 32 bits, since they are among those of all hosts.
 own_fit : (hosts : List Host) (h : ℕ) → list_all prefix_fits (all_prefixes hosts) ≡ true → list_all prefix_fits (prefixes_of hosts h) ≡ true

@@ -2,7 +2,7 @@
 use Rattle.std.proofs.Common.{◌≡◌, ◌⊎◌, inl, inr, ◌↔◌, ℕ, zero, suc, Bool, true, false, ◌&&◌, ◌||◌, ◌==◌, IsTrue, not, List, [], ◌∷◌, ◌++◌, Some, None, refl, sym, ap, subst, ◌∙◌, append_assoc, append-nil, true≢false}
 use Rattle.std.specs.Prelude.{IsSome, if◌then◌else◌, Option, ⊤}
 use Rattle.std.specs.Option.{option_map_or}
-use Rattle.std.proofs.lemmas.Bool.{and_from, and_parts, cases_Bool, or_from, or_parts, or_right}
+use Rattle.std.proofs.lemmas.Bool.{and_from, and_parts, cases_Bool, or_from, or_left, or_parts, or_right}
 use Rattle.std.proofs.lemmas.Bool.Decides.{Decides-eqb}
 use Rattle.host_net.specs.declared.packet.Packet.{Packet}
 use Rattle.host_net.specs.Packet.{swap_of}
@@ -10,6 +10,8 @@ use Rattle.host_net.specs.Host.{Host, owner_of}
 use Rattle.flow_set.specs.declared.flow.Flow.{Flow}
 use Rattle.pkt_core.specs.declared.event.Event.{Event}
 use Rattle.pkt_core.specs.declared.event.Event.TheVariants.{Seen, Forget}
+use Rattle.pkt_core.proofs.AnyTrackingLaws.{allowed_expected}
+use Rattle.pkt_core.specs.AnyTracking.{IsSound}
 use Rattle.pkt_core.proofs.FirstPacketLaws.{TracksFirstPackets-forget, TracksFirstPackets-seen, TracksFirstPackets-start, TracksFirstPackets-untaken}
 use Rattle.pkt_core.specs.Events.{WasSeen}
 use Rattle.pkt_core.specs.Expected.{AreExpected, Expected}
@@ -310,3 +312,38 @@ module _ (hosts : List Host) (enforces : ℕ → Bool) (firewalls : Firewalls) (
   some_pass_run tables (Forget p ∷ events) known =
       let rest = some_pass_run (λ h. after_forget (tables h) p) events (λ k q there. known (suc k) q there) in
       (None ∷ rest.0, rest.1)
+
+  -- With any tables, if their states are sound, a packet passes only if it is expected to or neither end of its flow enforces.
+  pub goes_soundly : (past : List Event) (tables : Tables) (p : Packet) → Known p → ((h : ℕ) → IsSound past p (state_of (tables h) p)) → (passes : Bool) (behind : Tables)
+      → Goes hosts enforces firewalls tables p passes behind → passes ≡ true → Passed past p
+  goes_soundly past tables p known sound passes behind (nowhere is) so = absurd (true≢false (sym so))
+  goes_soundly past tables p known sound passes behind (stays {f} is takes) so = absurd (true≢false (sym so))
+  goes_soundly past tables p known sound passes behind (reaches_receiver {f} is sends receives) so = by_ends (enforces f.from) refl (enforces f.to) refl
+    where
+      allowed : (side : Direction) → enforces (host_on side f) ≡ true → true ≡ may_pass permitted stateful (state_of (tables (host_on side f)) p) p → Passed past p
+      allowed side specific verdict =
+          (passed past p true (guarded hosts enforces permitted p f side is specific)
+          ((λ h. allowed_expected permitted stateful past p (state_of (tables (host_on side f)) p) (sound (host_on side f)) (sym verdict)), (λ e. refl))).0 refl
+
+      by_ends : (b : Bool) → enforces f.from ≡ b → (c : Bool) → enforces f.to ≡ c → Passed past p
+      by_ends true from c to = allowed Outbound from (taken tables p f Outbound true known is from sends)
+      by_ends false from true to =
+          allowed Inbound to (sym so ∙ subst (λ (k : ConnectionTable). passes ≡ may_pass permitted stateful (state_of k p) p)
+          (other_table enforces tables f.from p true f.to (flow_apart hosts p f is)) (taken (after_taken enforces tables f.from p true) p f Inbound passes known is to receives))
+      by_ends false from false to = inl (unguarded hosts enforces permitted p f is from to)
+
+  -- A host lets a permitted packet pass in every state.
+  decides_permitted : (tables : Tables) (p : Packet) (f : Flow) (side : Direction) (passes : Bool) → Known p → permitted p ≡ true → flow_of hosts p ≡ Some f
+      → Processes enforces firewalls tables (host_on side f) side p passes → passes ≡ true
+  decides_permitted tables p f side passes known allowed is takes = by_test (enforces (host_on side f)) refl
+    where
+      by_test : (b : Bool) → enforces (host_on side f) ≡ b → passes ≡ true
+      by_test true specific = taken tables p f side passes known is specific takes ∙ or_left (permitted p) _ allowed
+      by_test false other = takes.by_none other
+
+  -- So with any tables a permitted packet passes.
+  pub goes_permitted : (tables : Tables) (p : Packet) → Known p → permitted p ≡ true → (passes : Bool) (behind : Tables) → Goes hosts enforces firewalls tables p passes behind → passes ≡ true
+  goes_permitted tables p known allowed passes behind (nowhere is) = absurd (none_without_flow [] p is (inl allowed))
+  goes_permitted tables p known allowed passes behind (stays {f} is takes) = decides_permitted tables p f Outbound false known allowed is takes
+  goes_permitted tables p known allowed passes behind (reaches_receiver {f} is sends receives) =
+      decides_permitted (after_taken enforces tables f.from p true) p f Inbound passes known allowed is receives

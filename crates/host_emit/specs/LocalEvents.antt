@@ -1,5 +1,5 @@
 -- The packets that pass in a list of events if the machines of each specific host have the chains of this host.
-use Rattle.std.specs.Prelude.{◌≡◌, ℕ, Bool, IsTrue, List, Option}
+use Rattle.std.specs.Prelude.{◌≡◌, ℕ, Bool, true, IsTrue, List, Option}
 use Rattle.host_net.specs.declared.packet.Packet.{Packet}
 use Rattle.host_net.specs.Host.{Host}
 use Rattle.host_net.specs.Site.{Site}
@@ -7,11 +7,13 @@ use Rattle.flow_set.specs.declared.flow.Flow.{Flow}
 use Rattle.ipt_rules.specs.Chain.{Chain}
 use Rattle.pkt_core.specs.declared.event.Event.{Event}
 use Rattle.pkt_core.specs.Events.{SeenAt}
-use Rattle.pkt_core.specs.Expected.{AreExpected}
+use Rattle.pkt_core.specs.AnyTracking.{IsSound}
+use Rattle.pkt_core.specs.Expected.{AreExpected, Expected}
 use Rattle.pkt_core.specs.FlowPolicy.{is_of}
+use Rattle.pkt_core.specs.Tracking.{state_of}
 use Rattle.host_emit.specs.HostEnforcement.{IsExternal, PassesOn}
 use Rattle.host_emit.specs.LocalLayout.{is_specific}
-use Rattle.host_emit.specs.Delivery.{AllKeepFirst, PassRuns, PassRunsTo, Tables, empty_tables, or_unenforced}
+use Rattle.host_emit.specs.Delivery.{AllKeepFirst, Goes, PassRuns, PassRunsTo, Tables, empty_tables, or_unenforced}
 
 -- Every packet that is seen in the events has valid fields and is not internal to a machine.
 abbrev pub AreExternal : List Event → Type 0
@@ -33,6 +35,14 @@ LocalRunsTo chains hosts = PassRunsTo hosts (is_specific hosts) (λ h. PassesOn 
 abbrev pub AreSpecific : List Host → (enforces : ℕ → Bool) → Type 0
 AreSpecific hosts enforces = (h : ℕ) → IsTrue (enforces h) → IsTrue (is_specific hosts h)
 
+-- The packet passes with some connection tables of the hosts, each of which assigns it a state that is sound after `past`. Anything may
+-- choose these tables, anew for each packet.
+pub record PassesSoundly (enforces : ℕ → Bool) (chains : ℕ → List Chain) (hosts : List Host) (past : List Event) (packet : Packet) : Type 0 where
+  pub tables : Tables
+  pub behind : Tables
+  pub sound : (h : ℕ) → IsSound past packet (state_of (tables h) packet)
+  pub passes : Goes hosts enforces (λ h. PassesOn (chains h)) tables packet true behind
+
 -- For every list of events with external packets a run exists and its results are unique: a packet passes if and only if the policy and its
 -- answers expect it.
 pub record DeliversAsExpected (chains : ℕ → List Chain) (site : Site) (p s : List Flow) : Type 0 where
@@ -48,3 +58,11 @@ pub record DeliversAsExpected (chains : ℕ → List Chain) (site : Site) (p s :
   pub some : (events : List Event) → AreExternal events → (answers : List (Option Bool)) × LocalRuns chains site.hosts events answers
   pub one : (events : List Event) (answers others : List (Option Bool)) → AreExternal events → LocalRuns chains site.hosts events answers
       → LocalRuns chains site.hosts events others → answers ≡ others
+  -- With any connection tracking, after every list of events, whatever passed of them, only expected packets pass in sound states, and all
+  -- permitted packets pass in all states.
+  pub only_expected : (past : List Event) (packet : Packet) → IsExternal packet → PassesSoundly (is_specific site.hosts) chains site.hosts past packet
+      → Expected (is_of site p) (is_of site s) past packet
+  pub partial_only_expected : (enforces : ℕ → Bool) → AreSpecific site.hosts enforces → (past : List Event) (packet : Packet) → IsExternal packet
+      → PassesSoundly enforces chains site.hosts past packet → Expected (or_unenforced site.hosts enforces (is_of site p)) (is_of site s) past packet
+  pub all_permitted : (enforces : ℕ → Bool) → AreSpecific site.hosts enforces → (tables behind : Tables) (packet : Packet) (passes : Bool) → IsExternal packet
+      → IsTrue (is_of site p packet) → Goes site.hosts enforces (λ h. PassesOn (chains h)) tables packet passes behind → IsTrue passes

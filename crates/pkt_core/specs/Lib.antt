@@ -1,3 +1,4 @@
+pub mod AnyTracking
 pub mod Connections
 pub mod Events
 pub mod EventsText

@@ -1,5 +1,6 @@
 pub mod Connections
 pub mod EventSteps
+pub mod FewerStates
 pub mod FirewallFor
 pub mod FlowPolicy
 pub mod ConnectionTable

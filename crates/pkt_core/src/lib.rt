@@ -7,12 +7,14 @@ mod connection;
 mod event;
 mod events;
 mod flow_policy;
+mod laws;
 mod track;
 
 pub use connection::Connection;
 pub use event::Event;
 pub use events::{EVENTS_BYTE_LIMIT, EventFault, read_events};
 pub use flow_policy::FlowPolicy;
+pub use laws::tracked_states_are_sound;
 /// The reason why an event file is rejected.
 pub use text_core::ListWhy as EventWhy;
 pub use track::Track;

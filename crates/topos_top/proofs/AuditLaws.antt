@@ -13,7 +13,8 @@ use Rattle.audit_core.specs.Lists.{front_of}
 use Rattle.audit_core.specs.Places.{representatives_of}
 use Rattle.audit_core.specs.Rules.{Rules, filter_of}
 use Rattle.audit_core.specs.Verdicts.{GivesOne}
-use Rattle.audit_core.specs.Sides.{AreEquivalent, Sides, sides_of}
+use Rattle.pkt_core.proofs.AnyTrackingLaws.{forwards_only_expected}
+use Rattle.audit_core.specs.Sides.{AreSafe, AreEquivalent, Sides, sides_of}
 use Rattle.audit_core.specs.declared.finding.Finding.{Finding}
 use Rattle.audit_core.specs.declared.finding.Finding.TheVariants.{Equal, Differ as Differing}
 use Rattle.audit_core.specs.declared.finding.Trace.{Trace}
@@ -89,6 +90,14 @@ module _ (d : Network) (rules : Rules) where
 
   pub agreement_tells : OfSides d rules (λ sides. FewClasses sides × AreEquivalent sides) → OfSides d rules AreEquivalent
   agreement_tells agree = record { policy = agree.policy; is_policy = agree.is_policy; so = agree.so.1 }
+
+  -- Rules that forward alike are safe with any connection tracking.
+  pub agreement_keeps : OfSides d rules (λ sides. FewClasses sides × AreEquivalent sides) → OfSides d rules (λ sides. AreEquivalent sides × AreSafe sides)
+  agreement_keeps agree = record {
+    policy = agree.policy;
+    is_policy = agree.is_policy;
+    so = (agree.so.1, forwards_only_expected (filter_of rules) (site_of d) agree.policy.permitted.flows agree.policy.stateful.flows agree.so.1);
+  }
 
   pub many_or_few : (Holds : Sides → Type 0) (line : List ℕ) → OfSides d rules (λ sides. HasManyClasses sides line) → OfSides d rules (λ sides. FewClasses sides × Holds sides) → ⊥
   many_or_few Holds line many few =

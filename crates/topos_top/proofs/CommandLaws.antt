@@ -27,7 +27,7 @@ use Rattle.topos_top.specs.Rules.{ListedHolds, rules_when}
 use Rattle.topos_top.specs.Trace.{trace_outcomes}
 use Rattle.topos_top.specs.declared.dialect.Dialect.{Dialect}
 use Rattle.topos_top.specs.declared.status.Status.{Status}
-use Rattle.topos_top.proofs.AuditLaws.{agreement_tells, differ_or_agree, line_once, many_or_few, trace_once}
+use Rattle.topos_top.proofs.AuditLaws.{agreement_keeps, differ_or_agree, line_once, many_or_few, trace_once}
 use Rattle.topos_top.proofs.DialectLaws.{laws_of}
 use Rattle.topos_top.proofs.EditLaws.{line_is_one, never_both as refused_or_accepted, reports_edits, text_is_one}
 use Rattle.topos_top.proofs.OutcomesLaws.{is_end, IsOwed, IsSettled, settled_writes}
@@ -80,7 +80,7 @@ settled_audit d rules = record {
     record { status = refl; one = line_once d rules; guarantees = λ now line is. is },
     (
       record { status = refl; one = trace_once d rules; guarantees = λ now text is. is },
-      (record { status = refl; one = λ a b p q. p ∙ sym q; guarantees = λ now text is. agreement_tells d rules now }, tt),
+      (record { status = refl; one = λ a b p q. p ∙ sym q; guarantees = λ now text is. agreement_keeps d rules now }, tt),
     ),
   );
   apart = (

@@ -3,6 +3,7 @@ use Rattle.std.proofs.Common.{◌≡◌, ◌<◌, ℕ, List, length, ◌++◌, S
 use Rattle.audit_core.specs.Rules.{filter_of}
 use Rattle.emit_core.specs.FlowTable.{flow_entries}
 use Rattle.emit_core.proofs.ForwardingLaws.{layout_enforces}
+use Rattle.emit_core.proofs.LayoutRulesLaws.{layout_no_other_state}
 use Rattle.emit_core.proofs.TableLaws.{first_barred_once, first_range_once, flow_entries_arp, flow_entries_enforce, flow_entries_table, none_barred, none_ranging}
 use Rattle.emit_core.proofs.WritableLaws.{layout_short, layout_writable}
 use Rattle.flow_set.specs.declared.flow.Flow.{Flow}
@@ -41,6 +42,7 @@ pub record IsLawful (language : RuleDialect) : Type 1 where
   pub audited_filter : (rules : language.Rules) → filter_of (language.audited rules) ≡ language.filter rules
   pub enforces : (site : Site) (p s : List Flow) → IsSite site → language.CanWrite site p s → Enforces (language.filter (language.layout site p s)) site p s
   pub other_frames : (site : Site) (p s : List Flow) → IsSite site → language.CanWrite site p s → language.OtherFrames (language.layout site p s)
+  pub other_states : (site : Site) (p s : List Flow) → IsSite site → language.CanWrite site p s → language.OtherStates (language.layout site p s)
   pub read_again : (site : Site) (p s : List Flow) → IsSite site → language.CanWrite site p s
       → language.IsReading (language.text (language.layout site p s)) (language.layout site p s)
   pub one_hindrance : (site : Site) (p s : List Flow) (line other : List ℕ) → language.CannotEmit line site p s
@@ -57,6 +59,7 @@ iptables_laws = record {
   audited_filter = λ chains. refl;
   enforces = λ site p s known can. layout_enforces site p s known.hosts;
   other_frames = λ site p s known can. tt;
+  other_states = λ site p s known can. layout_no_other_state site p s known.services;
   read_again = λ site p s known can. text_read_again _ (layout_writable site p s known can) (layout_short site p s known can);
   one_hindrance = λ site p s line other is also. is.1 ∙ sym also.1;
   apart = λ site p s line fits bars. omega (arith, fits, bars.0);
@@ -90,6 +93,7 @@ openflow_laws = record {
   audited_filter = λ entries. refl;
   enforces = λ site p s known can. flow_entries_enforce site p s known can.1 can.0;
   other_frames = λ site p s known can. flow_entries_arp site p known can.1;
+  other_states = λ site p s known can. tt;
   read_again = λ site p s known can. flows_read_again (flow_entries site p) (flow_entries_table site p known can.1 can.2);
   one_hindrance = one_bar;
   apart = not_both;

@@ -7,7 +7,7 @@ use Rattle.std.proofs.lemmas.Bool.Decides.{nat_tests}
 use Rattle.host_emit.proofs.GuardingLaws.{layout_guards}
 use Rattle.host_emit.proofs.LocalEventsLaws.{layouts_expected}
 use Rattle.host_emit.specs.LocalLayout.{is_specific}
-use Rattle.host_emit.proofs.LocalWritableLaws.{local_short, local_writable}
+use Rattle.host_emit.proofs.LocalWritableLaws.{local_no_other_state, local_short, local_writable}
 use Rattle.host_net.specs.Host.{Host, rest_of}
 use Rattle.host_net.specs.inner.Site.{IsSite}
 use Rattle.ipt_read.proofs.AgainLaws.{text_read_again}
@@ -94,6 +94,7 @@ module _ (d : Network) (host : List ℕ) where
         written = written;
         enforces_at_host = layout_guards (site_of d) p s found.number network.hosts;
         passes = layouts_expected (site_of d) p s network.hosts (IsSubset-stateful d p s is.is_policy.stateful);
+        other_states = local_no_other_state (site_of d) p s found.number known;
         read = read;
         only_reading = λ others reading. one_reading rules others own reading read;
       }

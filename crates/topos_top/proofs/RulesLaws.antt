@@ -12,6 +12,7 @@ use Rattle.net_core.specs.inner.Fitting.{IsNetwork}
 use Rattle.net_core.specs.Policies.{IsPolicyOf, MeetsAll, Policy}
 use Rattle.net_core.proofs.PolicyLaws.{policy_is_one, IsSubset-stateful, asked_is_permitted}
 use Rattle.pkt_core.specs.Filter.{Enforces, ForwardsAsExpected}
+use Rattle.pkt_core.proofs.AnyTrackingLaws.{enforced_in_any_state}
 use Rattle.pkt_core.proofs.FilterLaws.{enforced_expected}
 use Rattle.topos_top.specs.Dialects.{RuleDialect, rule_dialect_of}
 use Rattle.topos_top.specs.Outcomes.{Answers}
@@ -76,5 +77,7 @@ module _ (language : RuleDialect) (laws : IsLawful language) (d : Network) where
         only_reading = λ others reading. laws.one_reading rules others own reading read;
         expected = expected;
         enforces = enforces;
+        in_any_state = enforced_in_any_state (language.filter own) (site_of d) p s enforces;
         other_frames = laws.other_frames (site_of d) p s known can;
+        other_states = laws.other_states (site_of d) p s known can;
       }

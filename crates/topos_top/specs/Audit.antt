@@ -7,7 +7,7 @@ use Rattle.audit_core.specs.Findings.{DifferSomewhere, IsFirstTrace, events_of}
 use Rattle.audit_core.specs.FindingText.{classes_line, trace_text}
 use Rattle.audit_core.specs.Places.{class_count, representatives_of, most_classes}
 use Rattle.audit_core.specs.Rules.{Rules}
-use Rattle.audit_core.specs.Sides.{DifferThen, AreEquivalent, Sides, sides_of}
+use Rattle.audit_core.specs.Sides.{AreSafe, DifferThen, AreEquivalent, Sides, sides_of}
 use Rattle.audit_core.specs.declared.finding.Trace.{Trace}
 use Rattle.host_net.specs.declared.packet.Packet.{Packet}
 use Rattle.net_core.specs.Network.{Network}
@@ -58,7 +58,7 @@ agreement d rules = record {
   status = Done;
   when = OfSides d rules (λ sides. FewClasses sides × AreEquivalent sides);
   is = λ text. text ≡ codes "equal\n";
-  guarantees = λ text. OfSides d rules AreEquivalent;
+  guarantees = λ text. OfSides d rules (λ sides. AreEquivalent sides × AreSafe sides);
 }
 
 -- The outcomes of an audit: too many packet classes, a difference, or agreement.

@@ -6,6 +6,7 @@ use Rattle.emit_core.specs.EmitRefusals.{rule_limit}
 use Rattle.emit_core.specs.FlowTableEvents.{AnswersAreCovered, IsFirstUncovered}
 use Rattle.emit_core.specs.FlowTableForwarding.{ForwardsArpAlone}
 use Rattle.emit_core.specs.Layout.{layout}
+use Rattle.emit_core.specs.OtherStates.{HaveNoOtherState}
 use Rattle.emit_core.specs.PortRanges.{HasNoRange, IsFirstRange}
 use Rattle.flow_set.specs.declared.flow.Flow.{Flow}
 use Rattle.host_net.specs.Site.{Site}
@@ -27,8 +28,9 @@ use Rattle.topos_top.specs.declared.dialect.Dialect.{Dialect}
 use Rattle.topos_top.specs.declared.dialect.Dialect.TheVariants.{Iptables, OpenFlow}
 
 -- A dialect: its name on the command line, the type of its rules, their text, the size limit of the parser, the rules that a text parses
--- to, the reasons to reject a text, the packets that rules forward in each state, the rules in the form of an audit, and the treatment of
--- other frames; and, for a site with permitted flows p and stateful flows s, their rules, if they can be emitted, and the line that gives
+-- to, the reasons to reject a text, the packets that rules forward in each state, the rules in the form of an audit, the treatment of
+-- other frames, and of states besides NEW and ESTABLISHED; and, for a site with permitted flows p and stateful flows s, their rules, if they
+-- can be emitted, and the line that gives
 -- the reason otherwise (docs/TEXTS.md).
 pub record RuleDialect : Type 1 where
   pub word : List ℕ
@@ -40,6 +42,7 @@ pub record RuleDialect : Type 1 where
   pub filter : Rules → Filter
   pub audited : Rules → AuditedRules
   pub OtherFrames : Rules → Type 0
+  pub OtherStates : Rules → Type 0
   pub layout : Site → (p s : List Flow) → Rules
   pub CanWrite : Site → (p s : List Flow) → Type 0
   pub CannotEmit : (line : List ℕ) → Site → (p s : List Flow) → Type 0
@@ -61,6 +64,7 @@ iptables = record {
   filter = PassesChains;
   audited = Chains;
   OtherFrames = λ chains. Unit {0};
+  OtherStates = HaveNoOtherState;
   layout = layout;
   CanWrite = λ site p s. rule_count (layout site p s) ≤ rule_limit;
   CannotEmit = CannotEmitChains;
@@ -88,6 +92,7 @@ openflow = record {
   filter = PassesTable;
   audited = Entries;
   OtherFrames = ForwardsArpAlone;
+  OtherStates = λ entries. Unit {0};
   layout = λ site p s. flow_entries site p;
   CanWrite = λ site p s. AnswersAreCovered site.services p s × HasNoRange site.services p × (length (flow_entries site p) ≤ most_entries);
   CannotEmit = CannotEmitTable;

@@ -1,5 +1,6 @@
 -- `local FILE HOST`: the rules for the machines of one host, unless the policy was listed and violates an invariant.
 use Rattle.std.specs.Prelude.{◌≡◌, ℕ, List, [], ◌∷◌, ◌++◌, None, Some, codes, IsTrue}
+use Rattle.emit_core.specs.OtherStates.{HaveNoOtherState}
 use Rattle.host_emit.specs.HostEnforcement.{EnforcesAtHost}
 use Rattle.host_emit.specs.LocalEvents.{DeliversAsExpected}
 use Rattle.host_emit.specs.LocalLayout.{is_specific, local_layout}
@@ -38,7 +39,8 @@ local_chains_for d policy = local_layout (site_of d) policy.permitted.flows poli
 -- The guarantee of the rules for the machines of a host. They enforce the policy on the host; the policy is that of the network and
 -- satisfies its invariants. If every specific host has its rules on its machines, a packet passes if and only if the policy and its answers
 -- expect it, for every list of events with valid packets, none of which has both addresses in 127.0.0.0/8. If only some have them, packets
--- between two others pass as well. The text parses to exactly these rules.
+-- between two others pass as well. With any connection tracking only expected packets pass in sound states. No rule matches a state besides
+-- ESTABLISHED. The text parses to exactly these rules.
 pub record EnforcesPolicyLocally (d : Network) (host rules : List ℕ) : Type 0 where
   pub policy : Policy
   pub invariants : PolicyMeetsInvariants d policy
@@ -46,6 +48,7 @@ pub record EnforcesPolicyLocally (d : Network) (host rules : List ℕ) : Type 0 
   pub written : rules ≡ text (local_chains_for d policy found.number)
   pub enforces_at_host : EnforcesAtHost (local_chains_for d policy found.number) (site_of d) policy.permitted.flows policy.stateful.flows found.number
   pub passes : DeliversAsExpected (local_chains_for d policy) (site_of d) policy.permitted.flows policy.stateful.flows
+  pub other_states : HaveNoOtherState (local_chains_for d policy found.number)
   pub read : IsReading rules (local_chains_for d policy found.number)
   pub only_reading : (others : List Chain) → IsReading rules others → others ≡ local_chains_for d policy found.number
 

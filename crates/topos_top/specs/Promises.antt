@@ -1,6 +1,6 @@
 -- What an operator may rely on, one promise per definition. All of them follow from the single reply of a run.
 use Rattle.std.specs.Prelude.{◌≡◌, ℕ, ◌⊎◌, List, codes, Some, IfSome}
-use Rattle.audit_core.specs.Sides.{AreEquivalent}
+use Rattle.audit_core.specs.Sides.{AreEquivalent, AreSafe}
 use Rattle.edge_io.specs.Counts.{Rose}
 use Rattle.sample_core.specs.Sample.{IsSample}
 use Rattle.sample_core.specs.SamplePromises.{ReportsSample}
@@ -83,13 +83,14 @@ Wrote out Keep = (text : List ℕ) × Appends out text × Keep text
 -- stated for their dialect (`EnforcesPolicyText`), or for the machines of a host (`EnforcesPolicyLocally`). `rules` and `local` write them only if a
 -- listed policy satisfies every invariant, so that it is permitted unchanged. `migrate` writes a document of the table of the given description in
 -- version 2, which describes the same network unless it is too long (`IsMigrated`). `audit` reports `equal` only if, for every list of valid
--- packets and forget events, the rules forward what the policy of the network and its answers expect (`AreEquivalent`).
+-- packets and forget events, the rules forward what the policy of the network and its answers expect (`AreEquivalent`), and with
+-- any connection tracking only that (`AreSafe`).
 abbrev pub MeetsHeadline : Command → ShelfChange → (out : SinkChange) → Type 0
 MeetsHeadline (Rules dialect file) shelf out = WasRead shelf kind.Description file (λ d. ListedHolds d × Wrote out (EnforcesPolicyText (rule_dialect_of dialect) d))
 MeetsHeadline (Repair dialect file) shelf out = WasRead shelf kind.Description file (λ d. Wrote out (EnforcesPolicyText (rule_dialect_of dialect) d))
 MeetsHeadline (Migrate file) shelf out = WasRead shelf kind.Document file (λ migrated. Appends out migrated)
 MeetsHeadline (Audit dialect file rules) shelf out = WasRead shelf kind.Description file
-    (λ d. WasRead shelf (kind.Rules dialect) rules (λ said. OfSides d ((rule_dialect_of dialect).audited said) AreEquivalent × Appends out (codes "equal\n")))
+    (λ d. WasRead shelf (kind.Rules dialect) rules (λ said. OfSides d ((rule_dialect_of dialect).audited said) (λ sides. AreEquivalent sides × AreSafe sides) × Appends out (codes "equal\n")))
 MeetsHeadline (Local file host) shelf out = WasRead shelf kind.Description file (λ d. ListedHolds d × Wrote out (EnforcesPolicyLocally d host))
 MeetsHeadline _ shelf out = Unit {0}
 

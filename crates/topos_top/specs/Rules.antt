@@ -6,6 +6,7 @@ use Rattle.flow_set.specs.declared.flow.Flow.{Flow}
 use Rattle.host_net.specs.Site.{Site}
 use Rattle.net_core.specs.Network.{Network, site_of}
 use Rattle.net_core.specs.Policies.{CompliesWithAll, IsGreatestPolicy, IsPolicyOf, IsEdgeWiseNetwork, MeetsAll, Policy}
+use Rattle.pkt_core.specs.AnyTracking.{ForwardsInAnyState}
 use Rattle.pkt_core.specs.Filter.{Enforces, ForwardsAsExpected}
 use Rattle.topos_top.specs.Check.{AskedHolds, offences_when}
 use Rattle.topos_top.specs.Dialects.{RuleDialect, rule_dialect_of}
@@ -45,8 +46,9 @@ rules_for language d policy = language.layout (site_of d) policy.permitted.flows
 
 -- The guarantee of the rules of a network. The policy has the properties above. The text parses to exactly these rules. From an empty
 -- connection table, for every list of events with valid packets, they forward exactly the packets of a permitted flow and those that answer
--- a stateful flow. For a single packet in either connection state they have exactly the verdict of the policy. They treat frames of other
--- kinds as the dialect specifies.
+-- a stateful flow. For a single packet in either connection state they have exactly the verdict of the policy. With any connection tracking,
+-- they forward only expected packets in sound states, and all permitted packets in all states. They treat frames of other kinds, and
+-- packets in other states, as the dialect specifies.
 pub record EnforcesPolicyText (language : RuleDialect) (d : Network) (rules : List ℕ) : Type 0 where
   pub policy : Policy
   pub invariants : PolicyMeetsInvariants d policy
@@ -55,7 +57,9 @@ pub record EnforcesPolicyText (language : RuleDialect) (d : Network) (rules : Li
   pub only_reading : (others : language.Rules) → language.IsReading rules others → others ≡ rules_for language d policy
   pub expected : ForwardsAsExpected (language.filter (rules_for language d policy)) (site_of d) policy.permitted.flows policy.stateful.flows
   pub enforces : Enforces (language.filter (rules_for language d policy)) (site_of d) policy.permitted.flows policy.stateful.flows
+  pub in_any_state : ForwardsInAnyState (language.filter (rules_for language d policy)) (site_of d) policy.permitted.flows policy.stateful.flows
   pub other_frames : language.OtherFrames (rules_for language d policy)
+  pub other_states : language.OtherStates (rules_for language d policy)
 
 -- The rules, if the condition holds and they can be emitted; with higher precedence the line with the reason, if the condition holds and
 -- they cannot.
