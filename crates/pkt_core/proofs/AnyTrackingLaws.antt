@@ -8,8 +8,6 @@ use Rattle.host_net.specs.declared.packet.Packet.{Packet}
 use Rattle.host_net.specs.declared.packet.CtState.{CtState}
 use Rattle.host_net.specs.declared.packet.CtState.TheVariants.{New, Established}
 use Rattle.host_net.specs.Packet.{IsPacket, swap_of}
-use Rattle.host_net.specs.Site.{Site}
-use Rattle.flow_set.specs.declared.flow.Flow.{Flow}
 use Rattle.pkt_core.specs.declared.event.Event.{Event}
 use Rattle.pkt_core.specs.declared.event.Event.TheVariants.{Seen}
 use Rattle.pkt_core.specs.Events.{WasSeen}
@@ -24,7 +22,7 @@ use Rattle.pkt_core.specs.laws.EventLaws.{WasSeen-none}
 use Rattle.pkt_core.specs.laws.TrackingLaws.{same_packet-self}
 use Rattle.pkt_core.specs.Tracking.{ConnectionTable, after_seen, no_connections, same_packet, state_of}
 use Rattle.pkt_core.specs.Firewall.{Filter, is_established, may_pass}
-use Rattle.pkt_core.specs.FlowPolicy.{is_of}
+use Rattle.pkt_core.specs.FlowPolicy.{FlowPolicy, permits, permits_reply_to}
 use Rattle.pkt_core.specs.AnyTracking.{ForwardsInAnyState, IsSound, IsSoundFor}
 
 -- In a sound state the policy allows only expected packets.
@@ -41,12 +39,12 @@ new_allowed false true is = is
 new_allowed false false is = is
 
 -- A filter that enforces a policy forwards only expected packets in sound states, and exactly the permitted packets in every state.
-pub enforced_in_any_state : (filter : Filter) (site : Site) (p s : List Flow) → Enforces filter site p s → ForwardsInAnyState filter site p s
-enforced_in_any_state filter site p s enforces = record {
-  only_expected = λ past packet state is sound passes. allowed_expected (is_of site p) (is_of site s) past packet state sound (sym (enforces.only packet state true is passes));
+pub enforced_in_any_state : (filter : Filter) (policy : FlowPolicy) → Enforces filter policy → ForwardsInAnyState filter policy
+enforced_in_any_state filter policy enforces = record {
+  only_expected = λ past packet state is sound passes. allowed_expected (permits policy) (permits_reply_to policy) past packet state sound (sym (enforces.only packet state true is passes));
   all_permitted = λ packet is. (
-    λ always. new_allowed (is_of site p packet) (is_of site s (swap_of packet)) (sym (enforces.only packet New true is (always New))),
-    λ permitted state. subst (filter state packet) (or_left (is_of site p packet) _ permitted) (enforces.given packet state is),
+    λ always. new_allowed (permits policy packet) (permits_reply_to policy (swap_of packet)) (sym (enforces.only packet New true is (always New))),
+    λ permitted state. subst (filter state packet) (or_left (permits policy packet) _ permitted) (enforces.given packet state is),
   );
 }
 
@@ -82,7 +80,7 @@ tracked_sound permitted past kept tracks p established = by_marks (kept (swap_of
     by_marks None None is has h = absurd (true≢false (sym h))
 
 -- A filter that forwards what a policy expects, from its runs over one packet and over a packet and its answer.
-module _ (filter : Filter) (site : Site) (p s : List Flow) (forwards : ForwardsAsExpected filter site p s) where
+module _ (filter : Filter) (policy : FlowPolicy) (forwards : ForwardsAsExpected filter policy) where
   only : (a b : Bool) → Some (Some a) ≡ Some (Some b) → a ≡ b
   only a b h = cc
 
@@ -94,17 +92,17 @@ module _ (filter : Filter) (site : Site) (p s : List Flow) (forwards : ForwardsA
   alone packet is (suc k) q there = cc
 
   -- As a new packet exactly a permitted packet passes.
-  new_expected : (packet : Packet) (passes : Bool) → IsPacket packet → filter New packet passes → IsTrue passes ↔ IsTrue (is_of site p packet)
+  new_expected : (packet : Packet) (passes : Bool) → IsPacket packet → filter New packet passes → IsTrue passes ↔ IsTrue (permits policy packet)
   new_expected packet passes is has =
       let at = (forwards.expected (Seen packet ∷ []) (Some passes ∷ []) (alone packet is) (has, tt)).seen zero packet refl in
       let same : at.0 ≡ passes = only at.0 passes (sym at.1) in
       ((λ h. nothing_seen (at.2.0 (same ∙ h))), (λ h. sym same ∙ at.2.1 (inl h)))
     where
-      nothing_seen : Expected (is_of site p) (is_of site s) [] packet → IsTrue (is_of site p packet)
+      nothing_seen : Expected (permits policy) (permits_reply_to policy) [] packet → IsTrue (permits policy packet)
       nothing_seen (inl allowed) = allowed
       nothing_seen (inr answers) = absurd (WasSeen-none (swap_of packet) answers.1)
 
-  new_passes : (packet : Packet) → IsPacket packet → IsTrue (is_of site p packet) → filter New packet true
+  new_passes : (packet : Packet) → IsPacket packet → IsTrue (permits policy packet) → filter New packet true
   new_passes packet is allowed = by_run (forwards.some (Seen packet ∷ []) (alone packet is)).0 (forwards.some (Seen packet ∷ []) (alone packet is)).1
     where
       by_run : (answers : List (Option Bool)) → RunsFromNoConnections filter (Seen packet ∷ []) answers → filter New packet true
@@ -123,16 +121,16 @@ module _ (filter : Filter) (site : Site) (p s : List Flow) (forwards : ForwardsA
   pair packet is zero q there = alone (swap_of packet) (swaps_packet packet is) zero q there
   pair packet is (suc k) q there = alone packet is k q there
 
-  answer_expected : (packet : Packet) → IsPacket packet → IsTrue (is_of site p (swap_of packet)) → filter Established packet true
-      → Expected (is_of site p) (is_of site s) (Seen (swap_of packet) ∷ []) packet
+  answer_expected : (packet : Packet) → IsPacket packet → IsTrue (permits policy (swap_of packet)) → filter Established packet true
+      → Expected (permits policy) (permits_reply_to policy) (Seen (swap_of packet) ∷ []) packet
   answer_expected packet is allowed has =
       let run : RunsFromNoConnections filter (Seen (swap_of packet) ∷ Seen packet ∷ []) (Some true ∷ Some true ∷ []) =
       (new_passes (swap_of packet) (swaps_packet packet is) allowed, (subst (λ state. filter state packet true) (sym (answer_state packet)) has, tt)) in
       let at = (forwards.expected (Seen (swap_of packet) ∷ Seen packet ∷ []) (Some true ∷ Some true ∷ []) (pair packet is) run).seen 1 packet refl in
       at.2.0 (only at.0 true (sym at.1))
 
-  pub forwards_only_expected : (past : List Event) (packet : Packet) (state : CtState) → IsPacket packet → IsSoundFor (is_of site p) past packet state
-      → filter state packet true → Expected (is_of site p) (is_of site s) past packet
+  pub forwards_only_expected : (past : List Event) (packet : Packet) (state : CtState) → IsPacket packet → IsSoundFor (permits policy) past packet state
+      → filter state packet true → Expected (permits policy) (permits_reply_to policy) past packet
   forwards_only_expected past packet New is sound has = inl ((new_expected packet true is has).0 refl)
   forwards_only_expected past packet Established is sound has = elim (sound refl).1 [
     | inl allowed ↦ inl allowed

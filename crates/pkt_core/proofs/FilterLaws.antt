@@ -15,7 +15,7 @@ use Rattle.pkt_core.proofs.ExpectedLaws.{expected_once, runs_as_expected, some_r
 use Rattle.pkt_core.specs.Filter.{ArePackets, Enforces, ForwardsAsExpected, RunsFromNoConnections}
 use Rattle.pkt_core.specs.Firewall.{Filter}
 use Rattle.pkt_core.specs.inner.FirewallFor.{IsFirewallFor}
-use Rattle.pkt_core.specs.FlowPolicy.{flow_of, is_of}
+use Rattle.pkt_core.specs.FlowPolicy.{FlowPolicy, flow_of, is_of, permits, permits_reply_to}
 use Rattle.pkt_core.specs.Tracking.{no_connections}
 
 of_more : (services : List RestrictedFlow) (s p : List Flow) (packet : Packet) (flow : Option Flow) → IsSubset s p
@@ -31,25 +31,25 @@ pub is_of-within : (site : Site) (s p : List Flow) (packet : Packet) → IsSubse
 is_of-within site s p packet subset h = of_more site.services s p packet (flow_of site.hosts packet) subset h
 
 -- A filter that enforces a policy is a firewall for it.
-firewall_for : (filter : Filter) (site : Site) (p s : List Flow) → IsSubset s p → Enforces filter site p s
-    → IsFirewallFor filter IsPacket (is_of site p) (is_of site s)
-firewall_for filter site p s subset enforces = record {
+firewall_for : (filter : Filter) (policy : FlowPolicy) → IsSubset policy.stateful policy.permitted → Enforces filter policy
+    → IsFirewallFor filter IsPacket (permits policy) (permits_reply_to policy)
+firewall_for filter policy subset enforces = record {
   given = λ state packet is. enforces.given packet state is;
   only = λ state packet passes is said. enforces.only packet state passes is said;
-  policy = λ packet is stateful. is_of-within site s p packet subset stateful;
+  policy = λ packet is stateful. is_of-within policy.site policy.stateful policy.permitted packet subset stateful;
 }
 
-pub enforced_expected : (filter : Filter) (site : Site) (p s : List Flow) → IsSubset s p → Enforces filter site p s → ForwardsAsExpected filter site p s
-enforced_expected filter site p s subset enforces = record {
+pub enforced_expected : (filter : Filter) (policy : FlowPolicy) → IsSubset policy.stateful policy.permitted → Enforces filter policy → ForwardsAsExpected filter policy
+enforced_expected filter policy subset enforces = record {
   expected = expected;
-  some = λ events packets. some_run filter IsPacket (is_of site p) (is_of site s) firewall no_connections events packets;
+  some = λ events packets. some_run filter IsPacket (permits policy) (permits_reply_to policy) firewall no_connections events packets;
   one = λ events answers others packets run other.
-      expected_once (is_of site p) (is_of site s) events answers others (expected events answers packets run) (expected events others packets other);
+      expected_once (permits policy) (permits_reply_to policy) events answers others (expected events answers packets run) (expected events others packets other);
 }
   where
-    firewall : IsFirewallFor filter IsPacket (is_of site p) (is_of site s)
-    firewall = firewall_for filter site p s subset enforces
+    firewall : IsFirewallFor filter IsPacket (permits policy) (permits_reply_to policy)
+    firewall = firewall_for filter policy subset enforces
 
     expected : (events : List Event) (answers : List (Option Bool)) → ArePackets events → RunsFromNoConnections filter events answers
-        → AreExpected (is_of site p) (is_of site s) events answers
-    expected events answers packets run = runs_as_expected filter IsPacket (is_of site p) (is_of site s) firewall events packets answers run
+        → AreExpected (permits policy) (permits_reply_to policy) events answers
+    expected events answers packets run = runs_as_expected filter IsPacket (permits policy) (permits_reply_to policy) firewall events packets answers run

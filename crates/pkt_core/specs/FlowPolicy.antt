@@ -1,5 +1,4 @@
--- A policy between hosts: the permitted flows, the stateful ones among them, whose answers pass as well, and the decision of the policy for
--- a packet.
+-- A policy between hosts, and its decision for a packet.
 use Rattle.std.specs.Prelude.{ℕ, ◌==◌, Bool, false, ◌&&◌, if◌then◌else◌, List, Option, Some, None}
 use Rattle.std.specs.Option.{option_map_or}
 use Rattle.host_net.specs.declared.packet.Packet.{Packet}
@@ -11,6 +10,16 @@ use Rattle.host_net.specs.Site.{Site}
 use Rattle.flow_set.specs.declared.flow.Flow.{Flow}
 use Rattle.flow_set.specs.FlowSet.{has}
 use Rattle.pkt_core.specs.Firewall.{may_pass}
+
+-- The hosts and the services of flows between them; the permitted flows, each restricted to its services if it has any; and the stateful
+-- flows, the permitted flows whose answers may pass.
+pub record FlowPolicy : Type 0 where
+  pub site : Site
+  pub permitted : List Flow
+  pub stateful : List Flow
+
+abbrev pub policy_with : Site → (permitted stateful : List Flow) → FlowPolicy
+policy_with site permitted stateful = record { site = site; permitted = permitted; stateful = stateful }
 
 -- The flow between two owners, if both exist and differ.
 abbrev pub flow_of_owners : Option ℕ → Option ℕ → Option Flow
@@ -28,7 +37,14 @@ abbrev pub is_of : Site → List Flow → Packet → Bool
 is_of site flows packet =
     option_map_or (λ f. has flows f && is_served (services_of site.services f.from f.to) packet) (flow_of site.hosts packet) false
 
--- The policy allows the packet: it belongs to a permitted flow, or its connection is established and it answers a packet of a stateful
--- flow.
-abbrev pub lets_pass : Site → List Flow → List Flow → Packet → CtState → Bool
-lets_pass site p s packet state = may_pass (is_of site p) (is_of site s) state packet
+-- The policy permits the packet: it belongs to a permitted flow.
+abbrev pub permits : FlowPolicy → Packet → Bool
+permits policy = is_of policy.site policy.permitted
+
+-- The answers to the packet may pass: it belongs to a stateful flow.
+abbrev pub permits_reply_to : FlowPolicy → Packet → Bool
+permits_reply_to policy = is_of policy.site policy.stateful
+
+-- The policy allows the packet: it permits the packet, or the packet answers one whose answers may pass, on an established connection.
+abbrev pub lets_pass : FlowPolicy → Packet → CtState → Bool
+lets_pass policy packet state = may_pass (permits policy) (permits_reply_to policy) state packet

@@ -4,7 +4,8 @@ ghost use Rattle.std.specs.Prelude.{◌≡◌, ◌<◌, Some, length, option_map
 ghost use Rattle.host_net.specs.Host.{rest_of};
 ghost use Rattle.host_net.specs.Site.{site_with};
 ghost use Rattle.flow_set.specs.FlowSet.{IsSubset};
-ghost use Rattle.pkt_core.specs.inner.FlowPolicy.{IsFlowPolicy, policy_with};
+ghost use Rattle.pkt_core.specs.FlowPolicy.{policy_with};
+ghost use Rattle.pkt_core.specs.inner.FlowPolicy.{IsFlowPolicy};
 
 use flow_set::FlowSet;
 use host_net::{Hosts, Prefix, Services};
@@ -23,7 +24,8 @@ pub struct FlowPolicy<'a> {
 impl<'a> Model for FlowPolicy<'a> {
     ghost use Rattle.std.specs.Prelude.{◌≡◌, length};
     ghost use Rattle.host_net.specs.Site.{site_with};
-    ghost use Rattle.pkt_core.specs.inner.FlowPolicy.{FlowPolicy, IsFlowPolicy, policy_with};
+    ghost use Rattle.pkt_core.specs.FlowPolicy.{FlowPolicy, policy_with};
+    ghost use Rattle.pkt_core.specs.inner.FlowPolicy.{IsFlowPolicy};
 
     ghost Value = { FlowPolicy };
 
