@@ -11,8 +11,6 @@ use Rattle.host_net.specs.declared.prefix.Prefix.{Prefix}
 use Rattle.host_net.specs.declared.service.Service.{Service}
 use Rattle.host_net.specs.Packet.{IsPacket, swap_of}
 use Rattle.host_net.specs.Service.{is_served, is_whole, service_matches}
-use Rattle.host_net.specs.Site.{Site}
-use Rattle.flow_set.specs.declared.flow.Flow.{Flow}
 use Rattle.ipt_rules.specs.declared.rule.Rule.{Rule}
 use Rattle.ipt_rules.specs.declared.rule.Target.TheVariants.{Accept}
 use Rattle.ipt_rules.specs.Chain.{Chain}
@@ -21,6 +19,7 @@ use Rattle.ipt_rules.specs.Semantics.{step_of}
 use Rattle.ipt_rules.specs.inner.Saying.{Says}
 use Rattle.ipt_rules.proofs.SayingLaws.{says_none, says_append, says_one}
 use Rattle.pkt_core.specs.Firewall.{is_established}
+use Rattle.pkt_core.specs.FlowPolicy.{FlowPolicy}
 use Rattle.emit_core.specs.declared.direction.Direction.{Direction}
 use Rattle.emit_core.specs.Layout.{to_service, from_service, connects_unrestricted, accepts_flow, accepts_answers, accepts}
 use Rattle.emit_core.proofs.NarrowingLaws.{lets, is_served-service_matches}
@@ -71,29 +70,29 @@ when : (w b x : Bool) (rules : List Rule) (fits : Rule → Bool) (chains : List 
 when w true x rules fits chains says = says
 when w false x rules fits chains says = subst (λ (o : Option Verdict). Says fits chains [] o) (none_within w) (says_none fits chains)
 
-flow_say : (side : Direction) (chains : List Chain) (site : Site) (p : List Flow) (packet : Packet) (state : CtState) (i j : ℕ) (q : Option Prefix) → IsPacket packet
-    → Says (matches packet state) chains (accepts_flow side site p i j q)
-    (if lies_in q (other_address side packet) then pass (connects side p i j && is_served (services_on side site.services i j) packet) else None)
-flow_say side chains site p packet state i j q is =
+flow_say : (side : Direction) (chains : List Chain) (policy : FlowPolicy) (packet : Packet) (state : CtState) (i j : ℕ) (q : Option Prefix) → IsPacket packet
+    → Says (matches packet state) chains (accepts_flow side policy i j q)
+    (if lies_in q (other_address side packet) then pass (connects side policy.permitted i j && is_served (services_on side policy.site.services i j) packet) else None)
+flow_say side chains policy packet state i j q is =
     let w = lies_in q (other_address side packet) in
-    let ss = services_on side site.services i j in
+    let ss = services_on side policy.site.services i j in
     let fits = matches packet state in
-    when w (connects side p i j) (is_served ss packet) (map (to_service side q) (service_matches ss)) fits chains
+    when w (connects side policy.permitted i j) (is_served ss packet) (map (to_service side q) (service_matches ss)) fits chains
     (subst (λ (b : Bool). Says fits chains (map (to_service side q) (service_matches ss)) (if w then pass b else None)) (sym (is_served-service_matches packet ss))
     (rules_say fits chains (to_service side q) w (lets packet) (λ n. (to_service_fits side q n packet state is, refl)) (service_matches ss)))
 
-answers_say : (side : Direction) (chains : List Chain) (site : Site) (p s : List Flow) (packet : Packet) (state : CtState) (i j : ℕ) (q : Option Prefix) → IsPacket packet
-    → Says (matches packet state) chains (accepts_answers side site p s i j q)
+answers_say : (side : Direction) (chains : List Chain) (policy : FlowPolicy) (packet : Packet) (state : CtState) (i j : ℕ) (q : Option Prefix) → IsPacket packet
+    → Says (matches packet state) chains (accepts_answers side policy i j q)
     (if lies_in q (other_address side packet)
-    then pass ((connects (other_direction side) s i j && not (connects_unrestricted side site p i j))
-    && (is_served (services_on (other_direction side) site.services i j) (swap_of packet) && is_established state)) else None)
-answers_say side chains site p s packet state i j q is =
+    then pass ((connects (other_direction side) policy.stateful i j && not (connects_unrestricted side policy i j))
+    && (is_served (services_on (other_direction side) policy.site.services i j) (swap_of packet) && is_established state)) else None)
+answers_say side chains policy packet state i j q is =
     let w = lies_in q (other_address side packet) in
-    let ss = services_on (other_direction side) site.services i j in
+    let ss = services_on (other_direction side) policy.site.services i j in
     let e = is_established state in
     let fits = matches packet state in
     let test : Option Service → Bool = λ n. lets (swap_of packet) n && e in
-    when w (connects (other_direction side) s i j && not (connects_unrestricted side site p i j)) (is_served ss (swap_of packet) && e)
+    when w (connects (other_direction side) policy.stateful i j && not (connects_unrestricted side policy i j)) (is_served ss (swap_of packet) && e)
     (map (from_service side q) (service_matches ss)) fits chains
     (subst (λ (b : Bool). Says fits chains (map (from_service side q) (service_matches ss)) (if w then pass b else None))
     (any_and (lets (swap_of packet)) e (service_matches ss) ∙ ap (λ b. b && e) (sym (is_served-service_matches (swap_of packet) ss)))
@@ -117,20 +116,20 @@ left_out false false z (s ∷ ss) packet = refl
 
 -- The packets that pass: packets of the flow by its services, and on established connections those that answer a packet of the reversed
 -- flow by its services.
-abbrev pub may_link : Direction → Site → List Flow → List Flow → Packet → Bool → ℕ → ℕ → Bool
-may_link side site p s packet established i j =
-    (connects side p i j && is_served (services_on side site.services i j) packet)
-    || (connects (other_direction side) s i j && (is_served (services_on (other_direction side) site.services i j) (swap_of packet) && established))
+abbrev pub may_link : Direction → FlowPolicy → Packet → Bool → ℕ → ℕ → Bool
+may_link side policy packet established i j =
+    (connects side policy.permitted i j && is_served (services_on side policy.site.services i j) packet)
+    || (connects (other_direction side) policy.stateful i j && (is_served (services_on (other_direction side) policy.site.services i j) (swap_of packet) && established))
 
-pub accepts_say : (side : Direction) (chains : List Chain) (site : Site) (p s : List Flow) (packet : Packet) (state : CtState) (i j : ℕ) (q : Option Prefix)
+pub accepts_say : (side : Direction) (chains : List Chain) (policy : FlowPolicy) (packet : Packet) (state : CtState) (i j : ℕ) (q : Option Prefix)
     → IsPacket packet
-    → Says (matches packet state) chains (accepts side site p s i j q)
-    (if lies_in q (other_address side packet) then pass (may_link side site p s packet (is_established state) i j) else None)
-accepts_say side chains site p s packet state i j q is =
+    → Says (matches packet state) chains (accepts side policy i j q)
+    (if lies_in q (other_address side packet) then pass (may_link side policy packet (is_established state) i j) else None)
+accepts_say side chains policy packet state i j q is =
     let w = lies_in q (other_address side packet) in
-    let z = is_served (services_on (other_direction side) site.services i j) (swap_of packet) && is_established state in
-    subst (λ (o : Option Verdict). Says (matches packet state) chains (accepts side site p s i j q) o)
-    (both_say w (connects side p i j && is_served (services_on side site.services i j) packet) ((connects (other_direction side) s i j && not (connects_unrestricted side site p i j)) && z)
-    ∙ ap (λ b. if w then pass b else None) (left_out (connects side p i j) (connects (other_direction side) s i j) z (services_on side site.services i j) packet))
-    (says_append (matches packet state) chains (accepts_flow side site p i j q) (accepts_answers side site p s i j q) _ _
-    (flow_say side chains site p packet state i j q is) (answers_say side chains site p s packet state i j q is))
+    let z = is_served (services_on (other_direction side) policy.site.services i j) (swap_of packet) && is_established state in
+    subst (λ (o : Option Verdict). Says (matches packet state) chains (accepts side policy i j q) o)
+    (both_say w (connects side policy.permitted i j && is_served (services_on side policy.site.services i j) packet) ((connects (other_direction side) policy.stateful i j && not (connects_unrestricted side policy i j)) && z)
+    ∙ ap (λ b. if w then pass b else None) (left_out (connects side policy.permitted i j) (connects (other_direction side) policy.stateful i j) z (services_on side policy.site.services i j) packet))
+    (says_append (matches packet state) chains (accepts_flow side policy i j q) (accepts_answers side policy i j q) _ _
+    (flow_say side chains policy packet state i j q is) (answers_say side chains policy packet state i j q is))

@@ -11,7 +11,7 @@ use Rattle.host_net.specs.Services.{service_limit}
 use Rattle.host_net.specs.inner.Services.{AreServices}
 use Rattle.host_net.specs.Site.{Site}
 use Rattle.host_net.specs.inner.Site.{IsSite}
-use Rattle.flow_set.specs.declared.flow.Flow.{Flow}
+use Rattle.pkt_core.specs.FlowPolicy.{FlowPolicy}
 use Rattle.ipt_rules.specs.declared.rule.Rule.{Rule}
 use Rattle.ipt_rules.specs.declared.rule.Target.TheVariants.{Drop}
 use Rattle.emit_core.specs.declared.direction.Direction.{Direction}
@@ -33,46 +33,46 @@ few_services side site i j rule are =
     let ss = services_on side site.services i j in
     omega (arith, length-map (service_matches ss) rule, few_narrowings ss (are.few (flow_on side i j).from (flow_on side i j).to))
 
-few_accepts : (side : Direction) (site : Site) (p s : List Flow) (i j : ℕ) (q : Option Prefix) → AreServices site.services
-    → length (accepts side site p s i j q) ≤ 2 * service_limit
-few_accepts side site p s i j q are =
+few_accepts : (side : Direction) (policy : FlowPolicy) (i j : ℕ) (q : Option Prefix) → AreServices policy.site.services
+    → length (accepts side policy i j q) ≤ 2 * service_limit
+few_accepts side policy i j q are =
     omega (
       arith,
-      few_if (connects side p i j) (map (to_service side q) (service_matches (services_on side site.services i j))) service_limit
-          (few_services side site i j (to_service side q) are),
-      few_if (connects (other_direction side) s i j && not (connects_unrestricted side site p i j)) (map (from_service side q) (service_matches (services_on (other_direction side) site.services i j)))
-          service_limit (few_services (other_direction side) site i j (from_service side q) are),
-      length-append (accepts_flow side site p i j q) (accepts_answers side site p s i j q),
+      few_if (connects side policy.permitted i j) (map (to_service side q) (service_matches (services_on side policy.site.services i j))) service_limit
+          (few_services side policy.site i j (to_service side q) are),
+      few_if (connects (other_direction side) policy.stateful i j && not (connects_unrestricted side policy i j)) (map (from_service side q) (service_matches (services_on (other_direction side) policy.site.services i j)))
+          service_limit (few_services (other_direction side) policy.site i j (from_service side q) are),
+      length-append (accepts_flow side policy i j q) (accepts_answers side policy i j q),
     )
 
-few_to_prefix : (side : Direction) (site : Site) (p s : List Flow) (i : ℕ) (rest : Option ℕ) → AreServices site.services
-    → (j : ℕ) (q : Prefix) → length (to_prefix side site p s i rest j q) ≤ 33
-few_to_prefix side site p s i rest are j q =
+few_to_prefix : (side : Direction) (policy : FlowPolicy) (i : ℕ) (rest : Option ℕ) → AreServices policy.site.services
+    → (j : ℕ) (q : Prefix) → length (to_prefix side policy i rest j q) ≤ 33
+few_to_prefix side policy i rest are j q =
     omega (
       arith,
-      few_accepts side site p s i j (Some q) are,
-      few_if (is_open side p s i rest && not (connects_unrestricted side site p i j)) (match_peer side (Some q) None Drop ∷ []) 1 (omega arith),
-      length-append (accepts side site p s i j (Some q)) (drops side site p s i rest j q),
+      few_accepts side policy i j (Some q) are,
+      few_if (is_open side policy i rest && not (connects_unrestricted side policy i j)) (match_peer side (Some q) None Drop ∷ []) 1 (omega arith),
+      length-append (accepts side policy i j (Some q)) (drops side policy i rest j q),
     )
 
-few_to_rest : (side : Direction) (site : Site) (p s : List Flow) (i : ℕ) (rest : Option ℕ) → AreServices site.services
-    → length (to_rest side site p s i rest) ≤ 32
-few_to_rest side site p s i None are = omega arith
-few_to_rest side site p s i (Some r) are = few_accepts side site p s i r None are
+few_to_rest : (side : Direction) (policy : FlowPolicy) (i : ℕ) (rest : Option ℕ) → AreServices policy.site.services
+    → length (to_rest side policy i rest) ≤ 32
+few_to_rest side policy i None are = omega arith
+few_to_rest side policy i (Some r) are = few_accepts side policy i r None are
 
-pub few_to_hosts : (side : Direction) (site : Site) (p s : List Flow) (i : ℕ) (rest : Option ℕ) → IsSite site
-    → length (for_each_prefix (to_prefix side site p s i rest) 0 site.hosts) ≤ 33 * 1024
-few_to_hosts side site p s i rest is =
+pub few_to_hosts : (side : Direction) (policy : FlowPolicy) (i : ℕ) (rest : Option ℕ) → IsSite policy.site
+    → length (for_each_prefix (to_prefix side policy i rest) 0 policy.site.hosts) ≤ 33 * 1024
+few_to_hosts side policy i rest is =
     let few = is.hosts.few_prefixes in
-    omega (arith, few, few_for_all 33 (to_prefix side site p s i rest) (few_to_prefix side site p s i rest is.services) 0 site.hosts)
+    omega (arith, few, few_for_all 33 (to_prefix side policy i rest) (few_to_prefix side policy i rest is.services) 0 policy.site.hosts)
 
 -- The chain of a host for outbound or for inbound packets.
-pub few_host_rules : (side : Direction) (site : Site) (p s : List Flow) (i : ℕ) → IsSite site → length (host_rules side site p s i) ≤ 33825
-few_host_rules side site p s i is =
+pub few_host_rules : (side : Direction) (policy : FlowPolicy) (i : ℕ) → IsSite policy.site → length (host_rules side policy i) ≤ 33825
+few_host_rules side policy i is =
     omega (
       arith,
-      few_to_hosts side site p s i (rest_of site.hosts) is,
-      few_to_rest side site p s i (rest_of site.hosts) is.services,
-      length-append (for_each_prefix (to_prefix side site p s i (rest_of site.hosts)) 0 site.hosts) (to_rest side site p s i (rest_of site.hosts) ++ match_peer side None None Drop ∷ []),
-      length-append (to_rest side site p s i (rest_of site.hosts)) (match_peer side None None Drop ∷ []),
+      few_to_hosts side policy i (rest_of policy.site.hosts) is,
+      few_to_rest side policy i (rest_of policy.site.hosts) is.services,
+      length-append (for_each_prefix (to_prefix side policy i (rest_of policy.site.hosts)) 0 policy.site.hosts) (to_rest side policy i (rest_of policy.site.hosts) ++ match_peer side None None Drop ∷ []),
+      length-append (to_rest side policy i (rest_of policy.site.hosts)) (match_peer side None None Drop ∷ []),
     )

@@ -3,8 +3,7 @@ use Rattle.std.proofs.Common.{◌≡◌, ℕ, ◌+◌, ◌^◌, ◌<◌, List, [
 use Rattle.std.specs.Prelude.{IsNone}
 use Rattle.std.proofs.lemmas.List.{append-nil, at_drop_more, take_more}
 use Rattle.host_net.specs.Host.{Host}
-use Rattle.host_net.specs.Site.{Site}
-use Rattle.flow_set.specs.declared.flow.Flow.{Flow}
+use Rattle.pkt_core.specs.FlowPolicy.{FlowPolicy}
 use Rattle.ipt_rules.specs.declared.rule.Rule.{Rule}
 use Rattle.ipt_rules.specs.declared.rule.Policy.TheVariants.{Drop as Dropping}
 use Rattle.ipt_rules.specs.Chain.{Chain, built_in_chains, with_policy, with_rule, number_of}
@@ -76,7 +75,7 @@ none_is : {A : Type 0} (o : Option A) → o ≡ None → IsNone o
 none_is o is = rw is refl
 
 -- The name of a host's chain is unused before the chain is added.
-pub unused : (site : Site) (p s : List Flow) (i : ℕ) (chains : List Chain)
-    → chains ≡ chains_up_to site p s i → i < 2 ^ 16 → IsNone (number_of chains (host_chain_name i))
-unused site p s i chains before fits =
-    subst (λ (x : List Chain). IsNone (number_of x (host_chain_name i))) (sym before) (none_is _ (name_unused site p s i fits))
+pub unused : (policy : FlowPolicy) (i : ℕ) (chains : List Chain)
+    → chains ≡ chains_up_to policy i → i < 2 ^ 16 → IsNone (number_of chains (host_chain_name i))
+unused policy i chains before fits =
+    subst (λ (x : List Chain). IsNone (number_of x (host_chain_name i))) (sym before) (none_is _ (name_unused policy i fits))

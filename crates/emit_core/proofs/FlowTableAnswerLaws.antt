@@ -10,14 +10,14 @@ use Rattle.host_net.specs.declared.service.Service.{Service}
 use Rattle.host_net.specs.Packet.{swap_of, IsPacket}
 use Rattle.host_net.specs.Host.{owner_of}
 use Rattle.host_net.specs.Service.{has_all_ports, is_served, serves, is_whole}
-use Rattle.host_net.specs.Services.{RestrictedFlow, services_of}
+use Rattle.host_net.specs.Services.{services_of}
 use Rattle.host_net.specs.Site.{Site}
 use Rattle.flow_set.specs.declared.flow.Flow.{Flow}
 use Rattle.flow_set.specs.FlowSet.{has}
 use Rattle.pkt_core.specs.declared.event.Event.{Event}
 use Rattle.pkt_core.specs.Expected.{AreExpected, Expected}
 use Rattle.pkt_core.specs.Filter.{ArePackets}
-use Rattle.pkt_core.specs.FlowPolicy.{flow_of_owners, is_of}
+use Rattle.pkt_core.specs.FlowPolicy.{FlowPolicy, flow_of_owners, is_of, permits, permits_reply_to, policy_with}
 use Rattle.emit_core.specs.FlowTableEvents.{AnswersAreCovered, has_all_of}
 use Rattle.emit_core.proofs.FlowTableLaws.{belongs}
 use Rattle.emit_core.proofs.NarrowingLaws.{all_ports}
@@ -65,53 +65,53 @@ back_served (s ∷ ss) (b ∷ bs) packet fits covered served = answered_by (s �
 equal_back : (i j : ℕ) → (j == i) ≡ (i == j)
 equal_back i j = grind (arith, nat_tests)
 
-answer_by : (same : Bool) (services : List RestrictedFlow) (p s : List Flow) (i j : ℕ) (packet : Packet) → packet.dport < 2 ^ 16 → AnswersAreCovered services p s
-    → belongs services s (swap_of packet) (if same then None else Some (record { from = j; to = i })) ≡ true
-    → belongs services p packet (if same then None else Some (record { from = i; to = j })) ≡ true
-answer_by true services p s i j packet fits covered h = h
-answer_by false services p s i j packet fits covered h =
+answer_by : (same : Bool) (policy : FlowPolicy) (i j : ℕ) (packet : Packet) → packet.dport < 2 ^ 16 → AnswersAreCovered policy
+    → belongs policy.site.services policy.stateful (swap_of packet) (if same then None else Some (record { from = j; to = i })) ≡ true
+    → belongs policy.site.services policy.permitted packet (if same then None else Some (record { from = i; to = j })) ≡ true
+answer_by true policy i j packet fits covered h = h
+answer_by false policy i j packet fits covered h =
     let f : Flow = record { from = j; to = i } in
     let g : Flow = record { from = i; to = j } in
-    let there = services_of services j i in
-    let back = services_of services i j in
-    let parts = and_parts (has s f) (is_served there (swap_of packet)) h in
-    let cover = and_parts (has p g) (is_whole back || (not (is_whole there) && list_all (has_all_of back) there)) (covered f parts.0) in
-    and_from (has p g) (is_served back packet) cover.0 (back_served there back packet fits cover.1 parts.1)
+    let there = services_of policy.site.services j i in
+    let back = services_of policy.site.services i j in
+    let parts = and_parts (has policy.stateful f) (is_served there (swap_of packet)) h in
+    let cover = and_parts (has policy.permitted g) (is_whole back || (not (is_whole there) && list_all (has_all_of back) there)) (covered f parts.0) in
+    and_from (has policy.permitted g) (is_served back packet) cover.0 (back_served there back packet fits cover.1 parts.1)
 
 -- An answer to a packet of a stateful flow belongs to a permitted flow.
-pub answer_is : (services : List RestrictedFlow) (p s : List Flow) (from to : Option ℕ) (packet : Packet) → packet.dport < 2 ^ 16 → AnswersAreCovered services p s
-    → belongs services s (swap_of packet) (flow_of_owners to from) ≡ true
-    → belongs services p packet (flow_of_owners from to) ≡ true
-answer_is services p s None None packet fits covered h = h
-answer_is services p s None (Some j) packet fits covered h = h
-answer_is services p s (Some i) None packet fits covered h = h
-answer_is services p s (Some i) (Some j) packet fits covered h =
-    answer_by (i == j) services p s i j packet fits covered
-    (subst (λ (b : Bool). belongs services s (swap_of packet) (if b then None else Some (record { from = j; to = i })) ≡ true)
+pub answer_is : (policy : FlowPolicy) (from to : Option ℕ) (packet : Packet) → packet.dport < 2 ^ 16 → AnswersAreCovered policy
+    → belongs policy.site.services policy.stateful (swap_of packet) (flow_of_owners to from) ≡ true
+    → belongs policy.site.services policy.permitted packet (flow_of_owners from to) ≡ true
+answer_is policy None None packet fits covered h = h
+answer_is policy None (Some j) packet fits covered h = h
+answer_is policy (Some i) None packet fits covered h = h
+answer_is policy (Some i) (Some j) packet fits covered h =
+    answer_by (i == j) policy i j packet fits covered
+    (subst (λ (b : Bool). belongs policy.site.services policy.stateful (swap_of packet) (if b then None else Some (record { from = j; to = i })) ≡ true)
     (equal_back i j) h)
 
 -- A policy whose answers are covered expects only the permitted packets.
-expected_is : (site : Site) (p s : List Flow) (past : List Event) (packet : Packet) → IsPacket packet → AnswersAreCovered site.services p s
-    → Expected (is_of site p) (is_of site s) past packet → is_of site p packet ≡ true
-expected_is site p s past packet is covered (inl permitted) = permitted
-expected_is site p s past packet is covered (inr answer) =
-    answer_is site.services p s (owner_of site.hosts packet.src) (owner_of site.hosts packet.dst) packet is.4 covered answer.0
+expected_is : (policy : FlowPolicy) (past : List Event) (packet : Packet) → IsPacket packet → AnswersAreCovered policy
+    → Expected (permits policy) (permits_reply_to policy) past packet → permits policy packet ≡ true
+expected_is policy past packet is covered (inl permitted) = permitted
+expected_is policy past packet is covered (inr answer) =
+    answer_is policy (owner_of policy.site.hosts packet.src) (owner_of policy.site.hosts packet.dst) packet is.4 covered answer.0
 
-none_covered : (services : List RestrictedFlow) (p : List Flow) → AnswersAreCovered services p []
-none_covered services p = λ f none. absurd (true≢false (sym none))
+none_covered : (site : Site) (p : List Flow) → AnswersAreCovered (policy_with site p [])
+none_covered site p = λ f none. absurd (true≢false (sym none))
 
 -- So it expects the same as a policy without stateful flows.
-pub same_expected : (site : Site) (p s : List Flow) (events : List Event) (answers : List (Option Bool)) → ArePackets events → AnswersAreCovered site.services p s
-    → AreExpected (is_of site p) (is_of site []) events answers → AreExpected (is_of site p) (is_of site s) events answers
-same_expected site p s events answers packets covered all = record {
+pub same_expected : (policy : FlowPolicy) (events : List Event) (answers : List (Option Bool)) → ArePackets events → AnswersAreCovered policy
+    → AreExpected (permits policy) (is_of policy.site []) events answers → AreExpected (permits policy) (permits_reply_to policy) events answers
+same_expected policy events answers packets covered all = record {
   as_many = all.as_many;
   seen = λ k packet there.
       let now = all.seen k packet there in (
         now.0,
         now.1,
         (
-          λ passed. inl (expected_is site p [] (take k events) packet (packets k packet there) (none_covered site.services p) (now.2.0 passed)),
-          λ expected. now.2.1 (inl (expected_is site p s (take k events) packet (packets k packet there) covered expected)),
+          λ passed. inl (expected_is (policy_with policy.site policy.permitted []) (take k events) packet (packets k packet there) (none_covered policy.site policy.permitted) (now.2.0 passed)),
+          λ expected. now.2.1 (inl (expected_is policy (take k events) packet (packets k packet there) covered expected)),
         ),
       );
   forgotten = all.forgotten;

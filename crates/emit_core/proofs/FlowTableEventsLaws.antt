@@ -9,7 +9,7 @@ use Rattle.host_net.specs.Site.{Site}
 use Rattle.flow_set.specs.declared.flow.Flow.{Flow}
 use Rattle.flow_set.specs.FlowSet.{IsSubset}
 use Rattle.pkt_core.specs.Firewall.{is_established}
-use Rattle.pkt_core.specs.FlowPolicy.{flow_of, is_of, lets_pass}
+use Rattle.pkt_core.specs.FlowPolicy.{FlowPolicy, flow_of, is_of, lets_pass, policy_with}
 use Rattle.pkt_core.specs.Filter.{Enforces, ForwardsAsExpected}
 use Rattle.pkt_core.proofs.FilterLaws.{enforced_expected}
 use Rattle.ofp_rules.specs.declared.entry.Frame.TheVariants.{Arp, Ipv4, Other}
@@ -32,11 +32,11 @@ alone true stateful established none = refl
 alone false true established none = cc
 alone false false established none = refl
 
-lets_pass_alone : (site : Site) (p : List Flow) (packet : Packet) (state : CtState) → is_of site p packet ≡ lets_pass site p [] packet state
+lets_pass_alone : (site : Site) (p : List Flow) (packet : Packet) (state : CtState) → is_of site p packet ≡ lets_pass (policy_with site p []) packet state
 lets_pass_alone site p packet state = alone (is_of site p packet) (is_of site [] (swap_of packet)) (is_established state) (none_of site (swap_of packet))
 
 -- As a filter of IPv4 frames, a table that forwards some flows enforces them, without stateful flows.
-pub flows_enforced : (entries : List Entry) (site : Site) (p : List Flow) → ForwardsFlows entries site p → Enforces (Passes entries) site p []
+pub flows_enforced : (entries : List Entry) (site : Site) (p : List Flow) → ForwardsFlows entries site p → Enforces (Passes entries) (policy_with site p [])
 flows_enforced entries site p forwards = record {
   given = λ packet state is. subst (λ (b : Bool). Passes entries state packet b) (lets_pass_alone site p packet state) (forwards.given (Ipv4 packet) is);
   only = λ packet state passes is has. verdict_if-injective passes _ (forwards.only (Ipv4 packet) (verdict_if passes) is has) ∙ lets_pass_alone site p packet state;
@@ -46,12 +46,14 @@ no_flows : (p : List Flow) → IsSubset [] p
 no_flows p = record { ordered = tt; within = λ f none. absurd (true≢false (sym none)) }
 
 -- It forwards what is expected with stateful flows too, if their answers are covered.
-pub flows_expected : (entries : List Entry) (site : Site) (p s : List Flow) → ForwardsFlows entries site p → AnswersAreCovered site.services p s
-    → ForwardsAsExpected (Passes entries) site p s
-flows_expected entries site p s forwards covered =
-    let alone : ForwardsAsExpected (Passes entries) site p [] = enforced_expected (Passes entries) site p [] (no_flows p) (flows_enforced entries site p forwards) in
+pub flows_expected : (entries : List Entry) (policy : FlowPolicy) → ForwardsFlows entries policy.site policy.permitted → AnswersAreCovered policy
+    → ForwardsAsExpected (Passes entries) policy
+flows_expected entries policy forwards covered =
+    let permitted = policy_with policy.site policy.permitted [] in
+    let alone : ForwardsAsExpected (Passes entries) permitted =
+    enforced_expected (Passes entries) permitted (no_flows policy.permitted) (flows_enforced entries policy.site policy.permitted forwards) in
     record {
-      expected = λ events answers packets run. same_expected site p s events answers packets covered (alone.expected events answers packets run);
+      expected = λ events answers packets run. same_expected policy events answers packets covered (alone.expected events answers packets run);
       some = alone.some;
       one = alone.one;
     }

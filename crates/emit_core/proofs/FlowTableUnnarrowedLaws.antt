@@ -10,12 +10,14 @@ use Rattle.host_net.specs.inner.Site.{unnarrowed}
 use Rattle.flow_set.specs.declared.flow.Flow.{Flow}
 use Rattle.flow_set.specs.Flow.{reverse_of}
 use Rattle.flow_set.specs.FlowSet.{has}
+use Rattle.pkt_core.specs.FlowPolicy.{FlowPolicy}
 use Rattle.ofp_rules.specs.declared.entry.Action.TheVariants.{Normal}
 use Rattle.ofp_rules.specs.declared.entry.Entry.{Entry}
 use Rattle.emit_core.specs.FlowTable.{ip_entry, for_each_host, pair_entries, between, to_rest_host, from_rest_host, with_rest, arp_entry, other_entry, flow_entries}
 use Rattle.emit_core.specs.FlowTableEvents.{is_covered, AnswersAreCovered}
 use Rattle.emit_core.specs.Directions.{permits}
 use Rattle.emit_core.specs.inner.UnnarrowedFlowTable.{whole_pair, whole_between, whole_to_rest, whole_from_rest, whole_with_rest, whole_entries}
+use Rattle.emit_core.specs.inner.UnnarrowedLayout.{without_services}
 
 pair_same : (permitted : Bool) (rest : Option ℕ) (q t : Prefix) → pair_entries permitted [] rest q t ≡ whole_pair permitted rest q t
 pair_same true rest q t = refl
@@ -52,5 +54,9 @@ covered_same : (p : List Flow) (f : Flow) → is_covered [] p f ≡ has p (rever
 covered_same p f = and-true (has p (reverse_of f))
 
 -- The reverse of each stateful flow is permitted itself.
-pub AnswersAreCovered-unnarrowed : (p s : List Flow) → AnswersAreCovered [] p s ↔ ((f : Flow) → IsTrue (has s f) → IsTrue (has p (reverse_of f)))
-AnswersAreCovered-unnarrowed p s = (λ covered f stateful. sym (covered_same p f) ∙ covered f stateful, λ permitted f stateful. covered_same p f ∙ permitted f stateful)
+pub AnswersAreCovered-unnarrowed : (policy : FlowPolicy)
+    → AnswersAreCovered (without_services policy) ↔ ((f : Flow) → IsTrue (has policy.stateful f) → IsTrue (has policy.permitted (reverse_of f)))
+AnswersAreCovered-unnarrowed policy = (
+  λ covered f stateful. sym (covered_same policy.permitted f) ∙ covered f stateful,
+  λ permitted f stateful. covered_same policy.permitted f ∙ permitted f stateful,
+)

@@ -31,7 +31,7 @@ use Rattle.ipt_rules.proofs.SayingLaws.{says_none, says_append, says_jump, gives
 use Rattle.pkt_core.specs.Filter.{Enforces, ForwardsAsExpected}
 use Rattle.pkt_core.proofs.FilterLaws.{enforced_expected}
 use Rattle.pkt_core.specs.Firewall.{is_established}
-use Rattle.pkt_core.specs.FlowPolicy.{flow_of_owners, lets_pass}
+use Rattle.pkt_core.specs.FlowPolicy.{FlowPolicy, flow_of_owners, lets_pass}
 use Rattle.emit_core.specs.declared.direction.Direction.TheVariants.{Outbound, Inbound}
 use Rattle.emit_core.proofs.HostChainLaws.{says_for_each, may_link_owner, said_by, host_says}
 use Rattle.emit_core.specs.Layout.{for_each_prefix, host_rules, forward_rules, rest_jump, jump_from, from_source, chain_of, layout, host_chain}
@@ -42,41 +42,41 @@ use Rattle.emit_core.specs.Directions.{permits}
 -- 1. FORWARD.
 
 -- The chain of host i is in the layout at its number.
-host_chain_at : (site : Site) (p s : List Flow) (k n i : ℕ) → i < n
-    → slice_get (map (host_chain site p s) (range_with_len k n)) i ≡ Some (host_chain site p s (k + i))
-host_chain_at site p s k zero i below = absurd (omega arith)
-host_chain_at site p s k (suc n) zero below = rw add-zero refl
-host_chain_at site p s k (suc n) (suc i) below =
+host_chain_at : (policy : FlowPolicy) (k n i : ℕ) → i < n
+    → slice_get (map (host_chain policy) (range_with_len k n)) i ≡ Some (host_chain policy (k + i))
+host_chain_at policy k zero i below = absurd (omega arith)
+host_chain_at policy k (suc n) zero below = rw add-zero refl
+host_chain_at policy k (suc n) (suc i) below =
     let later : i < n = omega arith in
     let moved : k + 1 + i ≡ k + suc i = omega arith in
-    rw (← moved) (host_chain_at site p s (k + 1) n i later)
+    rw (← moved) (host_chain_at policy (k + 1) n i later)
 
-chain_rules : (site : Site) (p s : List Flow) (i : ℕ) → i < length site.hosts
-    → rules_of (layout site p s) (chain_of i) ≡ host_rules Outbound site p s i
-chain_rules site p s i below =
+chain_rules : (policy : FlowPolicy) (i : ℕ) → i < length policy.site.hosts
+    → rules_of (layout policy) (chain_of i) ≡ host_rules Outbound policy i
+chain_rules policy i below =
     let three : i + 3 ≡ suc (suc (suc i)) = omega arith in
     let start : 0 + i ≡ i = omega arith in
-    rw three (ap rules_in (host_chain_at site p s 0 (length site.hosts) i below) ∙ ap (host_rules Outbound site p s) start)
+    rw three (ap rules_in (host_chain_at policy 0 (length policy.site.hosts) i below) ∙ ap (host_rules Outbound policy) start)
 
-jump_says : (site : Site) (p s : List Flow) (packet : Packet) (state : CtState) (i : ℕ) → IsPacket packet → i < length site.hosts
-    → IsHeldOnce packet.dst site.hosts → (q : Option Prefix)
-    → Says (matches packet state) (layout site p s) (from_source q (Jump (chain_of i)) ∷ [])
-    (if lies_in q packet.src then Some (said_by Outbound site p s packet state i) else None)
-jump_says site p s packet state i is below once q =
+jump_says : (policy : FlowPolicy) (packet : Packet) (state : CtState) (i : ℕ) → IsPacket packet → i < length policy.site.hosts
+    → IsHeldOnce packet.dst policy.site.hosts → (q : Option Prefix)
+    → Says (matches packet state) (layout policy) (from_source q (Jump (chain_of i)) ∷ [])
+    (if lies_in q packet.src then Some (said_by Outbound policy packet state i) else None)
+jump_says policy packet state i is below once q =
     let fits = matches packet state in
-    let chains = layout site p s in
-    let v = said_by Outbound site p s packet state i in
+    let chains = layout policy in
+    let v = said_by Outbound policy packet state i in
     subst (λ (x : Bool). Says fits chains (from_source q (Jump (chain_of i)) ∷ []) (if x then Some v else None))
     (source_fits q (Jump (chain_of i)) packet state)
     (says_jump fits chains (from_source q (Jump (chain_of i))) (chain_of i) (Some v) refl
-    (subst (λ (x : List Rule). Gives fits chains x (Some v)) (sym (chain_rules site p s i below))
-    (gives_said fits chains (host_rules Outbound site p s i) (Some v) (host_says Outbound chains site p s packet state i is once))))
+    (subst (λ (x : List Rule). Gives fits chains x (Some v)) (sym (chain_rules policy i below))
+    (gives_said fits chains (host_rules Outbound policy i) (Some v) (host_says Outbound chains policy packet state i is once))))
 
-rest_jump_says : (site : Site) (p s : List Flow) (packet : Packet) (state : CtState) (rest : Option ℕ) → IsPacket packet
-    → ((r : ℕ) → rest ≡ Some r → r < length site.hosts) → IsHeldOnce packet.dst site.hosts
-    → Says (matches packet state) (layout site p s) (rest_jump rest) (option_map (said_by Outbound site p s packet state) rest)
-rest_jump_says site p s packet state None is below once = says_none (matches packet state) (layout site p s)
-rest_jump_says site p s packet state (Some r) is below once = jump_says site p s packet state r is (below r refl) once None
+rest_jump_says : (policy : FlowPolicy) (packet : Packet) (state : CtState) (rest : Option ℕ) → IsPacket packet
+    → ((r : ℕ) → rest ≡ Some r → r < length policy.site.hosts) → IsHeldOnce packet.dst policy.site.hosts
+    → Says (matches packet state) (layout policy) (rest_jump rest) (option_map (said_by Outbound policy packet state) rest)
+rest_jump_says policy packet state None is below once = says_none (matches packet state) (layout policy)
+rest_jump_says policy packet state (Some r) is below once = jump_says policy packet state r is (below r refl) once None
 
 by_owner : (said : ℕ → Verdict) (owner rest : Option ℕ)
     → option_or (option_and_then (λ i. Some (said i)) owner) (option_map said rest) ≡ option_map said (option_or owner rest)
@@ -84,20 +84,20 @@ by_owner said None rest = refl
 by_owner said (Some i) rest = refl
 
 -- FORWARD has the verdict of the chain of the host that owns the source.
-forward_says : (site : Site) (p s : List Flow) (packet : Packet) (state : CtState) → IsPacket packet
-    → IsHeldOnce packet.src site.hosts → IsHeldOnce packet.dst site.hosts
-    → Says (matches packet state) (layout site p s) (forward_rules site.hosts) (option_map (said_by Outbound site p s packet state) (owner_of site.hosts packet.src))
+forward_says : (policy : FlowPolicy) (packet : Packet) (state : CtState) → IsPacket packet
+    → IsHeldOnce packet.src policy.site.hosts → IsHeldOnce packet.dst policy.site.hosts
+    → Says (matches packet state) (layout policy) (forward_rules policy.site.hosts) (option_map (said_by Outbound policy packet state) (owner_of policy.site.hosts packet.src))
 unfolding owner_of
-forward_says site p s packet state is source destination =
+forward_says policy packet state is source destination =
     let fits = matches packet state in
-    let chains = layout site p s in
-    let said = said_by Outbound site p s packet state in
-    let own = prefix_owner_of site.hosts packet.src in
-    subst (λ (x : Option Verdict). Says fits chains (forward_rules site.hosts) x) (by_owner said own (rest_of site.hosts))
-    (says_append fits chains (for_each_prefix jump_from 0 site.hosts) (rest_jump (rest_of site.hosts)) _ _
-    (says_for_each fits chains packet.src (length site.hosts) (λ i. Some (said i)) jump_from
-    (λ i below q. jump_says site p s packet state i is below destination (Some q)) 0 site.hosts (omega arith) source)
-    (rest_jump_says site p s packet state (rest_of site.hosts) is (rest_below site.hosts) destination))
+    let chains = layout policy in
+    let said = said_by Outbound policy packet state in
+    let own = prefix_owner_of policy.site.hosts packet.src in
+    subst (λ (x : Option Verdict). Says fits chains (forward_rules policy.site.hosts) x) (by_owner said own (rest_of policy.site.hosts))
+    (says_append fits chains (for_each_prefix jump_from 0 policy.site.hosts) (rest_jump (rest_of policy.site.hosts)) _ _
+    (says_for_each fits chains packet.src (length policy.site.hosts) (λ i. Some (said i)) jump_from
+    (λ i below q. jump_says policy packet state i is below destination (Some q)) 0 policy.site.hosts (omega arith) source)
+    (rest_jump_says policy packet state (rest_of policy.site.hosts) is (rest_below policy.site.hosts) destination))
 
 -- 2. The policy.
 
@@ -139,24 +139,24 @@ back_to_one site s packet established i j =
     ∙ ap (λ b. b && established) (of_found site.services s f (swap_of packet) (j == i))
 
 -- A policy allows a packet if and only if the owner of its source may send to the owner of its destination.
-pub owners_send : (site : Site) (p s : List Flow) (packet : Packet) (established : Bool) (from to : Option ℕ)
-    → option_map_or (λ i. may_link_owner Outbound site p s packet established i to) from false
-    ≡ (option_map_or (λ f. has p f && is_served (services_of site.services f.from f.to) packet) (flow_of_owners from to) false
-    || (option_map_or (λ f. has s f && is_served (services_of site.services f.from f.to) (swap_of packet)) (flow_of_owners to from) false && established))
-owners_send site p s packet established None None = refl
-owners_send site p s packet established None (Some j) = refl
-owners_send site p s packet established (Some i) None = refl
-owners_send site p s packet established (Some i) (Some j) = λ k. to_one site p packet i j k || back_to_one site s packet established i j k
+pub owners_send : (policy : FlowPolicy) (packet : Packet) (established : Bool) (from to : Option ℕ)
+    → option_map_or (λ i. may_link_owner Outbound policy packet established i to) from false
+    ≡ (option_map_or (λ f. has policy.permitted f && is_served (services_of policy.site.services f.from f.to) packet) (flow_of_owners from to) false
+    || (option_map_or (λ f. has policy.stateful f && is_served (services_of policy.site.services f.from f.to) (swap_of packet)) (flow_of_owners to from) false && established))
+owners_send policy packet established None None = refl
+owners_send policy packet established None (Some j) = refl
+owners_send policy packet established (Some i) None = refl
+owners_send policy packet established (Some i) (Some j) = λ k. to_one policy.site policy.permitted packet i j k || back_to_one policy.site policy.stateful packet established i j k
 
 -- Equivalently, if the owner of its destination may receive from the owner of its source.
-pub owners_receive : (site : Site) (p s : List Flow) (packet : Packet) (established : Bool) (from to : Option ℕ)
-    → option_map_or (λ j. may_link_owner Inbound site p s packet established j from) to false
-    ≡ (option_map_or (λ f. has p f && is_served (services_of site.services f.from f.to) packet) (flow_of_owners from to) false
-    || (option_map_or (λ f. has s f && is_served (services_of site.services f.from f.to) (swap_of packet)) (flow_of_owners to from) false && established))
-owners_receive site p s packet established None None = refl
-owners_receive site p s packet established None (Some j) = refl
-owners_receive site p s packet established (Some i) None = refl
-owners_receive site p s packet established (Some i) (Some j) = λ k. to_one site p packet i j k || back_to_one site s packet established i j k
+pub owners_receive : (policy : FlowPolicy) (packet : Packet) (established : Bool) (from to : Option ℕ)
+    → option_map_or (λ j. may_link_owner Inbound policy packet established j from) to false
+    ≡ (option_map_or (λ f. has policy.permitted f && is_served (services_of policy.site.services f.from f.to) packet) (flow_of_owners from to) false
+    || (option_map_or (λ f. has policy.stateful f && is_served (services_of policy.site.services f.from f.to) (swap_of packet)) (flow_of_owners to from) false && established))
+owners_receive policy packet established None None = refl
+owners_receive policy packet established None (Some j) = refl
+owners_receive policy packet established (Some i) None = refl
+owners_receive policy packet established (Some i) (Some j) = λ k. to_one policy.site policy.permitted packet i j k || back_to_one policy.site policy.stateful packet established i j k
 
 -- A chain that drops packets which no rule decides.
 by_default : (sends : ℕ → Bool) (owner : Option ℕ)
@@ -165,27 +165,27 @@ by_default sends None = refl
 by_default sends (Some i) = refl
 
 -- Each packet has the verdict of the policy.
-layout_verdict : (site : Site) (p s : List Flow) (packet : Packet) (state : CtState) → IsPacket packet
-    → IsHeldOnce packet.src site.hosts → IsHeldOnce packet.dst site.hosts
-    → HasVerdict (layout site p s) packet state (verdict_if (lets_pass site p s packet state))
-layout_verdict site p s packet state is source destination =
-    let owner = owner_of site.hosts packet.src in
-    let to = owner_of site.hosts packet.dst in
-    let said = option_map (said_by Outbound site p s packet state) owner in
-    let same : verdict_by (Some Dropping) said ≡ verdict_if (lets_pass site p s packet state) =
-    sym (by_default (λ i. may_link_owner Outbound site p s packet (is_established state) i to) owner) ∙ ap verdict_if (owners_send site p s packet (is_established state) owner to) in
-    subst (HasVerdict (layout site p s) packet state) same
-    (verdict_said (layout site p s) 1 packet state said (forward_says site p s packet state is source destination))
+layout_verdict : (policy : FlowPolicy) (packet : Packet) (state : CtState) → IsPacket packet
+    → IsHeldOnce packet.src policy.site.hosts → IsHeldOnce packet.dst policy.site.hosts
+    → HasVerdict (layout policy) packet state (verdict_if (lets_pass policy packet state))
+layout_verdict policy packet state is source destination =
+    let owner = owner_of policy.site.hosts packet.src in
+    let to = owner_of policy.site.hosts packet.dst in
+    let said = option_map (said_by Outbound policy packet state) owner in
+    let same : verdict_by (Some Dropping) said ≡ verdict_if (lets_pass policy packet state) =
+    sym (by_default (λ i. may_link_owner Outbound policy packet (is_established state) i to) owner) ∙ ap verdict_if (owners_send policy packet (is_established state) owner to) in
+    subst (HasVerdict (layout policy) packet state) same
+    (verdict_said (layout policy) 1 packet state said (forward_says policy packet state is source destination))
 
 -- In every state the chains accept exactly the packets that the policy allows.
-pub layout_enforces : (site : Site) (p s : List Flow) → IsHosts site.hosts → Enforces (Passes (layout site p s)) site p s
-layout_enforces site p s known =
-    let once = hosts_hold_once site.hosts known in
+pub layout_enforces : (policy : FlowPolicy) → IsHosts policy.site.hosts → Enforces (Passes (layout policy)) policy
+layout_enforces policy known =
+    let once = hosts_hold_once policy.site.hosts known in
     record {
-      given = λ packet state is. layout_verdict site p s packet state is (once packet.src) (once packet.dst);
-      only = λ packet state passes is has. verdict_if-injective passes _ (verdict_once has (layout_verdict site p s packet state is (once packet.src) (once packet.dst)));
+      given = λ packet state is. layout_verdict policy packet state is (once packet.src) (once packet.dst);
+      only = λ packet state passes is has. verdict_if-injective passes _ (verdict_once has (layout_verdict policy packet state is (once packet.src) (once packet.dst)));
     }
 
 -- So they forward exactly what is expected.
-pub layout_expected : (site : Site) (p s : List Flow) → IsHosts site.hosts → IsSubset s p → ForwardsAsExpected (Passes (layout site p s)) site p s
-layout_expected site p s known subset = enforced_expected (Passes (layout site p s)) site p s subset (layout_enforces site p s known)
+pub layout_expected : (policy : FlowPolicy) → IsHosts policy.site.hosts → IsSubset policy.stateful policy.permitted → ForwardsAsExpected (Passes (layout policy)) policy
+layout_expected policy known subset = enforced_expected (Passes (layout policy)) policy subset (layout_enforces policy known)

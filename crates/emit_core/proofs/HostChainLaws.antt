@@ -14,9 +14,7 @@ use Rattle.host_net.specs.Host.{Host, owner_of, prefix_owner_of, rest_of, covers
 use Rattle.host_net.specs.Packet.{IsPacket, swap_of}
 use Rattle.host_net.specs.Prefix.{covers}
 use Rattle.host_net.specs.Service.{is_served, is_whole}
-use Rattle.host_net.specs.Site.{Site}
 use Rattle.host_net.specs.Verdict.{verdict_if}
-use Rattle.flow_set.specs.declared.flow.Flow.{Flow}
 use Rattle.ipt_rules.specs.declared.rule.Rule.{Rule}
 use Rattle.ipt_rules.specs.declared.rule.Target.TheVariants.{Drop}
 use Rattle.ipt_rules.specs.Chain.{Chain}
@@ -24,6 +22,7 @@ use Rattle.ipt_rules.specs.Matching.{matches}
 use Rattle.ipt_rules.specs.inner.Saying.{Says, first_said}
 use Rattle.ipt_rules.proofs.SayingLaws.{says_none, says_append, says_one, says_flat_map}
 use Rattle.pkt_core.specs.Firewall.{is_established}
+use Rattle.pkt_core.specs.FlowPolicy.{FlowPolicy}
 use Rattle.emit_core.specs.declared.direction.Direction.{Direction}
 use Rattle.emit_core.proofs.AcceptsLaws.{pass, none_within, may_link, accepts_say}
 use Rattle.emit_core.specs.Layout.{for_each_prefix, match_peer, connects_unrestricted, accepts, is_open, drops, to_prefix, to_rest, host_rules}
@@ -97,30 +96,30 @@ said_both true x y = refl
 said_both false x y = refl
 
 -- The verdict of the rules of host i on packets to host j, before those of the rest host.
-abbrev pair_said : Direction → Site → List Flow → List Flow → Packet → Bool → ℕ → Option ℕ → ℕ → Option Verdict
-pair_said side site p s packet established i rest j =
-    option_or (pass (may_link side site p s packet established i j)) (fail (is_open side p s i rest && not (connects_unrestricted side site p i j)))
+abbrev pair_said : Direction → FlowPolicy → Packet → Bool → ℕ → Option ℕ → ℕ → Option Verdict
+pair_said side policy packet established i rest j =
+    option_or (pass (may_link side policy packet established i j)) (fail (is_open side policy i rest && not (connects_unrestricted side policy i j)))
 
-pair_says : (side : Direction) (chains : List Chain) (site : Site) (p s : List Flow) (packet : Packet) (state : CtState) (i : ℕ) (rest : Option ℕ) (j : ℕ)
+pair_says : (side : Direction) (chains : List Chain) (policy : FlowPolicy) (packet : Packet) (state : CtState) (i : ℕ) (rest : Option ℕ) (j : ℕ)
     (q : Prefix) → IsPacket packet
-    → Says (matches packet state) chains (to_prefix side site p s i rest j q)
-    (if covers q (other_address side packet) then pair_said side site p s packet (is_established state) i rest j else None)
-pair_says side chains site p s packet state i rest j q is =
-    subst (λ (x : Option Verdict). Says (matches packet state) chains (to_prefix side site p s i rest j q) x)
+    → Says (matches packet state) chains (to_prefix side policy i rest j q)
+    (if covers q (other_address side packet) then pair_said side policy packet (is_established state) i rest j else None)
+pair_says side chains policy packet state i rest j q is =
+    subst (λ (x : Option Verdict). Says (matches packet state) chains (to_prefix side policy i rest j q) x)
     (said_both (covers q (other_address side packet)) _ _)
-    (says_append (matches packet state) chains (accepts side site p s i j (Some q)) (drops side site p s i rest j q) _ _
-    (accepts_say side chains site p s packet state i j (Some q) is)
-    (drops_say side chains packet state (Some q) (is_open side p s i rest && not (connects_unrestricted side site p i j))))
+    (says_append (matches packet state) chains (accepts side policy i j (Some q)) (drops side policy i rest j q) _ _
+    (accepts_say side chains policy packet state i j (Some q) is)
+    (drops_say side chains packet state (Some q) (is_open side policy i rest && not (connects_unrestricted side policy i j))))
 
 -- The verdict of the rules of host i on packets to the rest host.
-abbrev rest_said : Direction → Site → List Flow → List Flow → Packet → Bool → ℕ → Option ℕ → Option Verdict
-rest_said side site p s packet established i None = None
-rest_said side site p s packet established i (Some r) = pass (may_link side site p s packet established i r)
+abbrev rest_said : Direction → FlowPolicy → Packet → Bool → ℕ → Option ℕ → Option Verdict
+rest_said side policy packet established i None = None
+rest_said side policy packet established i (Some r) = pass (may_link side policy packet established i r)
 
-rest_says : (side : Direction) (chains : List Chain) (site : Site) (p s : List Flow) (packet : Packet) (state : CtState) (i : ℕ) (rest : Option ℕ) → IsPacket packet
-    → Says (matches packet state) chains (to_rest side site p s i rest) (rest_said side site p s packet (is_established state) i rest)
-rest_says side chains site p s packet state i None is = says_none (matches packet state) chains
-rest_says side chains site p s packet state i (Some r) is = accepts_say side chains site p s packet state i r None is
+rest_says : (side : Direction) (chains : List Chain) (policy : FlowPolicy) (packet : Packet) (state : CtState) (i : ℕ) (rest : Option ℕ) → IsPacket packet
+    → Says (matches packet state) chains (to_rest side policy i rest) (rest_said side policy packet (is_established state) i rest)
+rest_says side chains policy packet state i None is = says_none (matches packet state) chains
+rest_says side chains policy packet state i (Some r) is = accepts_say side chains policy packet state i r None is
 
 -- 3. The entire chain.
 
@@ -129,11 +128,11 @@ whole_serves : (ss : List Service) (packet : Packet) → is_whole ss ≡ true �
 whole_serves [] packet whole = refl
 whole_serves (s ∷ ss) packet whole = cc
 
-whole_links : (side : Direction) (site : Site) (p s : List Flow) (packet : Packet) (established : Bool) (i j : ℕ)
-    → connects_unrestricted side site p i j ≡ true → may_link side site p s packet established i j ≡ true
-whole_links side site p s packet established i j whole =
-    let parts = and_parts (connects side p i j) (is_whole (services_on side site.services i j)) whole in
-    rw (parts.0, whole_serves (services_on side site.services i j) packet parts.1) refl
+whole_links : (side : Direction) (policy : FlowPolicy) (packet : Packet) (established : Bool) (i j : ℕ)
+    → connects_unrestricted side policy i j ≡ true → may_link side policy packet established i j ≡ true
+whole_links side policy packet established i j whole =
+    let parts = and_parts (connects side policy.permitted i j) (is_whole (services_on side policy.site.services i j)) whole in
+    rw (parts.0, whole_serves (services_on side policy.site.services i j) packet parts.1) refl
 
 -- A packet to host j traverses the rules of host j, then those of the rest host, then the last rule.
 before_rest : (m whole b c x y : Bool) → (whole ≡ true → m ≡ true)
@@ -153,40 +152,40 @@ of_rest true = refl
 of_rest false = refl
 
 -- Whether packets between host i and the owner of an address may pass.
-abbrev pub may_link_owner : Direction → Site → List Flow → List Flow → Packet → Bool → ℕ → Option ℕ → Bool
-may_link_owner side site p s packet established i None = false
-may_link_owner side site p s packet established i (Some j) = may_link side site p s packet established i j
+abbrev pub may_link_owner : Direction → FlowPolicy → Packet → Bool → ℕ → Option ℕ → Bool
+may_link_owner side policy packet established i None = false
+may_link_owner side policy packet established i (Some j) = may_link side policy packet established i j
 
-decided : (side : Direction) (site : Site) (p s : List Flow) (packet : Packet) (established : Bool) (i : ℕ) (rest owner : Option ℕ)
-    → option_or (option_and_then (pair_said side site p s packet established i rest) owner) (option_or (rest_said side site p s packet established i rest) (Some Dropped))
-    ≡ Some (verdict_if (may_link_owner side site p s packet established i (option_or owner rest)))
-decided side site p s packet established i None None = refl
-decided side site p s packet established i None (Some j) =
-    without_rest (may_link side site p s packet established i j) (connects_unrestricted side site p i j)
-decided side site p s packet established i (Some r) None = of_rest (may_link side site p s packet established i r)
-decided side site p s packet established i (Some r) (Some j) =
-    before_rest (may_link side site p s packet established i j) (connects_unrestricted side site p i j) (connects side p i r) (connects (other_direction side) s i r)
-    (is_served (services_on side site.services i r) packet) (is_served (services_on (other_direction side) site.services i r) (swap_of packet) && established)
-    (whole_links side site p s packet established i j)
+decided : (side : Direction) (policy : FlowPolicy) (packet : Packet) (established : Bool) (i : ℕ) (rest owner : Option ℕ)
+    → option_or (option_and_then (pair_said side policy packet established i rest) owner) (option_or (rest_said side policy packet established i rest) (Some Dropped))
+    ≡ Some (verdict_if (may_link_owner side policy packet established i (option_or owner rest)))
+decided side policy packet established i None None = refl
+decided side policy packet established i None (Some j) =
+    without_rest (may_link side policy packet established i j) (connects_unrestricted side policy i j)
+decided side policy packet established i (Some r) None = of_rest (may_link side policy packet established i r)
+decided side policy packet established i (Some r) (Some j) =
+    before_rest (may_link side policy packet established i j) (connects_unrestricted side policy i j) (connects side policy.permitted i r) (connects (other_direction side) policy.stateful i r)
+    (is_served (services_on side policy.site.services i r) packet) (is_served (services_on (other_direction side) policy.site.services i r) (swap_of packet) && established)
+    (whole_links side policy packet established i j)
 
 -- The verdict on the packet in the chain of host i.
-abbrev pub said_by : Direction → Site → List Flow → List Flow → Packet → CtState → ℕ → Verdict
-said_by side site p s packet state i = verdict_if (may_link_owner side site p s packet (is_established state) i (owner_of site.hosts (other_address side packet)))
+abbrev pub said_by : Direction → FlowPolicy → Packet → CtState → ℕ → Verdict
+said_by side policy packet state i = verdict_if (may_link_owner side policy packet (is_established state) i (owner_of policy.site.hosts (other_address side packet)))
 
 -- The chain of host i forwards the packets that the host may send, or receive, and drops all others.
-pub host_says : (side : Direction) (chains : List Chain) (site : Site) (p s : List Flow) (packet : Packet) (state : CtState) (i : ℕ) → IsPacket packet
-    → IsHeldOnce (other_address side packet) site.hosts
-    → Says (matches packet state) chains (host_rules side site p s i) (Some (said_by side site p s packet state i))
+pub host_says : (side : Direction) (chains : List Chain) (policy : FlowPolicy) (packet : Packet) (state : CtState) (i : ℕ) → IsPacket packet
+    → IsHeldOnce (other_address side packet) policy.site.hosts
+    → Says (matches packet state) chains (host_rules side policy i) (Some (said_by side policy packet state i))
 unfolding owner_of
-host_says side chains site p s packet state i is once =
+host_says side chains policy packet state i is once =
     let fits = matches packet state in
-    let rest = rest_of site.hosts in
+    let rest = rest_of policy.site.hosts in
     let established = is_established state in
-    subst (λ (x : Option Verdict). Says fits chains (host_rules side site p s i) x)
-    (decided side site p s packet established i rest (prefix_owner_of site.hosts (other_address side packet)))
-    (says_append fits chains (for_each_prefix (to_prefix side site p s i rest) 0 site.hosts) (to_rest side site p s i rest ++ match_peer side None None Drop ∷ []) _ _
-    (says_for_each fits chains (other_address side packet) (length site.hosts) (pair_said side site p s packet established i rest) (to_prefix side site p s i rest)
-    (λ j below q. pair_says side chains site p s packet state i rest j q is) 0 site.hosts (omega arith) once)
-    (says_append fits chains (to_rest side site p s i rest) (match_peer side None None Drop ∷ []) _ _
-    (rest_says side chains site p s packet state i rest is)
+    subst (λ (x : Option Verdict). Says fits chains (host_rules side policy i) x)
+    (decided side policy packet established i rest (prefix_owner_of policy.site.hosts (other_address side packet)))
+    (says_append fits chains (for_each_prefix (to_prefix side policy i rest) 0 policy.site.hosts) (to_rest side policy i rest ++ match_peer side None None Drop ∷ []) _ _
+    (says_for_each fits chains (other_address side packet) (length policy.site.hosts) (pair_said side policy packet established i rest) (to_prefix side policy i rest)
+    (λ j below q. pair_says side chains policy packet state i rest j q is) 0 policy.site.hosts (omega arith) once)
+    (says_append fits chains (to_rest side policy i rest) (match_peer side None None Drop ∷ []) _ _
+    (rest_says side chains policy packet state i rest is)
     (drops_say side chains packet state None true)))

@@ -15,8 +15,7 @@ use Rattle.host_net.specs.Host.{Host, rest_of}
 use Rattle.host_net.specs.Hosts.{all_prefixes}
 use Rattle.host_net.specs.inner.Hosts.{prefix_count}
 use Rattle.host_net.specs.inner.Services.{AreServices}
-use Rattle.host_net.specs.Site.{Site}
-use Rattle.flow_set.specs.declared.flow.Flow.{Flow}
+use Rattle.pkt_core.specs.FlowPolicy.{FlowPolicy}
 use Rattle.ipt_rules.specs.declared.rule.Rule.{Rule}
 use Rattle.ipt_rules.specs.declared.rule.Target.{Target}
 use Rattle.ipt_rules.specs.declared.rule.Target.TheVariants.{Accept, Drop, Reject, Return, Count, Jump}
@@ -57,8 +56,8 @@ few_forward_rules hosts =
     omega (arith, few_for_all 1 jump_from (λ j q. omega arith) 0 hosts, few_rest_jump (rest_of hosts), length-append (for_each_prefix jump_from 0 hosts) (rest_jump (rest_of hosts)))
 
 -- The number of chains up to the n-th host.
-pub length-chains_up_to : (site : Site) (p s : List Flow) (n : ℕ) → length (chains_up_to site p s n) ≡ n + 3
-length-chains_up_to site p s n = omega (arith, length-map-range_with_len (host_chain site p s) 0 n)
+pub length-chains_up_to : (policy : FlowPolicy) (n : ℕ) → length (chains_up_to policy n) ≡ n + 3
+length-chains_up_to policy n = omega (arith, length-map-range_with_len (host_chain policy) 0 n)
 
 -- If a rule jumps, its target is a chain from `low` on and before `past`.
 abbrev pub jumps_between : (low past : ℕ) → Target → Bool
@@ -66,12 +65,12 @@ jumps_between low past (Jump c) = nat_le low c && nat_lt c past
 jumps_between low past _ = true
 
 -- No rule of a host's chain jumps.
-pub host_rules_stay : (low : ℕ) (side : Direction) (site : Site) (p s : List Flow) (i : ℕ) → AreServices site.services
-    → list_all (λ r. jumps_between low 0 r.target) (host_rules side site p s i) ≡ true
-host_rules_stay low side site p s i are =
+pub host_rules_stay : (low : ℕ) (side : Direction) (policy : FlowPolicy) (i : ℕ) → AreServices policy.site.services
+    → list_all (λ r. jumps_between low 0 r.target) (host_rules side policy i) ≡ true
+host_rules_stay low side policy i are =
     let stay : Rule → Bool = λ r. jumps_between low 0 r.target in
     let forms : PassForms stay anywhere = record { dropping = λ side q at. refl; flow = λ side q n at is. refl; answer = λ side q n at is. refl } in
-    host_rules_pass stay anywhere forms side site p s i are (all_anywhere (all_prefixes site.hosts))
+    host_rules_pass stay anywhere forms side policy i are (all_anywhere (all_prefixes policy.site.hosts))
 
 jump_there : (n i : ℕ) → i < n → jumps_between 3 (n + 3) (Jump (chain_of i)) ≡ true
 jump_there n i below = grind (arith, nat_tests)
@@ -98,29 +97,29 @@ none_nowhere low past count user room i (r ∷ rs) all =
     let parts = and_parts (jumps_between low past r.target) (list_all (λ x. jumps_between low past x.target) rs) all in
     rw (somewhere low past count user room r.target parts.0) (none_nowhere low past count user room (i + 1) rs parts.1)
 
-host_chains_known : (site : Site) (p s : List Flow) (count c k n : ℕ) → AreServices site.services
-    → first_unknown count c (map (host_chain site p s) (range_with_len k n)) ≡ None
-host_chains_known site p s count c k zero are = refl
-host_chains_known site p s count c k (suc n) are =
-    rw (none_nowhere 3 0 count (omega arith) (omega arith) 0 (host_rules Outbound site p s k) (host_rules_stay 3 Outbound site p s k are))
-    (host_chains_known site p s count (c + 1) (k + 1) n are)
+host_chains_known : (policy : FlowPolicy) (count c k n : ℕ) → AreServices policy.site.services
+    → first_unknown count c (map (host_chain policy) (range_with_len k n)) ≡ None
+host_chains_known policy count c k zero are = refl
+host_chains_known policy count c k (suc n) are =
+    rw (none_nowhere 3 0 count (omega arith) (omega arith) 0 (host_rules Outbound policy k) (host_rules_stay 3 Outbound policy k are))
+    (host_chains_known policy count (c + 1) (k + 1) n are)
 
 -- Every jump leads to an existing chain.
-layout_known : (site : Site) (p s : List Flow) → AreServices site.services → first_unknown (length (layout site p s)) 0 (layout site p s) ≡ None
-layout_known site p s are =
-    let count = length (layout site p s) in
-    let room : length site.hosts + 3 ≤ count = omega (arith, length-chains_up_to site p s (length site.hosts)) in
-    rw (none_nowhere 3 (length site.hosts + 3) count (omega arith) room 0 (forward_rules site.hosts) (forward_rules_jump site.hosts))
-    (host_chains_known site p s count 3 0 (length site.hosts) are)
+layout_known : (policy : FlowPolicy) → AreServices policy.site.services → first_unknown (length (layout policy)) 0 (layout policy) ≡ None
+layout_known policy are =
+    let count = length (layout policy) in
+    let room : length policy.site.hosts + 3 ≤ count = omega (arith, length-chains_up_to policy (length policy.site.hosts)) in
+    rw (none_nowhere 3 (length policy.site.hosts + 3) count (omega arith) room 0 (forward_rules policy.site.hosts) (forward_rules_jump policy.site.hosts))
+    (host_chains_known policy count 3 0 (length policy.site.hosts) are)
 
 -- The layout of a policy for at most 256 hosts, with at most a million rules, is a rule set.
-pub layout_accepted : (site : Site) (p s : List Flow) → AreServices site.services → length site.hosts ≤ 256 → rule_count (layout site p s) ≤ 1000000
-    → refusal_of (layout site p s) ≡ None
+pub layout_accepted : (policy : FlowPolicy) → AreServices policy.site.services → length policy.site.hosts ≤ 256 → rule_count (layout policy) ≤ 1000000
+    → refusal_of (layout policy) ≡ None
 unfolding refusal_of
-layout_accepted site p s are few few_rules =
-    let chains : nat_lt 4096 (length (layout site p s)) ≡ false = grind (arith, nat_tests, length-chains_up_to site p s (length site.hosts)) in
-    let rules : nat_lt 1000000 (rule_count (layout site p s)) ≡ false = grind (arith, nat_tests) in
-    rw (chains, rules) (layout_known site p s are)
+layout_accepted policy are few few_rules =
+    let chains : nat_lt 4096 (length (layout policy)) ≡ false = grind (arith, nat_tests, length-chains_up_to policy (length policy.site.hosts)) in
+    let rules : nat_lt 1000000 (rule_count (layout policy)) ≡ false = grind (arith, nat_tests) in
+    rw (chains, rules) (layout_known policy are)
 
 upward : (low past c : ℕ) → c < low → (t : Target) → jumps_between low past t ≡ true → goes_up c t ≡ true
 upward low past c below Accept is = refl
@@ -138,20 +137,20 @@ all_upward low past c below (r ∷ rs) all =
     let parts = and_parts (jumps_between low past r.target) (list_all (λ x. jumps_between low past x.target) rs) all in
     and_from _ _ (upward low past c below r.target parts.0) (all_upward low past c below rs parts.1)
 
-host_chains_up : (site : Site) (p s : List Flow) (c k n : ℕ) → AreServices site.services
-    → jumps_go_up c (map (host_chain site p s) (range_with_len k n)) ≡ true
-host_chains_up site p s c k zero are = refl
-host_chains_up site p s c k (suc n) are =
-    and_from _ _ (all_upward (c + 1) 0 c (omega arith) (host_rules Outbound site p s k) (host_rules_stay (c + 1) Outbound site p s k are))
-    (host_chains_up site p s (c + 1) (k + 1) n are)
+host_chains_up : (policy : FlowPolicy) (c k n : ℕ) → AreServices policy.site.services
+    → jumps_go_up c (map (host_chain policy) (range_with_len k n)) ≡ true
+host_chains_up policy c k zero are = refl
+host_chains_up policy c k (suc n) are =
+    and_from _ _ (all_upward (c + 1) 0 c (omega arith) (host_rules Outbound policy k) (host_rules_stay (c + 1) Outbound policy k are))
+    (host_chains_up policy (c + 1) (k + 1) n are)
 
 -- Jumps lead from FORWARD to the chains of hosts, and these have no jumps.
-pub layout_no_loop : (site : Site) (p s : List Flow) → AreServices site.services → IsAcyclic (layout site p s)
-layout_no_loop site p s are =
-    no_loop_upward (layout site p s)
+pub layout_no_loop : (policy : FlowPolicy) → AreServices policy.site.services → IsAcyclic (layout policy)
+layout_no_loop policy are =
+    no_loop_upward (layout policy)
     (and_from _ _
-    (all_upward 3 (length site.hosts + 3) 1 (omega arith) (forward_rules site.hosts) (forward_rules_jump site.hosts))
-    (host_chains_up site p s 3 0 (length site.hosts) are))
+    (all_upward 3 (length policy.site.hosts + 3) 1 (omega arith) (forward_rules policy.site.hosts) (forward_rules_jump policy.site.hosts))
+    (host_chains_up policy 3 0 (length policy.site.hosts) are))
 
 -- Hosts with different numbers have chains with different names.
 host_chain_name_injective : (i j : ℕ) → i < 2 ^ 16 → j < 2 ^ 16 → host_chain_name i ≡ host_chain_name j → i ≡ j
@@ -167,16 +166,16 @@ other_name i j before fits = by_test (bytes_eq (host_chain_name i) (host_chain_n
         absurd (omega arith)
     by_test false is = refl
 
-host_name_unused : (site : Site) (p s : List Flow) (at k n i : ℕ) → k + n ≤ i → i < 2 ^ 16
-    → position_from (λ x. bytes_eq x.name (host_chain_name i)) at (map (host_chain site p s) (range_with_len k n)) ≡ None
-host_name_unused site p s at k zero i before fits = refl
-host_name_unused site p s at k (suc n) i before fits =
-    rw (other_name k i (omega arith) fits) (host_name_unused site p s (at + 1) (k + 1) n i (omega arith) fits)
+host_name_unused : (policy : FlowPolicy) (at k n i : ℕ) → k + n ≤ i → i < 2 ^ 16
+    → position_from (λ x. bytes_eq x.name (host_chain_name i)) at (map (host_chain policy) (range_with_len k n)) ≡ None
+host_name_unused policy at k zero i before fits = refl
+host_name_unused policy at k (suc n) i before fits =
+    rw (other_name k i (omega arith) fits) (host_name_unused policy (at + 1) (k + 1) n i (omega arith) fits)
 
 -- The name of a host's chain differs from the names before it.
-pub name_unused : (site : Site) (p s : List Flow) (i : ℕ) → i < 2 ^ 16
-    → number_of (chains_up_to site p s i) (host_chain_name i) ≡ None
-name_unused site p s i fits = host_name_unused site p s 3 0 i i (omega arith) fits
+pub name_unused : (policy : FlowPolicy) (i : ℕ) → i < 2 ^ 16
+    → number_of (chains_up_to policy i) (host_chain_name i) ≡ None
+name_unused policy i fits = host_name_unused policy 3 0 i i (omega arith) fits
 
 digit_in_name : (d : ℕ) → d < 10 → list_all is_printing ((48 + d) ∷ []) ≡ true
 digit_in_name d small = grind (arith, nat_tests)

@@ -13,8 +13,7 @@ use Rattle.host_net.specs.Hosts.{all_prefixes}
 use Rattle.host_net.specs.Service.{service_matches, has_ports, has_all_ports, icmp, max_port}
 use Rattle.host_net.specs.inner.Service.{is_service}
 use Rattle.host_net.specs.inner.Services.{AreServices}
-use Rattle.host_net.specs.Site.{Site}
-use Rattle.flow_set.specs.declared.flow.Flow.{Flow}
+use Rattle.pkt_core.specs.FlowPolicy.{FlowPolicy}
 use Rattle.ipt_rules.specs.declared.rule.Rule.{Rule}
 use Rattle.ipt_rules.specs.declared.rule.Target.TheVariants.{Drop, Jump}
 use Rattle.ipt_rules.specs.RuleParts.{names_ports}
@@ -93,53 +92,53 @@ forward_rules_pass test fits hosts form all =
     (rest_jump_pass test (length hosts) (λ i below. form None i below refl) (rest_of hosts) (rest_below hosts))
 
 module _ (test : Rule → Bool) (fits : Prefix → Bool) (forms : PassForms test fits) where
-  accepts_pass : (side : Direction) (site : Site) (p s : List Flow) (i j : ℕ) (q : Option Prefix) → AreServices site.services → option_map_or fits q true ≡ true
-      → list_all test (accepts side site p s i j q) ≡ true
-  accepts_pass side site p s i j q are at =
-      let there = services_on side site.services i j in
-      let back = services_on (other_direction side) site.services i j in
+  accepts_pass : (side : Direction) (policy : FlowPolicy) (i j : ℕ) (q : Option Prefix) → AreServices policy.site.services → option_map_or fits q true ≡ true
+      → list_all test (accepts side policy i j q) ≡ true
+  accepts_pass side policy i j q are at =
+      let there = services_on side policy.site.services i j in
+      let back = services_on (other_direction side) policy.site.services i j in
       let flows : list_all is_narrowing (service_matches there) ≡ true = narrowings_pass there (are.valid (flow_on side i j).from (flow_on side i j).to) in
       let answers : list_all is_narrowing (service_matches back) ≡ true =
       narrowings_pass back (are.valid (flow_on (other_direction side) i j).from (flow_on (other_direction side) i j).to) in
-      list_all-append test (accepts_flow side site p i j q) (accepts_answers side site p s i j q)
+      list_all-append test (accepts_flow side policy i j q) (accepts_answers side policy i j q)
       ∙ and_from _ _
-      (if_pass test (connects side p i j) (map (to_service side q) (service_matches there))
+      (if_pass test (connects side policy.permitted i j) (map (to_service side q) (service_matches there))
       (map_pass test (to_service side q) (λ n is. forms.flow side q n at is) (service_matches there) flows))
-      (if_pass test (connects (other_direction side) s i j && not (connects_unrestricted side site p i j)) (map (from_service side q) (service_matches back))
+      (if_pass test (connects (other_direction side) policy.stateful i j && not (connects_unrestricted side policy i j)) (map (from_service side q) (service_matches back))
       (map_pass test (from_service side q) (λ n is. forms.answer side q n at is) (service_matches back) answers))
 
-  to_prefix_pass : (side : Direction) (site : Site) (p s : List Flow) (i : ℕ) (rest : Option ℕ) → AreServices site.services → (j : ℕ) (q : Prefix) → fits q ≡ true
-      → list_all test (to_prefix side site p s i rest j q) ≡ true
-  to_prefix_pass side site p s i rest are j q at =
-      list_all-append test (accepts side site p s i j (Some q)) (drops side site p s i rest j q)
-      ∙ and_from _ _ (accepts_pass side site p s i j (Some q) are at)
-      (if_pass test (is_open side p s i rest && not (connects_unrestricted side site p i j)) (match_peer side (Some q) None Drop ∷ [])
+  to_prefix_pass : (side : Direction) (policy : FlowPolicy) (i : ℕ) (rest : Option ℕ) → AreServices policy.site.services → (j : ℕ) (q : Prefix) → fits q ≡ true
+      → list_all test (to_prefix side policy i rest j q) ≡ true
+  to_prefix_pass side policy i rest are j q at =
+      list_all-append test (accepts side policy i j (Some q)) (drops side policy i rest j q)
+      ∙ and_from _ _ (accepts_pass side policy i j (Some q) are at)
+      (if_pass test (is_open side policy i rest && not (connects_unrestricted side policy i j)) (match_peer side (Some q) None Drop ∷ [])
       (and_from _ _ (forms.dropping side (Some q) at) refl))
 
-  to_rest_pass : (side : Direction) (site : Site) (p s : List Flow) (i : ℕ) (rest : Option ℕ) → AreServices site.services
-      → list_all test (to_rest side site p s i rest) ≡ true
-  to_rest_pass side site p s i None are = refl
-  to_rest_pass side site p s i (Some r) are = accepts_pass side site p s i r None are refl
+  to_rest_pass : (side : Direction) (policy : FlowPolicy) (i : ℕ) (rest : Option ℕ) → AreServices policy.site.services
+      → list_all test (to_rest side policy i rest) ≡ true
+  to_rest_pass side policy i None are = refl
+  to_rest_pass side policy i (Some r) are = accepts_pass side policy i r None are refl
 
-  pub host_rules_pass : (side : Direction) (site : Site) (p s : List Flow) (i : ℕ) → AreServices site.services → list_all fits (all_prefixes site.hosts) ≡ true
-      → list_all test (host_rules side site p s i) ≡ true
-  host_rules_pass side site p s i are all =
-      let rest = rest_of site.hosts in
-      list_all-append test (for_each_prefix (to_prefix side site p s i rest) 0 site.hosts) (to_rest side site p s i rest ++ match_peer side None None Drop ∷ [])
-      ∙ and_from _ _ (each_pass test fits (to_prefix side site p s i rest) (length site.hosts) (λ j q below at. to_prefix_pass side site p s i rest are j q at) 0 site.hosts (omega arith) all)
-      (list_all-append test (to_rest side site p s i rest) (match_peer side None None Drop ∷ [])
-      ∙ and_from _ _ (to_rest_pass side site p s i rest are) (and_from _ _ (forms.dropping side None refl) refl))
+  pub host_rules_pass : (side : Direction) (policy : FlowPolicy) (i : ℕ) → AreServices policy.site.services → list_all fits (all_prefixes policy.site.hosts) ≡ true
+      → list_all test (host_rules side policy i) ≡ true
+  host_rules_pass side policy i are all =
+      let rest = rest_of policy.site.hosts in
+      list_all-append test (for_each_prefix (to_prefix side policy i rest) 0 policy.site.hosts) (to_rest side policy i rest ++ match_peer side None None Drop ∷ [])
+      ∙ and_from _ _ (each_pass test fits (to_prefix side policy i rest) (length policy.site.hosts) (λ j q below at. to_prefix_pass side policy i rest are j q at) 0 policy.site.hosts (omega arith) all)
+      (list_all-append test (to_rest side policy i rest) (match_peer side None None Drop ∷ [])
+      ∙ and_from _ _ (to_rest_pass side policy i rest are) (and_from _ _ (forms.dropping side None refl) refl))
 
-  chains_pass : (site : Site) (p s : List Flow) (k n : ℕ) → AreServices site.services → list_all fits (all_prefixes site.hosts) ≡ true
-      → list_all (λ x. list_all test x.rules) (map (host_chain site p s) (range_with_len k n)) ≡ true
-  chains_pass site p s k zero are all = refl
-  chains_pass site p s k (suc n) are all = and_from _ _ (host_rules_pass Outbound site p s k are all) (chains_pass site p s (k + 1) n are all)
+  chains_pass : (policy : FlowPolicy) (k n : ℕ) → AreServices policy.site.services → list_all fits (all_prefixes policy.site.hosts) ≡ true
+      → list_all (λ x. list_all test x.rules) (map (host_chain policy) (range_with_len k n)) ≡ true
+  chains_pass policy k zero are all = refl
+  chains_pass policy k (suc n) are all = and_from _ _ (host_rules_pass Outbound policy k are all) (chains_pass policy (k + 1) n are all)
 
   pub layout_passes : ((q : Option Prefix) (i : ℕ) → option_map_or fits q true ≡ true → test (from_source q (Jump (chain_of i))) ≡ true)
-      → (site : Site) (p s : List Flow) → AreServices site.services → list_all fits (all_prefixes site.hosts) ≡ true
-      → IsTrue (list_all (λ x. list_all test x.rules) (layout site p s))
-  layout_passes jump site p s are all =
-      and_from _ _ (forward_rules_pass test fits site.hosts (λ q i below at. jump q i at) all) (chains_pass site p s 0 (length site.hosts) are all)
+      → (policy : FlowPolicy) → AreServices policy.site.services → list_all fits (all_prefixes policy.site.hosts) ≡ true
+      → IsTrue (list_all (λ x. list_all test x.rules) (layout policy))
+  layout_passes jump policy are all =
+      and_from _ _ (forward_rules_pass test fits policy.site.hosts (λ q i below at. jump q i at) all) (chains_pass policy 0 (length policy.site.hosts) are all)
 
 -- 3. Their protocol and port matches are valid, at every prefix.
 
@@ -185,24 +184,24 @@ answer_is_rule side q (Some s) at is = let asked = service_asked s is in and_fro
 forms_are_rules : PassForms is_rule anywhere
 forms_are_rules = record { dropping = λ side q at. refl; flow = flow_is_rule; answer = answer_is_rule }
 
-pub host_rules_are : (side : Direction) (site : Site) (p s : List Flow) (i : ℕ) → AreServices site.services → list_all is_rule (host_rules side site p s i) ≡ true
-host_rules_are side site p s i are = host_rules_pass is_rule anywhere forms_are_rules side site p s i are (all_anywhere (all_prefixes site.hosts))
+pub host_rules_are : (side : Direction) (policy : FlowPolicy) (i : ℕ) → AreServices policy.site.services → list_all is_rule (host_rules side policy i) ≡ true
+host_rules_are side policy i are = host_rules_pass is_rule anywhere forms_are_rules side policy i are (all_anywhere (all_prefixes policy.site.hosts))
 
 pub forward_rules_are : (hosts : List Host) → list_all is_rule (forward_rules hosts) ≡ true
 forward_rules_are hosts = forward_rules_pass is_rule anywhere hosts (λ q i below at. refl) (all_anywhere (all_prefixes hosts))
 
-pub layout_rules_are : (site : Site) (p s : List Flow) → AreServices site.services → AreRules (layout site p s)
-layout_rules_are site p s are = layout_passes is_rule anywhere forms_are_rules (λ q i at. refl) site p s are (all_anywhere (all_prefixes site.hosts))
+pub layout_rules_are : (policy : FlowPolicy) → AreServices policy.site.services → AreRules (layout policy)
+layout_rules_are policy are = layout_passes is_rule anywhere forms_are_rules (λ q i at. refl) policy are (all_anywhere (all_prefixes policy.site.hosts))
 
 -- 4. They match no state besides ESTABLISHED.
 
 forms_have_no_other_state : PassForms has_no_other_state anywhere
 forms_have_no_other_state = record { dropping = λ side q at. refl; flow = λ side q n at is. refl; answer = λ side q n at is. refl }
 
-pub host_rules_no_other_state : (side : Direction) (site : Site) (p s : List Flow) (i : ℕ) → AreServices site.services → list_all has_no_other_state (host_rules side site p s i) ≡ true
-host_rules_no_other_state side site p s i are =
-    host_rules_pass has_no_other_state anywhere forms_have_no_other_state side site p s i are (all_anywhere (all_prefixes site.hosts))
+pub host_rules_no_other_state : (side : Direction) (policy : FlowPolicy) (i : ℕ) → AreServices policy.site.services → list_all has_no_other_state (host_rules side policy i) ≡ true
+host_rules_no_other_state side policy i are =
+    host_rules_pass has_no_other_state anywhere forms_have_no_other_state side policy i are (all_anywhere (all_prefixes policy.site.hosts))
 
-pub layout_no_other_state : (site : Site) (p s : List Flow) → AreServices site.services → HaveNoOtherState (layout site p s)
-layout_no_other_state site p s are =
-    layout_passes has_no_other_state anywhere forms_have_no_other_state (λ q i at. refl) site p s are (all_anywhere (all_prefixes site.hosts))
+pub layout_no_other_state : (policy : FlowPolicy) → AreServices policy.site.services → HaveNoOtherState (layout policy)
+layout_no_other_state policy are =
+    layout_passes has_no_other_state anywhere forms_have_no_other_state (λ q i at. refl) policy are (all_anywhere (all_prefixes policy.site.hosts))

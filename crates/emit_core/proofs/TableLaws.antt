@@ -16,7 +16,7 @@ use Rattle.flow_set.specs.declared.flow.Flow.{Flow}
 use Rattle.flow_set.specs.Flow.{before}
 use Rattle.pkt_core.specs.Firewall.{is_established}
 use Rattle.pkt_core.specs.Filter.{Enforces}
-use Rattle.pkt_core.specs.FlowPolicy.{is_of, lets_pass}
+use Rattle.pkt_core.specs.FlowPolicy.{FlowPolicy, lets_pass, permits, permits_reply_to}
 use Rattle.ofp_rules.specs.declared.entry.Frame.TheVariants.{Ipv4}
 use Rattle.ofp_rules.specs.inner.Build.{IsTable}
 use Rattle.ofp_rules.specs.Semantics.{Passes}
@@ -48,22 +48,22 @@ answered_by false true established answered = let now : false ≡ true = answere
 answered_by false false established answered = refl
 
 -- If answers are covered, a policy allows exactly the packets of its permitted flows.
-lets_pass_answered : (site : Site) (p s : List Flow) (packet : Packet) (state : CtState) → IsPacket packet → AnswersAreCovered site.services p s
-    → is_of site p packet ≡ lets_pass site p s packet state
-lets_pass_answered site p s packet state is covered =
-    answered_by (is_of site p packet) (is_of site s (swap_of packet)) (is_established state)
-    (answer_is site.services p s (owner_of site.hosts packet.src) (owner_of site.hosts packet.dst) packet is.4 covered)
+lets_pass_answered : (policy : FlowPolicy) (packet : Packet) (state : CtState) → IsPacket packet → AnswersAreCovered policy
+    → permits policy packet ≡ lets_pass policy packet state
+lets_pass_answered policy packet state is covered =
+    answered_by (permits policy packet) (permits_reply_to policy (swap_of packet)) (is_established state)
+    (answer_is policy (owner_of policy.site.hosts packet.src) (owner_of policy.site.hosts packet.dst) packet is.4 covered)
 
 -- So the entries of its permitted flows enforce it.
-pub flow_entries_enforce : (site : Site) (p s : List Flow) → IsSite site → HasNoRange site.services p
-    → AnswersAreCovered site.services p s → Enforces (Passes (flow_entries site p)) site p s
-flow_entries_enforce site p s known plain covered =
-    let forwards : ForwardsFlows (flow_entries site p) site p = forwards_flows site p known plain in
+pub flow_entries_enforce : (policy : FlowPolicy) → IsSite policy.site → HasNoRange policy.site.services policy.permitted
+    → AnswersAreCovered policy → Enforces (Passes (flow_entries policy.site policy.permitted)) policy
+flow_entries_enforce policy known plain covered =
+    let forwards : ForwardsFlows (flow_entries policy.site policy.permitted) policy.site policy.permitted = forwards_flows policy.site policy.permitted known plain in
     record {
       given = λ packet state is.
-          subst (λ (b : Bool). Passes (flow_entries site p) state packet b) (lets_pass_answered site p s packet state is covered) (forwards.given (Ipv4 packet) is);
+          subst (λ (b : Bool). Passes (flow_entries policy.site policy.permitted) state packet b) (lets_pass_answered policy packet state is covered) (forwards.given (Ipv4 packet) is);
       only = λ packet state passes is has.
-          verdict_if-injective passes _ (forwards.only (Ipv4 packet) (verdict_if passes) is has) ∙ lets_pass_answered site p s packet state is covered;
+          verdict_if-injective passes _ (forwards.only (Ipv4 packet) (verdict_if passes) is has) ∙ lets_pass_answered policy packet state is covered;
     }
 
 -- Of other frames they forward only ARP.
@@ -81,15 +81,15 @@ before_or_same f g false false is_before is_behind not_before not_behind =
     λ i. record { from = from i; to = to i }
 
 -- If answers are covered, no flow is the first whose answers are not covered.
-pub none_barred : (services : List RestrictedFlow) (p s : List Flow) (f : Flow) → AnswersAreCovered services p s → IsFirstUncovered services p s f → ⊥
-none_barred services p s f covered barred = let answered : IsTrue (is_covered services p f) = covered f barred.stateful in let off = barred.barred in cc
+pub none_barred : (policy : FlowPolicy) (f : Flow) → AnswersAreCovered policy → IsFirstUncovered policy f → ⊥
+none_barred policy f covered barred = let answered : IsTrue (is_covered policy.site.services policy.permitted f) = covered f barred.stateful in let off = barred.barred in cc
 
 -- Such a flow is unique.
-pub first_barred_once : (services : List RestrictedFlow) (p s : List Flow) (f g : Flow) → IsFirstUncovered services p s f → IsFirstUncovered services p s g → f ≡ g
-first_barred_once services p s f g is other =
+pub first_barred_once : (policy : FlowPolicy) (f g : Flow) → IsFirstUncovered policy f → IsFirstUncovered policy g → f ≡ g
+first_barred_once policy f g is other =
     before_or_same f g (before f g) (before g f) refl refl
-    (λ earlier. let answered : IsTrue (is_covered services p f) = other.first f earlier is.stateful in let off = is.barred in cc)
-    (λ later. let answered : IsTrue (is_covered services p g) = is.first g later other.stateful in let off = other.barred in cc)
+    (λ earlier. let answered : IsTrue (is_covered policy.site.services policy.permitted f) = other.first f earlier is.stateful in let off = is.barred in cc)
+    (λ later. let answered : IsTrue (is_covered policy.site.services policy.permitted g) = is.first g later other.stateful in let off = other.barred in cc)
 
 -- The same for the first flow with a range of ports.
 pub none_ranging : (services : List RestrictedFlow) (p : List Flow) (f : Flow) → HasNoRange services p → IsFirstRange services p f → ⊥

@@ -14,11 +14,11 @@ use Rattle.flow_set.specs.declared.flow.Flow.{Flow}
 use Rattle.flow_set.specs.FlowSet.{has}
 use Rattle.ipt_rules.specs.declared.rule.Rule.{Rule}
 use Rattle.ipt_rules.specs.declared.rule.Target.TheVariants.{Accept, Drop}
-use Rattle.pkt_core.specs.FlowPolicy.{flow_of, is_of}
+use Rattle.pkt_core.specs.FlowPolicy.{FlowPolicy, flow_of, is_of}
 use Rattle.emit_core.specs.declared.direction.Direction.{Direction}
 use Rattle.emit_core.specs.Layout.{for_each_prefix, match_peer, match_established, accepts, is_open, drops, to_rest, host_rules}
 use Rattle.emit_core.specs.Directions.{connects, other_direction}
-use Rattle.emit_core.specs.inner.UnnarrowedLayout.{whole_accepts, whole_drops, whole_to_rest, whole_host_rules}
+use Rattle.emit_core.specs.inner.UnnarrowedLayout.{whole_accepts, whole_drops, whole_host_rules, whole_to_rest, without_services}
 
 of_flow : (flows : List Flow) (o : Option Flow) (packet : Packet)
     → option_map_or (λ f. has flows f && is_served [] packet) o false ≡ option_map_or (λ f. has flows f) o false
@@ -37,24 +37,24 @@ accepted flow answer true false = append-nil flow
 accepted flow answer false true = refl
 accepted flow answer false false = refl
 
-pub accepts-unnarrowed : (side : Direction) (hosts : List Host) (p s : List Flow) (i j : ℕ) (q : Option Prefix)
-    → accepts side (unnarrowed hosts) p s i j q ≡ whole_accepts side p s i j q
-accepts-unnarrowed side hosts p s i j q =
-    accepted (match_peer side q None Accept ∷ []) (match_peer side q match_established Accept ∷ []) (connects side p i j) (connects (other_direction side) s i j)
+pub accepts-unnarrowed : (side : Direction) (policy : FlowPolicy) (i j : ℕ) (q : Option Prefix)
+    → accepts side (without_services policy) i j q ≡ whole_accepts side policy i j q
+accepts-unnarrowed side policy i j q =
+    accepted (match_peer side q None Accept ∷ []) (match_peer side q match_established Accept ∷ []) (connects side policy.permitted i j) (connects (other_direction side) policy.stateful i j)
 
-pub drops-unnarrowed : (side : Direction) (hosts : List Host) (p s : List Flow) (i : ℕ) (rest : Option ℕ) (j : ℕ) (q : Prefix)
-    → drops side (unnarrowed hosts) p s i rest j q ≡ whole_drops side p s i rest j q
-drops-unnarrowed side hosts p s i rest j q =
-    ap (λ b. if is_open side p s i rest && not b then match_peer side (Some q) None Drop ∷ [] else []) (and-true (connects side p i j))
+pub drops-unnarrowed : (side : Direction) (policy : FlowPolicy) (i : ℕ) (rest : Option ℕ) (j : ℕ) (q : Prefix)
+    → drops side (without_services policy) i rest j q ≡ whole_drops side policy i rest j q
+drops-unnarrowed side policy i rest j q =
+    ap (λ b. if is_open side policy i rest && not b then match_peer side (Some q) None Drop ∷ [] else []) (and-true (connects side policy.permitted i j))
 
-rest_same : (side : Direction) (hosts : List Host) (p s : List Flow) (i : ℕ) (rest : Option ℕ)
-    → to_rest side (unnarrowed hosts) p s i rest ≡ whole_to_rest side p s i rest
-rest_same side hosts p s i None = refl
-rest_same side hosts p s i (Some r) = accepts-unnarrowed side hosts p s i r None
+rest_same : (side : Direction) (policy : FlowPolicy) (i : ℕ) (rest : Option ℕ)
+    → to_rest side (without_services policy) i rest ≡ whole_to_rest side policy i rest
+rest_same side policy i None = refl
+rest_same side policy i (Some r) = accepts-unnarrowed side policy i r None
 
 -- The chain of a host.
-pub host_rules-unnarrowed : (side : Direction) (hosts : List Host) (p s : List Flow) (i : ℕ)
-    → host_rules side (unnarrowed hosts) p s i ≡ whole_host_rules side hosts p s i
-host_rules-unnarrowed side hosts p s i =
-    λ k. for_each_prefix (λ j q. accepts-unnarrowed side hosts p s i j (Some q) k ++ drops-unnarrowed side hosts p s i (rest_of hosts) j q k) 0 hosts
-    ++ (rest_same side hosts p s i (rest_of hosts) k ++ match_peer side None None Drop ∷ [])
+pub host_rules-unnarrowed : (side : Direction) (policy : FlowPolicy) (i : ℕ)
+    → host_rules side (without_services policy) i ≡ whole_host_rules side policy i
+host_rules-unnarrowed side policy i =
+    λ k. for_each_prefix (λ j q. accepts-unnarrowed side policy i j (Some q) k ++ drops-unnarrowed side policy i (rest_of policy.site.hosts) j q k) 0 policy.site.hosts
+    ++ (rest_same side policy i (rest_of policy.site.hosts) k ++ match_peer side None None Drop ∷ [])

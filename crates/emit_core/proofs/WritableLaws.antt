@@ -17,9 +17,8 @@ use Rattle.host_net.specs.inner.Hosts.{is_network}
 use Rattle.host_net.specs.Service.{has_ports, has_all_ports, icmp, max_port}
 use Rattle.host_net.specs.inner.Service.{is_service}
 use Rattle.host_net.specs.inner.Services.{AreServices}
-use Rattle.host_net.specs.Site.{Site}
 use Rattle.host_net.specs.inner.Site.{IsSite}
-use Rattle.flow_set.specs.declared.flow.Flow.{Flow}
+use Rattle.pkt_core.specs.FlowPolicy.{FlowPolicy}
 use Rattle.ipt_rules.specs.declared.rule.Rule.{Rule}
 use Rattle.ipt_rules.specs.declared.rule.Target.{Target}
 use Rattle.ipt_rules.specs.declared.rule.Target.TheVariants.{Drop, Jump}
@@ -40,64 +39,64 @@ use Rattle.emit_core.proofs.LayoutLaws.{layout_accepted, layout_no_loop, length-
 
 -- 1. The chains are a table.
 
-chain_at : (site : Site) (p s : List Flow) (k n i j : ℕ) → k + i ≡ j → i < n
-    → slice_get (map (host_chain site p s) (range_with_len k n)) i ≡ Some (host_chain site p s j)
-chain_at site p s k zero i j place below = absurd (omega arith)
-chain_at site p s k (suc n) zero j place below =
+chain_at : (policy : FlowPolicy) (k n i j : ℕ) → k + i ≡ j → i < n
+    → slice_get (map (host_chain policy) (range_with_len k n)) i ≡ Some (host_chain policy j)
+chain_at policy k zero i j place below = absurd (omega arith)
+chain_at policy k (suc n) zero j place below =
     let same : k ≡ j = omega (arith, place) in
-    ap (λ (m : ℕ). Some (host_chain site p s m)) same
-chain_at site p s k (suc n) (suc i) j place below = chain_at site p s (k + 1) n i j (omega (arith, place)) (omega arith)
+    ap (λ (m : ℕ). Some (host_chain policy m)) same
+chain_at policy k (suc n) (suc i) j place below = chain_at policy (k + 1) n i j (omega (arith, place)) (omega arith)
 
 -- A host's chain is the one that is found by its name.
-chain_found : (site : Site) (p s : List Flow) (at k n i j m : ℕ) → k + i ≡ j → at + i ≡ m → i < n → j < 2 ^ 16
-    → position_from (λ x. bytes_eq x.name (host_chain_name j)) at (map (host_chain site p s) (range_with_len k n)) ≡ Some m
-chain_found site p s at k zero i j m place number below fits = absurd (omega arith)
-chain_found site p s at k (suc n) zero j m place number below fits =
+chain_found : (policy : FlowPolicy) (at k n i j m : ℕ) → k + i ≡ j → at + i ≡ m → i < n → j < 2 ^ 16
+    → position_from (λ x. bytes_eq x.name (host_chain_name j)) at (map (host_chain policy) (range_with_len k n)) ≡ Some m
+chain_found policy at k zero i j m place number below fits = absurd (omega arith)
+chain_found policy at k (suc n) zero j m place number below fits =
     let same : k ≡ j = omega (arith, place) in
     let here : bytes_eq (host_chain_name k) (host_chain_name j) ≡ true = (bytes_eq-Decides (host_chain_name k) (host_chain_name j)).1 (ap host_chain_name same) in
     let found : at ≡ m = omega (arith, number) in
     rw here (ap (λ (c : ℕ). Some c) found)
-chain_found site p s at k (suc n) (suc i) j m place number below fits =
-    rw (other_name k j (omega (arith, place)) fits) (chain_found site p s (at + 1) (k + 1) n i j m (omega (arith, place)) (omega (arith, number)) (omega arith) fits)
+chain_found policy at k (suc n) (suc i) j m place number below fits =
+    rw (other_name k j (omega (arith, place)) fits) (chain_found policy (at + 1) (k + 1) n i j m (omega (arith, place)) (omega (arith, number)) (omega arith) fits)
 
-layout_built_in : (site : Site) (p s : List Flow) (c : ℕ) → c < 3 → IsSome (policy_of (layout site p s) c)
-layout_built_in site p s zero low = refl
-layout_built_in site p s (suc zero) low = refl
-layout_built_in site p s (suc (suc zero)) low = refl
-layout_built_in site p s (suc (suc (suc c))) low = absurd (omega arith)
+layout_built_in : (policy : FlowPolicy) (c : ℕ) → c < 3 → IsSome (policy_of (layout policy) c)
+layout_built_in policy zero low = refl
+layout_built_in policy (suc zero) low = refl
+layout_built_in policy (suc (suc zero)) low = refl
+layout_built_in policy (suc (suc (suc c))) low = absurd (omega arith)
 
-host_below : (site : Site) (p s : List Flow) (i : ℕ) → suc (suc (suc i)) < length (layout site p s) → i < length site.hosts
-host_below site p s i within = omega (arith, length-chains_up_to site p s (length site.hosts))
+host_below : (policy : FlowPolicy) (i : ℕ) → suc (suc (suc i)) < length (layout policy) → i < length policy.site.hosts
+host_below policy i within = omega (arith, length-chains_up_to policy (length policy.site.hosts))
 
-layout_user : (site : Site) (p s : List Flow) (c : ℕ) → length site.hosts ≤ 256 → 3 ≤ c → c < length (layout site p s)
-    → IsTrue (is_user_name (name_of (layout site p s) c)) × (policy_of (layout site p s) c ≡ None)
-layout_user site p s zero few high within = absurd (omega arith)
-layout_user site p s (suc zero) few high within = absurd (omega arith)
-layout_user site p s (suc (suc zero)) few high within = absurd (omega arith)
-layout_user site p s (suc (suc (suc i))) few high within =
-    let below = host_below site p s i within in
-    let there = chain_at site p s 0 (length site.hosts) i i (omega arith) below in
+layout_user : (policy : FlowPolicy) (c : ℕ) → length policy.site.hosts ≤ 256 → 3 ≤ c → c < length (layout policy)
+    → IsTrue (is_user_name (name_of (layout policy) c)) × (policy_of (layout policy) c ≡ None)
+layout_user policy zero few high within = absurd (omega arith)
+layout_user policy (suc zero) few high within = absurd (omega arith)
+layout_user policy (suc (suc zero)) few high within = absurd (omega arith)
+layout_user policy (suc (suc (suc i))) few high within =
+    let below = host_below policy i within in
+    let there = chain_at policy 0 (length policy.site.hosts) i i (omega arith) below in
     (subst (λ (n : List ℕ). IsTrue (is_user_name n)) (sym (ap name_in there)) (host_chain_name_legal i (omega arith)), ap policy_in there)
 
-layout_found : (site : Site) (p s : List Flow) (c : ℕ) → length site.hosts ≤ 256 → c < length (layout site p s)
-    → number_of (layout site p s) (name_of (layout site p s) c) ≡ Some c
-layout_found site p s zero few within = refl
-layout_found site p s (suc zero) few within = refl
-layout_found site p s (suc (suc zero)) few within = refl
-layout_found site p s (suc (suc (suc i))) few within =
-    let below = host_below site p s i within in
-    let there = chain_at site p s 0 (length site.hosts) i i (omega arith) below in
-    ap (λ (n : List ℕ). number_of (layout site p s) n) (ap name_in there)
-    ∙ chain_found site p s 3 0 (length site.hosts) i i (suc (suc (suc i))) (omega arith) (omega arith) below (omega arith)
+layout_found : (policy : FlowPolicy) (c : ℕ) → length policy.site.hosts ≤ 256 → c < length (layout policy)
+    → number_of (layout policy) (name_of (layout policy) c) ≡ Some c
+layout_found policy zero few within = refl
+layout_found policy (suc zero) few within = refl
+layout_found policy (suc (suc zero)) few within = refl
+layout_found policy (suc (suc (suc i))) few within =
+    let below = host_below policy i within in
+    let there = chain_at policy 0 (length policy.site.hosts) i i (omega arith) below in
+    ap (λ (n : List ℕ). number_of (layout policy) n) (ap name_in there)
+    ∙ chain_found policy 3 0 (length policy.site.hosts) i i (suc (suc (suc i))) (omega arith) (omega arith) below (omega arith)
 
-layout_table : (site : Site) (p s : List Flow) → length site.hosts ≤ 256 → IsTable (layout site p s)
-layout_table site p s few = record {
+layout_table : (policy : FlowPolicy) → length policy.site.hosts ≤ 256 → IsTable (layout policy)
+layout_table policy few = record {
   input = refl;
   forward = refl;
   output = refl;
-  built_in = λ c low. layout_built_in site p s c low;
-  user = λ c high within. layout_user site p s c few high within;
-  found = λ c within. layout_found site p s c few within;
+  built_in = λ c low. layout_built_in policy c low;
+  user = λ c high within. layout_user policy c few high within;
+  found = λ c within. layout_found policy c few within;
 }
 
 -- 2. Its addresses have 32 bits, since the addresses of the hosts' prefixes do.
@@ -128,42 +127,42 @@ forms_fit = record {
   answer = λ side q n fits is. parts_fit side q fits;
 }
 
-layout_addresses : (site : Site) (p s : List Flow) → IsSite site → AddressesFit (layout site p s)
-layout_addresses site p s is =
-    layout_passes addresses_fit prefix_fits forms_fit (λ q i fits. parts_fit Inbound q fits) site p s is.services (network_fits (all_prefixes site.hosts) is.hosts.networks)
+layout_addresses : (policy : FlowPolicy) → IsSite policy.site → AddressesFit (layout policy)
+layout_addresses policy is =
+    layout_passes addresses_fit prefix_fits forms_fit (λ q i fits. parts_fit Inbound q fits) policy is.services (network_fits (all_prefixes policy.site.hosts) is.hosts.networks)
 
 -- The same for the chain of a host, for outbound or for inbound packets.
-pub host_rules_addresses : (side : Direction) (site : Site) (p s : List Flow) (i : ℕ) → IsSite site → list_all addresses_fit (host_rules side site p s i) ≡ true
-host_rules_addresses side site p s i is =
-    host_rules_pass addresses_fit prefix_fits forms_fit side site p s i is.services (network_fits (all_prefixes site.hosts) is.hosts.networks)
+pub host_rules_addresses : (side : Direction) (policy : FlowPolicy) (i : ℕ) → IsSite policy.site → list_all addresses_fit (host_rules side policy i) ≡ true
+host_rules_addresses side policy i is =
+    host_rules_pass addresses_fit prefix_fits forms_fit side policy i is.services (network_fits (all_prefixes policy.site.hosts) is.hosts.networks)
 
 -- 3. Its text is parsed back.
 
-pub layout_writable : (site : Site) (p s : List Flow) → IsSite site → rule_count (layout site p s) ≤ rule_limit → IsWritable (layout site p s)
-layout_writable site p s is few =
-    let hosts : length site.hosts ≤ 256 = is.hosts.few in
+pub layout_writable : (policy : FlowPolicy) → IsSite policy.site → rule_count (layout policy) ≤ rule_limit → IsWritable (layout policy)
+layout_writable policy is few =
+    let hosts : length policy.site.hosts ≤ 256 = is.hosts.few in
     record {
-      table = layout_table site p s hosts;
-      accepted = layout_accepted site p s is.services hosts (omega (arith, few));
-      acyclic = layout_no_loop site p s is.services;
-      addresses = layout_addresses site p s is;
-      parts = layout_rules_are site p s is.services;
+      table = layout_table policy hosts;
+      accepted = layout_accepted policy is.services hosts (omega (arith, few));
+      acyclic = layout_no_loop policy is.services;
+      addresses = layout_addresses policy is;
+      parts = layout_rules_are policy is.services;
     }
 
 -- 4. Its text is within the size limit of the parser: its chains have short names, and its rules match on one address, one service and one
 -- state.
 
-layout_name_short : (site : Site) (p s : List Flow) (c : ℕ) → length site.hosts ≤ 256 → length (name_of (layout site p s) c) ≤ 7
-layout_name_short site p s zero few = omega arith
-layout_name_short site p s (suc zero) few = omega arith
-layout_name_short site p s (suc (suc zero)) few = omega arith
-layout_name_short site p s (suc (suc (suc i))) few = elim (cases_lt (suc (suc (suc i))) (length (layout site p s))) [
+layout_name_short : (policy : FlowPolicy) (c : ℕ) → length policy.site.hosts ≤ 256 → length (name_of (layout policy) c) ≤ 7
+layout_name_short policy zero few = omega arith
+layout_name_short policy (suc zero) few = omega arith
+layout_name_short policy (suc (suc zero)) few = omega arith
+layout_name_short policy (suc (suc (suc i))) few = elim (cases_lt (suc (suc (suc i))) (length (layout policy))) [
   | inl within ↦
-      let below = host_below site p s i within in
-      let there = chain_at site p s 0 (length site.hosts) i i (omega arith) below in
+      let below = host_below policy i within in
+      let there = chain_at policy 0 (length policy.site.hosts) i i (omega arith) below in
       let short : length (decimal i) ≤ 5 = length-decimal-le 5 i (omega arith) (omega arith) (omega arith) in
       omega (arith, ap length (ap name_in there), short)
-  | inr past ↦ omega (arith, ap length (no_name (layout site p s) (suc (suc (suc i))) past))
+  | inr past ↦ omega (arith, ap length (no_name (layout policy) (suc (suc (suc i))) past))
 ]
 
 abbrev asks_at_most : ℕ → Rule → Bool
@@ -234,27 +233,27 @@ takes take ask name (r ∷ rs) room all =
     more : (n : ℕ) → nat_le n ask ≡ true → nat_le (length name + n) take ≡ true
     more n h = grind (arith, nat_tests, room)
 
-chains_take : (site : Site) (p s : List Flow) (k n : ℕ) → AreServices site.services → k + n ≤ 256
-    → list_all (λ x. list_all (takes_at_most 95 x.name) x.rules) (map (host_chain site p s) (range_with_len k n)) ≡ true
-chains_take site p s k zero are few = refl
-chains_take site p s k (suc n) are few =
+chains_take : (policy : FlowPolicy) (k n : ℕ) → AreServices policy.site.services → k + n ≤ 256
+    → list_all (λ x. list_all (takes_at_most 95 x.name) x.rules) (map (host_chain policy) (range_with_len k n)) ≡ true
+chains_take policy k zero are few = refl
+chains_take policy k (suc n) are few =
     let short : length (decimal k) ≤ 3 = length-decimal-le 3 k (omega arith) (omega arith) (omega arith) in
     and_from _ _
-    (takes 95 91 (host_chain_name k) (host_rules Outbound site p s k) (omega (arith, short))
-    (host_rules_pass (asks_at_most 91) anywhere forms_ask Outbound site p s k are (all_anywhere (all_prefixes site.hosts))))
-    (chains_take site p s (k + 1) n are (omega (arith, few)))
+    (takes 95 91 (host_chain_name k) (host_rules Outbound policy k) (omega (arith, short))
+    (host_rules_pass (asks_at_most 91) anywhere forms_ask Outbound policy k are (all_anywhere (all_prefixes policy.site.hosts))))
+    (chains_take policy (k + 1) n are (omega (arith, few)))
 
-layout_takes : (site : Site) (p s : List Flow) → IsSite site → TakeAtMost 95 (layout site p s)
-layout_takes site p s is =
+layout_takes : (policy : FlowPolicy) → IsSite policy.site → TakeAtMost 95 (layout policy)
+layout_takes policy is =
     and_from _ _
-    (takes 95 22 (codes "FORWARD") (forward_rules site.hosts) (omega arith)
-    (forward_rules_pass (asks_at_most 22) anywhere site.hosts (λ q i below at. plain_asks 22 (omega arith) Inbound q (Jump (chain_of i))) (all_anywhere (all_prefixes site.hosts))))
-    (chains_take site p s 0 (length site.hosts) is.services (let few : length site.hosts ≤ 256 = is.hosts.few in omega (arith, few)))
+    (takes 95 22 (codes "FORWARD") (forward_rules policy.site.hosts) (omega arith)
+    (forward_rules_pass (asks_at_most 22) anywhere policy.site.hosts (λ q i below at. plain_asks 22 (omega arith) Inbound q (Jump (chain_of i))) (all_anywhere (all_prefixes policy.site.hosts))))
+    (chains_take policy 0 (length policy.site.hosts) is.services (let few : length policy.site.hosts ≤ 256 = is.hosts.few in omega (arith, few)))
 
 -- The text is within the size limit of the parser: at most 110 bytes per line.
-pub layout_short : (site : Site) (p s : List Flow) → IsSite site → rule_count (layout site p s) ≤ rule_limit → length (text (layout site p s)) ≤ 67108864
-layout_short site p s is few =
-    let hosts : length site.hosts ≤ 256 = is.hosts.few in
-    let chains : length (layout site p s) ≤ 259 = omega (arith, length-chains_up_to site p s (length site.hosts), hosts) in
-    let names : HasNames 7 (layout site p s) = record { built_in = omega arith; names = λ c. layout_name_short site p s c hosts } in
-    omega (arith, text_short_by 95 7 (layout site p s) (omega arith) names (layout_takes site p s is), few, chains)
+pub layout_short : (policy : FlowPolicy) → IsSite policy.site → rule_count (layout policy) ≤ rule_limit → length (text (layout policy)) ≤ 67108864
+layout_short policy is few =
+    let hosts : length policy.site.hosts ≤ 256 = is.hosts.few in
+    let chains : length (layout policy) ≤ 259 = omega (arith, length-chains_up_to policy (length policy.site.hosts), hosts) in
+    let names : HasNames 7 (layout policy) = record { built_in = omega arith; names = λ c. layout_name_short policy c hosts } in
+    omega (arith, text_short_by 95 7 (layout policy) (omega arith) names (layout_takes policy is), few, chains)

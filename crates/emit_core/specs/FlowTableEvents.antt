@@ -7,6 +7,7 @@ use Rattle.host_net.specs.Services.{RestrictedFlow, services_of}
 use Rattle.flow_set.specs.declared.flow.Flow.{Flow}
 use Rattle.flow_set.specs.Flow.{reverse_of, before}
 use Rattle.flow_set.specs.FlowSet.{has}
+use Rattle.pkt_core.specs.FlowPolicy.{FlowPolicy}
 
 -- One of these services matches all packets of the protocol of the other service.
 abbrev pub has_all_of : List Service → Service → Bool
@@ -21,11 +22,11 @@ is_covered services p f =
     || (not (is_whole (services_of services f.from f.to)) && list_all (has_all_of (services_of services f.to f.from)) (services_of services f.from f.to)))
 
 -- The answers of each stateful flow are covered.
-abbrev pub AnswersAreCovered : List RestrictedFlow → List Flow → List Flow → Type 0
-AnswersAreCovered services p s = (f : Flow) → IsTrue (has s f) → IsTrue (is_covered services p f)
+abbrev pub AnswersAreCovered : FlowPolicy → Type 0
+AnswersAreCovered policy = (f : Flow) → IsTrue (has policy.stateful f) → IsTrue (is_covered policy.site.services policy.permitted f)
 
 -- f is the first stateful flow whose answers are not covered.
-pub record IsFirstUncovered (services : List RestrictedFlow) (p s : List Flow) (f : Flow) : Type 0 where
-  pub stateful : IsTrue (has s f)
-  pub barred : IsFalse (is_covered services p f)
-  pub first : (g : Flow) → IsTrue (before g f) → IsTrue (has s g) → IsTrue (is_covered services p g)
+pub record IsFirstUncovered (policy : FlowPolicy) (f : Flow) : Type 0 where
+  pub stateful : IsTrue (has policy.stateful f)
+  pub barred : IsFalse (is_covered policy.site.services policy.permitted f)
+  pub first : (g : Flow) → IsTrue (before g f) → IsTrue (has policy.stateful g) → IsTrue (is_covered policy.site.services policy.permitted g)

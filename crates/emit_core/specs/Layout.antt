@@ -1,6 +1,4 @@
--- The layout of a policy as iptables chains (docs/TEXTS.md, the text of the rules). The policy is given by its permitted flows p, each
--- restricted to its services if it has any, and the stateful flows s among them, whose answers pass as well; hosts are identified by their
--- numbers.
+-- The layout of a policy as iptables chains (docs/TEXTS.md, the text of the rules). Hosts are identified by their numbers.
 use Rattle.std.specs.Prelude.{ℕ, ◌+◌, Bool, true, false, not, ◌&&◌, ◌||◌, if◌then◌else◌, List, [], ◌∷◌, ◌++◌, Option, Some, None, length, map, codes, decimal, option_map}
 use Rattle.std.specs.List.{flat_map, range_with_len}
 use Rattle.std.specs.Option.{option_map_or, option_and_then}
@@ -8,8 +6,7 @@ use Rattle.host_net.specs.declared.prefix.Prefix.{Prefix}
 use Rattle.host_net.specs.declared.service.Service.{Service}
 use Rattle.host_net.specs.Host.{Host, rest_of}
 use Rattle.host_net.specs.Service.{has_all_ports, is_whole, service_matches}
-use Rattle.host_net.specs.Site.{Site}
-use Rattle.flow_set.specs.declared.flow.Flow.{Flow}
+use Rattle.pkt_core.specs.FlowPolicy.{FlowPolicy}
 use Rattle.ipt_rules.specs.declared.rule.AddrMatch.{AddrMatch}
 use Rattle.ipt_rules.specs.declared.rule.PortMatch.{PortMatch}
 use Rattle.ipt_rules.specs.declared.rule.ProtoMatch.{ProtoMatch}
@@ -99,56 +96,56 @@ abbrev pub from_service : Direction → Option Prefix → Option Service → Rul
 from_service side q n = record (match_peer side q match_established Accept) { proto = protocol_part n; sport = port_part n }
 
 -- The flow that host i has with host j in this direction is in the set, and it is unrestricted.
-abbrev pub connects_unrestricted : Direction → Site → List Flow → ℕ → ℕ → Bool
-connects_unrestricted side site p i j = connects side p i j && is_whole (services_on side site.services i j)
+abbrev pub connects_unrestricted : Direction → FlowPolicy → ℕ → ℕ → Bool
+connects_unrestricted side policy i j = connects side policy.permitted i j && is_whole (services_on side policy.site.services i j)
 
 -- The rules that accept the packets of the flow between host i and host j at prefix q of host j, one for each service.
-abbrev pub accepts_flow : Direction → Site → List Flow → ℕ → ℕ → Option Prefix → List Rule
-accepts_flow side site p i j q =
-    if connects side p i j then map (to_service side q) (service_matches (services_on side site.services i j)) else []
+abbrev pub accepts_flow : Direction → FlowPolicy → ℕ → ℕ → Option Prefix → List Rule
+accepts_flow side policy i j q =
+    if connects side policy.permitted i j then map (to_service side q) (service_matches (services_on side policy.site.services i j)) else []
 
 -- The rules that accept answers to its reverse, one for each service of the reverse, unless all packets are accepted
 -- anyway.
-abbrev pub accepts_answers : Direction → Site → List Flow → List Flow → ℕ → ℕ → Option Prefix → List Rule
-accepts_answers side site p s i j q =
-    if connects (other_direction side) s i j && not (connects_unrestricted side site p i j)
-    then map (from_service side q) (service_matches (services_on (other_direction side) site.services i j)) else []
+abbrev pub accepts_answers : Direction → FlowPolicy → ℕ → ℕ → Option Prefix → List Rule
+accepts_answers side policy i j q =
+    if connects (other_direction side) policy.stateful i j && not (connects_unrestricted side policy i j)
+    then map (from_service side q) (service_matches (services_on (other_direction side) policy.site.services i j)) else []
 
 -- The rules that accept packets between host i and host j at prefix q of host j: those of the flow, then answers.
-abbrev pub accepts : Direction → Site → List Flow → List Flow → ℕ → ℕ → Option Prefix → List Rule
-accepts side site p s i j q = accepts_flow side site p i j q ++ accepts_answers side site p s i j q
+abbrev pub accepts : Direction → FlowPolicy → ℕ → ℕ → Option Prefix → List Rule
+accepts side policy i j q = accepts_flow side policy i j q ++ accepts_answers side policy i j q
 
 -- The chain of host i is open if it accepts some packet to the rest host, or from it.
-abbrev pub is_open : Direction → List Flow → List Flow → ℕ → Option ℕ → Bool
-is_open side p s i rest = option_map_or (λ r. connects side p i r || connects (other_direction side) s i r) rest false
+abbrev pub is_open : Direction → FlowPolicy → ℕ → Option ℕ → Bool
+is_open side policy i rest = option_map_or (λ r. connects side policy.permitted i r || connects (other_direction side) policy.stateful i r) rest false
 
 -- The rules of an open chain that drop, at the prefixes of host j, the packets that would otherwise be accepted as
 -- packets of the rest host.
-abbrev pub drops : Direction → Site → List Flow → List Flow → ℕ → Option ℕ → ℕ → Prefix → List Rule
-drops side site p s i rest j q =
-    if is_open side p s i rest && not (connects_unrestricted side site p i j) then match_peer side (Some q) None Drop ∷ [] else []
+abbrev pub drops : Direction → FlowPolicy → ℕ → Option ℕ → ℕ → Prefix → List Rule
+drops side policy i rest j q =
+    if is_open side policy i rest && not (connects_unrestricted side policy i j) then match_peer side (Some q) None Drop ∷ [] else []
 
 -- The rules of host i for one prefix of host j.
-abbrev pub to_prefix : Direction → Site → List Flow → List Flow → ℕ → Option ℕ → ℕ → Prefix → List Rule
-to_prefix side site p s i rest j q = accepts side site p s i j (Some q) ++ drops side site p s i rest j q
+abbrev pub to_prefix : Direction → FlowPolicy → ℕ → Option ℕ → ℕ → Prefix → List Rule
+to_prefix side policy i rest j q = accepts side policy i j (Some q) ++ drops side policy i rest j q
 
 -- The rules of host i for the rest host.
-abbrev pub to_rest : Direction → Site → List Flow → List Flow → ℕ → Option ℕ → List Rule
-to_rest side site p s i rest = option_map_or (λ r. accepts side site p s i r None) rest []
+abbrev pub to_rest : Direction → FlowPolicy → ℕ → Option ℕ → List Rule
+to_rest side policy i rest = option_map_or (λ r. accepts side policy i r None) rest []
 
 -- The chain of host i for outbound or for inbound packets, by the address of the other host. Packets that no rule accepts are dropped.
-abbrev pub host_rules : Direction → Site → List Flow → List Flow → ℕ → List Rule
-host_rules side site p s i =
-    for_each_prefix (to_prefix side site p s i (rest_of site.hosts)) 0 site.hosts
-    ++ (to_rest side site p s i (rest_of site.hosts) ++ match_peer side None None Drop ∷ [])
+abbrev pub host_rules : Direction → FlowPolicy → ℕ → List Rule
+host_rules side policy i =
+    for_each_prefix (to_prefix side policy i (rest_of policy.site.hosts)) 0 policy.site.hosts
+    ++ (to_rest side policy i (rest_of policy.site.hosts) ++ match_peer side None None Drop ∷ [])
 
 -- The name of the chain of host i: `H` followed by i.
 abbrev pub host_chain_name : ℕ → List ℕ
 host_chain_name i = codes "H" ++ decimal i
 
 -- The chain of host i, for outbound packets.
-abbrev pub host_chain : Site → List Flow → List Flow → ℕ → Chain
-host_chain site p s i = record { name = host_chain_name i; policy = None; rules = host_rules Outbound site p s i }
+abbrev pub host_chain : FlowPolicy → ℕ → Chain
+host_chain policy i = record { name = host_chain_name i; policy = None; rules = host_rules Outbound policy i }
 
 -- The built-in chains: INPUT and OUTPUT are empty with policy ACCEPT, FORWARD has policy DROP.
 abbrev pub entry_chains : List Host → List Chain
@@ -159,5 +156,5 @@ entry_chains hosts =
     ∷ []
 
 -- All chains of a policy: the built-in ones, and one for each host.
-abbrev pub layout : Site → List Flow → List Flow → List Chain
-layout site p s = entry_chains site.hosts ++ map (host_chain site p s) (range_with_len 0 (length site.hosts))
+abbrev pub layout : FlowPolicy → List Chain
+layout policy = entry_chains policy.site.hosts ++ map (host_chain policy) (range_with_len 0 (length policy.site.hosts))

@@ -1,9 +1,12 @@
 //! The flows whose answers only a stateful firewall can let pass.
 
-ghost use Rattle.std.specs.Prelude.{◌≡◌, ◌<◌, ◌&&◌, ◌||◌, not, length, IfSome, MatchOption};
+ghost use Rattle.std.specs.Prelude.{◌≡◌, ◌<◌, ◌&&◌, ◌||◌, not, length, List, IfSome, MatchOption};
 ghost use Rattle.std.specs.List.{list_all};
+ghost use Rattle.host_net.specs.Host.{Host};
 ghost use Rattle.host_net.specs.Service.{is_whole};
+ghost use Rattle.host_net.specs.Site.{site_with};
 ghost use Rattle.flow_set.specs.Flow.{IsFlow};
+ghost use Rattle.pkt_core.specs.FlowPolicy.{policy_with};
 ghost use Rattle.emit_core.specs.FlowTableEvents.{AnswersAreCovered, IsFirstUncovered, has_all_of, is_covered};
 
 use crate::narrowing::{has_all_ports, is_whole};
@@ -14,8 +17,7 @@ use pkt_core::FlowPolicy;
 /// Returns the first stateful flow whose answers do not all belong to a permitted flow, or `None`
 /// if there is none.
 pub fn needs_state(policy: &FlowPolicy<'_>) -> Option<Flow>
-    ensures barred { MatchOption result (AnswersAreCovered policy.now.site.services policy.now.permitted policy.now.stateful)
-        (IsFirstUncovered policy.now.site.services policy.now.permitted policy.now.stateful) }
+    ensures barred { MatchOption result (AnswersAreCovered policy.now) (IsFirstUncovered policy.now) }
     ensures within { IfSome result (λ flow. (flow.from < length policy.now.site.hosts) × (flow.to < length policy.now.site.hosts)) }
 {
     first_uncovered(policy.services(), policy.permitted(), policy.stateful())
@@ -23,8 +25,9 @@ pub fn needs_state(policy: &FlowPolicy<'_>) -> Option<Flow>
 
 fn first_uncovered(services: &Services, permitted: &FlowSet, stateful: &FlowSet) -> Option<Flow>
     requires { stateful.now.size ≡ permitted.now.size }
-    ensures barred { MatchOption result (AnswersAreCovered services.now permitted.now.flows stateful.now.flows)
-        (IsFirstUncovered services.now permitted.now.flows stateful.now.flows) }
+    ensures barred { (hosts : List Host) →
+        MatchOption result (AnswersAreCovered (policy_with (site_with hosts services.now) permitted.now.flows stateful.now.flows))
+        (IsFirstUncovered (policy_with (site_with hosts services.now) permitted.now.flows stateful.now.flows)) }
     ensures within { IfSome result (λ flow. (flow.from < stateful.now.size) × (flow.to < stateful.now.size)) }
 {
     for flow in stateful.iter() {

@@ -25,7 +25,7 @@ pub fn host_rules(
     host: u16,
 ) -> Result<Vec<Rule>, AllocError>
     requires { host < length policy.now.site.hosts }
-    ensures { IfOk result (λ rules. rules.items ≡ host_rules side policy.now.site policy.now.permitted policy.now.stateful host) }
+    ensures { IfOk result (λ rules. rules.items ≡ host_rules side policy.now host) }
 {
     let chain = HostChain {
         policy,
@@ -52,8 +52,7 @@ impl<'a> HostChain<'a> {
     /// Returns the packets that pass between the host and another.
     fn link(&self, other: u16) -> Link<'a>
         requires { other < length self.now.policy.now.site.hosts }
-        ensures { result ≡ link_of self.now.side self.now.policy.now.site
-            self.now.policy.now.permitted self.now.policy.now.stateful self.now.host other }
+        ensures { result ≡ link_of self.now.side self.now.policy.now self.now.host other }
     {
         Link::of(self.policy, self.side, self.host, other)
     }
@@ -61,8 +60,7 @@ impl<'a> HostChain<'a> {
     /// Whether some packet to the rest host passes, or some packet from it.
     #[tactic(auto, using(crate::proofs::LinkLaws::link_open))]
     fn is_open(&self) -> bool
-        ensures { result ≡ is_open self.now.side self.now.policy.now.permitted
-            self.now.policy.now.stateful self.now.host self.now.rest }
+        ensures { result ≡ is_open self.now.side self.now.policy.now self.now.host self.now.rest }
     {
         match self.rest {
             None => false,
@@ -72,8 +70,7 @@ impl<'a> HostChain<'a> {
 
     /// Returns the rules of the host's chain.
     fn rules(&self, alloc: Global) -> Result<Vec<Rule>, AllocError>
-        ensures { IfOk result (λ rules. rules.items ≡ host_rules self.now.side self.now.policy.now.site
-            self.now.policy.now.permitted self.now.policy.now.stateful self.now.host) }
+        ensures { IfOk result (λ rules. rules.items ≡ host_rules self.now.side self.now.policy.now self.now.host) }
     {
         let mut rules = Vec::with_capacity(alloc, self.policy.count() as usize)?;
         self.push_to_hosts(&mut rules)?;
@@ -85,8 +82,7 @@ impl<'a> HostChain<'a> {
     #[tactic(auto, using(crate::proofs::Steps::for_each_all))]
     fn push_to_hosts(&self, rules: &mut Vec<Rule>) -> Result<(), AllocError>
         ensures { OnOk result (rules.new.items ≡ rules.old.items
-            ++ for_each_prefix (to_prefix self.now.side self.now.policy.now.site
-            self.now.policy.now.permitted self.now.policy.now.stateful self.now.host self.now.rest) 0 self.now.policy.now.site.hosts) }
+            ++ for_each_prefix (to_prefix self.now.side self.now.policy.now self.now.host self.now.rest) 0 self.now.policy.now.site.hosts) }
     {
         let opened = self.is_open();
         for to in 0..self.policy.count() {
@@ -98,8 +94,7 @@ impl<'a> HostChain<'a> {
     #[tactic(auto, using(crate::proofs::LinkLaws::link_accepts))]
     fn push_to_rest(&self, rules: &mut Vec<Rule>) -> Result<(), AllocError>
         ensures { OnOk result (rules.new.items ≡ rules.old.items
-            ++ to_rest self.now.side self.now.policy.now.site
-            self.now.policy.now.permitted self.now.policy.now.stateful self.now.host self.now.rest) }
+            ++ to_rest self.now.side self.now.policy.now self.now.host self.now.rest) }
     {
         if let Some(rest) = self.rest {
             self.link(rest).push_accepts(rules, None)?;

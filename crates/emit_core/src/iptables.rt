@@ -31,16 +31,16 @@ const RULE_LIMIT: u32 = 600_000;
 /// Returns the rules of a policy: permitted flows pass, and the answers of stateful flows pass on
 /// established connections.
 pub fn iptables_layout(alloc: Global, policy: &FlowPolicy<'_>) -> Result<Ruleset, NoChains>
-    ensures layout { IfOk result (λ rules. rules ≡ layout policy.now.site policy.now.permitted policy.now.stateful) }
-    ensures few { OnOk result (rule_count (layout policy.now.site policy.now.permitted policy.now.stateful) ≤ rule_limit) }
-    ensures refused { IfErr result (HasNoChains policy.now.site policy.now.permitted policy.now.stateful) }
+    ensures layout { IfOk result (λ rules. rules ≡ layout policy.now) }
+    ensures few { OnOk result (rule_count (layout policy.now) ≤ rule_limit) }
+    ensures refused { IfErr result (HasNoChains policy.now) }
 
     // Each packet has a verdict, and it is forwarded if and only if the policy allows it.
-    ensures enforces { IfOk result (λ rules. Enforces (Passes rules) policy.now.site policy.now.permitted policy.now.stateful) }
+    ensures enforces { IfOk result (λ rules. Enforces (Passes rules) policy.now) }
 
     // For every list of events, a packet is forwarded if and only if the policy and its answers
     // expect it.
-    ensures expected { IfOk result (λ rules. ForwardsAsExpected (Passes rules) policy.now.site policy.now.permitted policy.now.stateful) }
+    ensures expected { IfOk result (λ rules. ForwardsAsExpected (Passes rules) policy.now) }
 {
     let Ok(Layout { chains, count }) = layout_of(alloc, policy) else {
         return Err(NoChains::Memory);
@@ -64,7 +64,7 @@ struct Layout {
 
 fn layout_of(alloc: Global, policy: &FlowPolicy<'_>) -> Result<Layout, AllocError>
     ensures counted { IfOk result (λ made. AreCounted
-        (layout policy.now.site policy.now.permitted policy.now.stateful) made.chains made.count) }
+        (layout policy.now) made.chains made.count) }
     ensures policy { OnOk result (IsFlowPolicy policy.now) }
 {
     let mut made = entry_layout(alloc, policy.hosts())?;
@@ -99,10 +99,8 @@ fn add_host_chain(
 ) -> Result<(), AllocError>
     requires there { host < length policy.now.site.hosts }
     requires site { IsSite policy.now.site }
-    requires before { AreCounted (chains_up_to policy.now.site policy.now.permitted
-        policy.now.stateful host) made.old.chains made.old.count }
-    ensures { OnOk result (AreCounted (chains_up_to policy.now.site policy.now.permitted
-        policy.now.stateful (host + 1)) made.new.chains made.new.count) }
+    requires before { AreCounted (chains_up_to policy.now host) made.old.chains made.old.count }
+    ensures { OnOk result (AreCounted (chains_up_to policy.now (host + 1)) made.new.chains made.new.count) }
 {
     let rules = host_rules(alloc, policy, Direction::Outbound, host)?;
     made.count += rules.len() as u32;

@@ -2,6 +2,7 @@
 use Rattle.std.specs.Prelude.{◌≡◌, ◌<◌, List, length}
 use Rattle.host_net.specs.Site.{Site}
 use Rattle.flow_set.specs.declared.flow.Flow.{Flow}
+use Rattle.pkt_core.specs.FlowPolicy.{FlowPolicy}
 use Rattle.ipt_rules.specs.ChainTable.{rule_count}
 use Rattle.ofp_rules.specs.Ambiguity.{most_entries}
 use Rattle.emit_core.specs.declared.refusal.EmitRefusal.{EmitRefusal}
@@ -16,9 +17,9 @@ use Rattle.emit_core.specs.PortRanges.{HasNoRange, IsFirstRange}
 use Rattle.emit_core.specs.EmitRefusals.{rule_limit}
 
 -- The reasons for no chains: there are too many rules, or memory allocation fails.
-abbrev pub HasNoChains : Site → List Flow → List Flow → NoChains → Type 0
-HasNoChains site p s (TooManyRules count) = (rule_limit < rule_count (layout site p s)) × (count ≡ rule_count (layout site p s))
-HasNoChains site p s Memory = Unit {0}
+abbrev pub HasNoChains : FlowPolicy → NoChains → Type 0
+HasNoChains policy (TooManyRules count) = (rule_limit < rule_count (layout policy)) × (count ≡ rule_count (layout policy))
+HasNoChains policy Memory = Unit {0}
 
 -- The reasons for no table: a permitted flow has a range of ports; or no flow has one, and there are too many entries; or memory allocation
 -- fails.
@@ -28,10 +29,10 @@ HasNoTable site p (TooManyEntries count) = HasNoRange site.services p × (most_e
 HasNoTable site p NoMemory = Unit {0}
 
 -- An EmitRefusal of iptables rules is the reason for no chains. It is never a range of ports.
-abbrev pub IsIptablesRefusal : Site → List Flow → List Flow → EmitRefusal → Type 0
-IsIptablesRefusal site p s (emit.RangeOfPorts flow) = ⊥
-IsIptablesRefusal site p s (emit.TooManyRules count) = HasNoChains site p s (TooManyRules count)
-IsIptablesRefusal site p s emit.Memory = HasNoChains site p s Memory
+abbrev pub IsIptablesRefusal : FlowPolicy → EmitRefusal → Type 0
+IsIptablesRefusal policy (emit.RangeOfPorts flow) = ⊥
+IsIptablesRefusal policy (emit.TooManyRules count) = HasNoChains policy (TooManyRules count)
+IsIptablesRefusal policy emit.Memory = HasNoChains policy Memory
 
 -- An EmitRefusal of a flow table is the reason for no table.
 abbrev pub IsOpenflowRefusal : Site → List Flow → EmitRefusal → Type 0

@@ -5,8 +5,7 @@ use Rattle.std.specs.Option.{option_map_or}
 use Rattle.host_net.specs.declared.prefix.Prefix.{Prefix}
 use Rattle.host_net.specs.declared.service.Service.{Service}
 use Rattle.host_net.specs.Service.{is_whole, service_matches}
-use Rattle.host_net.specs.Site.{Site}
-use Rattle.flow_set.specs.declared.flow.Flow.{Flow}
+use Rattle.pkt_core.specs.FlowPolicy.{FlowPolicy}
 use Rattle.ipt_rules.specs.declared.rule.Rule.{Rule}
 use Rattle.ipt_rules.specs.declared.rule.Target.TheVariants.{Drop}
 use Rattle.emit_core.specs.declared.parts.Accepted.{Accepted}
@@ -29,11 +28,11 @@ pub record Link : Type 0 where
 abbrev pub served : Bool → List Service → Option (List Service)
 served there ss = if there then Some ss else None
 
-abbrev pub link_of : Direction → Site → List Flow → List Flow → ℕ → ℕ → Link
-link_of side site p s i j = record {
+abbrev pub link_of : Direction → FlowPolicy → ℕ → ℕ → Link
+link_of side policy i j = record {
   side = side;
-  flow = served (connects side p i j) (services_on side site.services i j);
-  answers = served (connects (other_direction side) s i j) (services_on (other_direction side) site.services i j);
+  flow = served (connects side policy.permitted i j) (services_on side policy.site.services i j);
+  answers = served (connects (other_direction side) policy.stateful i j) (services_on (other_direction side) policy.site.services i j);
 }
 
 -- Some packet passes.

@@ -44,7 +44,7 @@ impl<'a> Link<'a> {
     pub(super) fn of(policy: &FlowPolicy<'a>, side: Direction, host: u16, other: u16) -> Link<'a>
         requires host { host < length policy.now.site.hosts }
         requires other { other < length policy.now.site.hosts }
-        ensures { result ≡ link_of side policy.now.site policy.now.permitted policy.now.stateful host other }
+        ensures { result ≡ link_of side policy.now host other }
     {
         let services = policy.services();
         Link {

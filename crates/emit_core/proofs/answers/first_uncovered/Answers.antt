@@ -12,7 +12,7 @@ is_covered-requires c =
     subst (λ (n : ℕ). IsFlow n c.in-Some.flow) c.requires (c.iter-flow-items.ensures.set.flows c.in-Some.flow there)
 
 pub returns-then-not-is_covered-clause-barred : goal.returns-then-not-is_covered-clause-barred
-returns-then-not-is_covered-clause-barred c = record {
+returns-then-not-is_covered-clause-barred c = λ hosts. record {
   stateful = walk_member c.loop-flow.yielded c.loop-flow.flow-iterator c.next.new.self c.args.stateful.now.flows c.in-Some.flow c.loop-flow.invariant.walk c.in-Some.ensures.steps;
   barred = sym c.is_covered.ensures ∙ c.if-not-is_covered.true;
   first = holds_before (λ g. IsTrue (is_covered c.args.services.now c.args.permitted.now.flows g)) c.loop-flow.yielded c.loop-flow.flow-iterator c.next.new.self c.args.stateful.now.flows c.in-Some.flow c.iter-flow-items.ensures.set.ordered c.loop-flow.invariant.walk c.in-Some.ensures.steps c.loop-flow.invariant.covered;

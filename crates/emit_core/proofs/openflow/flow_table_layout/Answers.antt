@@ -3,6 +3,7 @@ use Rattle.std.specs.List.{list_all}
 use Rattle.host_net.specs.Site.{Site}
 use Rattle.host_net.specs.inner.Site.{IsSite}
 use Rattle.flow_set.specs.declared.flow.Flow.{Flow}
+use Rattle.pkt_core.specs.FlowPolicy.{policy_with}
 use Rattle.ofp_rules.specs.declared.entry.Entry.{Entry}
 use Rattle.ofp_rules.specs.declared.table.TableRefusal.{TableRefusal}
 use Rattle.ofp_rules.specs.declared.table.TableRefusal.TheVariants.{TooMany, Ambiguous, Memory}
@@ -54,4 +55,4 @@ returns-in-Ok-build-clause-others c = arp_alone c.in-Ok-build.table c.args.polic
 
 pub returns-in-Ok-build-clause-expected : goal.returns-in-Ok-build-clause-expected
 returns-in-Ok-build-clause-expected c =
-    λ s answers. flows_expected c.in-Ok-build.table c.args.policy.now.site c.args.policy.now.permitted s (forwards c) answers
+    λ s answers. flows_expected c.in-Ok-build.table (policy_with c.args.policy.now.site c.args.policy.now.permitted s) (forwards c) answers

@@ -14,11 +14,11 @@ loop-to-preserved c =
     let policy = chain.policy.now in
     let rules = c.loop-to.rules.items in
     let prefixes = c.prefixes.result.now in
-    grow_each (to_prefix chain.side policy.site policy.permitted policy.stateful chain.host chain.rest) _ _ _ _ _ _
+    grow_each (to_prefix chain.side policy chain.host chain.rest) _ _ _ _ _ _
     c.prefixes.ensures c.loop-to.invariant
     (c.in_ok-push_to_host.ensures
     ∙ ap (λ (l : Link). rules ++ flat_map (prefix_rules l c.is_open-opened.result) prefixes) c.link.ensures
-    ∙ ap (λ (b : Bool). rules ++ flat_map (prefix_rules (link_of chain.side policy.site policy.permitted policy.stateful chain.host c.loop-to.to) b) prefixes)
+    ∙ ap (λ (b : Bool). rules ++ flat_map (prefix_rules (link_of chain.side policy chain.host c.loop-to.to) b) prefixes)
     c.is_open-opened.ensures
     ∙ ap (λ (written : Prefix → List Rule). rules ++ flat_map written prefixes)
-    (link_prefix chain.side policy.site policy.permitted policy.stateful chain.host chain.rest c.loop-to.to))
+    (link_prefix chain.side policy chain.host chain.rest c.loop-to.to))
