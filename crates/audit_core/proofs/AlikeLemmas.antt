@@ -11,14 +11,16 @@ use Rattle.audit_core.specs.declared.kind.Kind.TheVariants.{Alone, AfterSwap, Af
 use Rattle.audit_core.specs.Cuts.{cut_addresses, cut_ports, cuts_between, named_protocols, parts_between}
 use Rattle.audit_core.specs.inner.Cuts.{AreOneClass}
 use Rattle.audit_core.specs.inner.Faults.{Right, is_asked, state_in}
-use Rattle.audit_core.proofs.OrderLemmas.{contains_first}
+use Rattle.rules_space.proofs.ListLaws.{contains_first}
 use Rattle.audit_core.specs.Parts.{rules_parts, site_parts}
-use Rattle.audit_core.specs.Classes.{is_among, numbers_where, represents_protocol}
+use Rattle.audit_core.specs.Classes.{is_among, represents_protocol}
+use Rattle.rules_space.specs.Numbers.{numbers_where}
 use Rattle.audit_core.specs.Places.{IsClassPacket, representatives_of}
-use Rattle.audit_core.proofs.RepresentativeLemmas.{among_has, represents, where_has}
+use Rattle.audit_core.proofs.RepresentativeLemmas.{among_has, represents}
+use Rattle.rules_space.proofs.NumberLaws.{where_has}
 use Rattle.audit_core.specs.inner.Ranges.{AreTogether}
 use Rattle.audit_core.proofs.RangeLemmas.{is_in, protocol_of}
-use Rattle.audit_core.specs.Rules.{filter_of}
+use Rattle.rules_space.specs.Rules.{filter_of}
 use Rattle.header_space.specs.Boxes.{IsNoHigher}
 use Rattle.audit_core.specs.Sides.{Sides, permits_reply_to, permits}
 use Rattle.audit_core.proofs.PartLemmas.{AreAlikeFor, IsAlikeFor, all_parts, alike_back, alike_swapped}

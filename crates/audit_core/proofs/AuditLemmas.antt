@@ -4,10 +4,12 @@ use Rattle.std.specs.Prelude.{nat_lt}
 use Rattle.host_net.specs.declared.packet.Packet.{Packet}
 use Rattle.host_net.specs.Packet.{IsPacket}
 use Rattle.audit_core.specs.declared.named.Found.{Found}
-use Rattle.audit_core.specs.Classes.{is_among, numbers_where, represents_protocol}
+use Rattle.audit_core.specs.Classes.{is_among, represents_protocol}
+use Rattle.rules_space.specs.Numbers.{numbers_where}
 use Rattle.audit_core.specs.Cuts.{Cuts, parts_between}
 use Rattle.audit_core.specs.inner.Named.{IsNamedBy, cuts_found}
-use Rattle.audit_core.proofs.RepresentativeLemmas.{protocol_count, where_only}
+use Rattle.audit_core.proofs.RepresentativeLemmas.{protocol_count}
+use Rattle.rules_space.proofs.NumberLaws.{where_only}
 use Rattle.audit_core.specs.Places.{IsClassPacket, class_count, class_total, representatives_of}
 use Rattle.audit_core.specs.Sides.{Sides}
 

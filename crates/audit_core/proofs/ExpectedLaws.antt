@@ -13,8 +13,8 @@ use Rattle.audit_core.specs.laws.FindingLaws.{equal_exactly}
 use Rattle.audit_core.specs.Findings.{DifferSomewhere}
 use Rattle.audit_core.specs.inner.Findings.{IsFinding}
 use Rattle.audit_core.specs.laws.ListLaws.{agree_not_differ}
-use Rattle.audit_core.specs.Rules.{filter_of}
-use Rattle.audit_core.specs.Verdicts.{GivesOne}
+use Rattle.rules_space.specs.Rules.{filter_of}
+use Rattle.rules_space.specs.Verdicts.{GivesOne}
 use Rattle.audit_core.specs.Sides.{AreEquivalent, Sides, permits_reply_to, permits}
 use Rattle.audit_core.specs.inner.Sides.{AgreeAlways}
 

@@ -1,55 +1,21 @@
 -- Faults of packets: criteria for a fault, and for the absence of faults.
-use Rattle.std.proofs.Common.{◌≡◌, ◌≢◌, ◌↔◌, ℕ, ◌+◌, ◌≤◌, ◌<◌, ◌^◌, Bool, true, false, ◌&&◌, ◌||◌, IsTrue, List, Option, Some, None, refl, sym, subst, ◌∙◌, true≢false, arith}
+use Rattle.std.proofs.Common.{◌≡◌, ◌≢◌, ◌↔◌, Bool, true, false, ◌&&◌, ◌||◌, IsTrue, Option, Some, None, refl, sym, subst, ◌∙◌, true≢false}
 use Rattle.std.proofs.Math.Bool.{beq}
-use Rattle.std.specs.Prelude.{not, is_some, IfSome}
+use Rattle.std.specs.Prelude.{not, is_some}
 use Rattle.host_net.specs.declared.packet.Packet.{Packet}
-use Rattle.host_net.specs.declared.packet.CtState.{CtState}
 use Rattle.host_net.specs.declared.packet.CtState.TheVariants.{New}
 use Rattle.host_net.specs.Packet.{IsPacket, swap_of}
-use Rattle.header_space.specs.Boxes.{IsIn, every_packet}
+use Rattle.header_space.specs.Boxes.{every_packet}
 use Rattle.header_space.specs.Searching.{IsLeastWhere}
 use Rattle.audit_core.specs.declared.kind.Kind.{Kind}
 use Rattle.audit_core.specs.declared.kind.Kind.TheVariants.{Alone, AfterSwap, AfterBoth}
-use Rattle.audit_core.specs.Findings.{trace_of}
-use Rattle.header_space.specs.declared.packet_box.PacketBox.{PacketBox}
-use Rattle.host_net.specs.Verdict.{verdict_if}
-use Rattle.ipt_rules.specs.Chain.{Chain}
-use Rattle.ipt_rules.specs.Slices.{HaveSameVerdicts as HaveSameChainVerdicts}
 use Rattle.pkt_core.specs.Firewall.{may_pass}
-use Rattle.audit_core.specs.Rules.{Chains, filter_of}
+use Rattle.rules_space.specs.Rules.{filter_of}
 use Rattle.audit_core.specs.Sides.{Sides, permits}
-use Rattle.audit_core.specs.Verdicts.{GivesOne, HaveSameVerdicts}
+use Rattle.rules_space.specs.Verdicts.{GivesOne}
 use Rattle.audit_core.specs.inner.Faults.{AreRight, HasFault, IsFault, Right, Wrong, expected_at, is_asked, state_in}
-use Rattle.audit_core.proofs.RulesLaws.{one_verdict}
-
--- ---- Packets are the packets of the box of all packets
-
-at_most : (a : ℕ) (n m : ℕ) → n ≡ m + 1 → a < n → a ≤ m
-at_most a n m is less = omega (arith, is, less)
-
-pub in_every : (p : Packet) → IsPacket p → IsIn every_packet p
-in_every p is = record {
-  above = record { src = omega arith; dst = omega arith; proto = omega arith; sport = omega arith; dport = omega arith };
-  below = record {
-    src = at_most p.src (2 ^ 32) 4294967295 refl is.0;
-    dst = at_most p.dst (2 ^ 32) 4294967295 refl is.1;
-    proto = at_most p.proto (2 ^ 8) 255 refl is.2;
-    sport = at_most p.sport (2 ^ 16) 65535 refl is.3;
-    dport = at_most p.dport (2 ^ 16) 65535 refl is.4;
-  };
-}
-
-less_than : (a n m : ℕ) → n ≡ m + 1 → a ≤ m → a < n
-less_than a n m is low = omega (arith, is, low)
-
-pub packet_in_every : (p : Packet) → IsIn every_packet p → IsPacket p
-packet_in_every p inside = (
-  less_than p.src (2 ^ 32) 4294967295 refl inside.below.src,
-  less_than p.dst (2 ^ 32) 4294967295 refl inside.below.dst,
-  less_than p.proto (2 ^ 8) 255 refl inside.below.proto,
-  less_than p.sport (2 ^ 16) 65535 refl inside.below.sport,
-  less_than p.dport (2 ^ 16) 65535 refl inside.below.dport,
-)
+use Rattle.rules_space.proofs.EveryPacketLaws.{in_every}
+use Rattle.rules_space.proofs.RulesLaws.{one_verdict}
 
 -- ---- Right and wrong
 
@@ -114,12 +80,3 @@ differs true true = ((λ h. absurd (true≢false (sym h))), (λ h. absurd (h ref
 differs false false = ((λ h. absurd (true≢false (sym h))), (λ h. absurd (h refl)))
 differs true false = ((λ h e. true≢false e), (λ h. refl))
 differs false true = ((λ h e. true≢false (sym e)), (λ h. refl))
-
--- ---- Rules with the same verdicts on the packets of a box
-
-pub same_chains : (b : PacketBox) (xs ys : List Chain) → HaveSameChainVerdicts b xs ys → HaveSameVerdicts b (Chains xs) (Chains ys)
-same_chains b xs ys same = λ p inside state passes. same p inside state (verdict_if passes)
-
-pub same_slice : (b : PacketBox) (xs : List Chain) (slice : Option (List Chain)) → IfSome slice (HaveSameChainVerdicts b xs) → IfSome slice (λ ys. HaveSameVerdicts b (Chains xs) (Chains ys))
-same_slice b xs None same = same
-same_slice b xs (Some ys) same = same_chains b xs ys same

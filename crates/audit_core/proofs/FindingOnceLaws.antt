@@ -18,7 +18,7 @@ use Rattle.audit_core.specs.laws.ListLaws.{agree_not_differ, differ_on}
 use Rattle.audit_core.specs.Lists.{front_of, list_of}
 use Rattle.header_space.specs.Order.{ComesBefore, comes_first}
 use Rattle.audit_core.specs.Places.{IsClassPacket, Representatives, representatives_of}
-use Rattle.audit_core.specs.Rules.{filter_of}
+use Rattle.rules_space.specs.Rules.{filter_of}
 use Rattle.audit_core.specs.Sides.{Agree, Sides, permits_reply_to, permits}
 
 -- 1. Of two packets, one comes before the other, or they are equal.

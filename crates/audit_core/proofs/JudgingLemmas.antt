@@ -1,5 +1,5 @@
 -- Rules that are wrong about a packet differ from the policy at the end of a list. Rules that are right agree with it on the lists.
-use Rattle.std.proofs.Common.{◌≡◌, ◌↔◌, inl, inr, ℕ, ◌<◌, Bool, true, false, ◌&&◌, ◌||◌, IsTrue, List, [], ◌∷◌, ◌++◌, Option, Some, None, refl, sym, ap, subst, ◌∙◌, true≢false, arith}
+use Rattle.std.proofs.Common.{◌≡◌, ◌↔◌, inl, inr, ◌<◌, Bool, true, false, ◌&&◌, ◌||◌, IsTrue, List, [], ◌∷◌, ◌++◌, Option, Some, None, refl, sym, ap, subst, ◌∙◌, true≢false, arith}
 use Rattle.std.proofs.lemmas.Bool.{or_cases, or_left}
 use Rattle.host_net.specs.declared.packet.Packet.{Packet}
 use Rattle.host_net.specs.declared.packet.CtState.TheVariants.{New, Established}
@@ -23,9 +23,9 @@ use Rattle.audit_core.specs.laws.FindingLaws.{swaps_known}
 use Rattle.audit_core.specs.laws.ListLaws.{agree_not_differ, differ_on, expected_more, run_long}
 use Rattle.audit_core.specs.Lists.{DifferAfter, front_of, list_of}
 use Rattle.audit_core.specs.Pairs.{DiffersAt}
-use Rattle.audit_core.specs.Rules.{Entries, Rules, filter_of}
+use Rattle.rules_space.specs.Rules.{Entries, Rules, filter_of}
 use Rattle.audit_core.specs.Sides.{Agree, Sides, permits_reply_to, permits}
-use Rattle.audit_core.specs.Verdicts.{GivesOne}
+use Rattle.rules_space.specs.Verdicts.{GivesOne}
 use Rattle.audit_core.proofs.FaultLaws.{right_where, same_where_not, says_new}
 use Rattle.audit_core.proofs.ListEndLaws.{expects, whole_differs, wrong_by}
 use Rattle.audit_core.proofs.ShortLaws.{agree_where_judged}

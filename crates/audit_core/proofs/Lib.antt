@@ -4,7 +4,6 @@ pub mod BetweenLaws
 pub mod ExpectedLaws
 pub mod FaultLaws
 pub mod FindingOnceLaws
-pub mod FlowLaws
 pub mod JudgingLemmas
 pub mod ListEndLaws
 pub mod NamedLemmas
@@ -13,7 +12,6 @@ pub mod PairLaws
 pub mod PartLemmas
 pub mod RangeLemmas
 pub mod RepresentativeLemmas
-pub mod RulesLaws
 pub mod RulesLemmas
 pub mod SameLaws
 pub mod ShortLaws

@@ -21,15 +21,15 @@ use Rattle.audit_core.specs.declared.kind.Kind.TheVariants.{Alone, AfterSwap, Af
 use Rattle.audit_core.specs.declared.list_end.Ends.{Ends}
 use Rattle.audit_core.specs.inner.Faults.{expected_at}
 use Rattle.audit_core.specs.inner.Pairs.{DiffersBy, DiffersSo, EndsBy, HaveSameEnds, HoldsOf, state_after}
-use Rattle.audit_core.specs.Verdicts.{HaveSameVerdicts, GivesOne}
+use Rattle.rules_space.specs.Verdicts.{HaveSameVerdicts, GivesOne}
 use Rattle.audit_core.specs.inner.Parts.{IsPartOf}
 use Rattle.audit_core.specs.laws.FindingLaws.{swaps_known}
 use Rattle.audit_core.specs.laws.ListLaws.{differ_more}
 use Rattle.audit_core.specs.Lists.{front_of}
 use Rattle.audit_core.specs.Pairs.{DiffersAt}
-use Rattle.audit_core.specs.Rules.{Rules, filter_of}
+use Rattle.rules_space.specs.Rules.{Rules, filter_of}
 use Rattle.audit_core.specs.Sides.{Sides, permits_reply_to, permits}
-use Rattle.audit_core.proofs.RulesLaws.{one_verdict}
+use Rattle.rules_space.proofs.RulesLaws.{one_verdict}
 use Rattle.audit_core.proofs.ShortLaws.{expects_behind, expects_first, kept_established, swap_established}
 
 -- 1. The expectation of the policy.

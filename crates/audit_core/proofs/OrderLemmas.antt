@@ -1,22 +1,10 @@
--- Elements of lists. Two ascending lists with the same numbers are equal.
-use Rattle.std.proofs.Common.{◌≡◌, ◌⊎◌, inl, inr, ℕ, zero, suc, ◌<◌, List, [], ◌∷◌, refl, sym, ap, subst, arith}
+-- Elements of listed lists. Two ascending lists with the same numbers are equal.
+use Rattle.std.proofs.Common.{◌≡◌, ◌⊎◌, inl, inr, ℕ, suc, ◌<◌, List, [], ◌∷◌, refl, sym, ap, subst, arith}
 use Rattle.std.specs.List.{AllPairs, Contains, flat_map}
 use Rattle.std.specs.List.Sorted.{IsStrictlyIncreasing}
 use Rattle.std.proofs.lemmas.List.Elements.{Contains-append_left, Contains-append_right}
 use Rattle.std.proofs.lemmas.List.Kept.{AllPairs-from_increasing}
-
-pub contains_cases : {X : Type 0} (x : X) (xs : List X) (d : X) → Contains (x ∷ xs) d → (x ≡ d) ⊎ Contains xs d
-contains_cases x xs d (zero, within, is) = inl is
-contains_cases x xs d (suc k, within, is) = inr (k, omega arith, is)
-
-pub contains_later : {X : Type 0} (x : X) (xs : List X) (d : X) → Contains xs d → Contains (x ∷ xs) d
-contains_later x xs d (k, within, is) = (suc k, omega arith, is)
-
-pub contains_none : {X : Type 0} (d : X) → Contains [] d → ⊥
-contains_none d (k, within, is) = omega arith
-
-pub contains_first : {X : Type 0} (x : X) (xs : List X) (d : X) → x ≡ d → Contains (x ∷ xs) d
-contains_first x xs d is = (0, omega arith, is)
+use Rattle.rules_space.proofs.ListLaws.{contains_cases, contains_first, contains_later, contains_none}
 
 -- An element of a list that is listed for an element of another list.
 pub contains_within : {X Y : Type 0} (f : X → List Y) (xs : List X) (x : X) (d : Y) → Contains xs x → Contains (f x) d → Contains (flat_map f xs) d

@@ -14,8 +14,9 @@ use Rattle.audit_core.specs.Pairs.{AreDifferences, AreListedFor, Case, DiffersAt
 use Rattle.audit_core.specs.Findings.{trace_of}
 use Rattle.audit_core.specs.Sides.{Sides}
 use Rattle.audit_core.proofs.FindingOnceLaws.{ordered}
-use Rattle.audit_core.proofs.OrderLemmas.{contains_cases, contains_first, contains_later, contains_none, contains_within}
-use Rattle.audit_core.proofs.SiteLemmas.{owner_below}
+use Rattle.rules_space.proofs.ListLaws.{contains_cases, contains_first, contains_later, contains_none}
+use Rattle.audit_core.proofs.OrderLemmas.{contains_within}
+use Rattle.policy_space.proofs.FlowLaws.{owner_below}
 
 module _ (sides : Sides) where
   -- 1. Concatenated lists.

@@ -11,7 +11,8 @@ use Rattle.audit_core.specs.Cuts.{Cuts, cut_addresses, cut_ports, cuts_by, named
 use Rattle.audit_core.specs.inner.Cuts.{AreOneClass}
 use Rattle.audit_core.specs.Parts.{Part, Addresses, Protocol, Ports}
 use Rattle.audit_core.specs.inner.Ranges.{AreTogether, within}
-use Rattle.audit_core.proofs.OrderLemmas.{contains_first, contains_later, contains_within}
+use Rattle.rules_space.proofs.ListLaws.{contains_first, contains_later}
+use Rattle.audit_core.proofs.OrderLemmas.{contains_within}
 use Rattle.audit_core.proofs.RangeLemmas.{named_alike, same_test, within_alike, within_from, within_parts}
 
 -- The part does not separate the packets: it contains both or neither, by each field to which it applies.

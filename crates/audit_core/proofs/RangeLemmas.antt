@@ -4,7 +4,7 @@ use Rattle.std.specs.Prelude.{if◌then◌else◌, nat_lt}
 use Rattle.std.specs.List.{Contains}
 use Rattle.std.proofs.lemmas.Bool.Decides.{Decides-eqb, nat_tests}
 use Rattle.std.proofs.lemmas.Bool.{cases_lt, cases_Bool}
-use Rattle.audit_core.proofs.OrderLemmas.{contains_cases, contains_first, contains_later, contains_none}
+use Rattle.rules_space.proofs.ListLaws.{contains_cases, contains_first, contains_later, contains_none}
 use Rattle.audit_core.specs.Ranges.{range_cuts}
 use Rattle.audit_core.specs.inner.Ranges.{AreOneProtocol, AreTogether, within}
 

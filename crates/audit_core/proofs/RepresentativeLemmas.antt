@@ -1,79 +1,25 @@
--- The numbers below a limit for which a test is true: their members and their count. The same for cuts and for protocols.
-use Rattle.std.proofs.Common.{◌≡◌, ◌⊎◌, inl, inr, ℕ, zero, suc, ◌+◌, ◌<◌, ◌≤◌, ◌==◌, ◌&&◌, ◌||◌, Bool, true, false, cond, List, [], ◌∷◌, ◌++◌, get_or, length, nat_eq, refl, sym, ap, subst, ◌∙◌, arith, true≢false, length-append}
+-- The count of the numbers below a limit for which a test is true, and these numbers for cuts and for protocols.
+use Rattle.std.proofs.Common.{◌≡◌, ◌⊎◌, inl, inr, ℕ, zero, suc, ◌+◌, ◌<◌, ◌≤◌, ◌==◌, ◌&&◌, ◌||◌, Bool, true, false, cond, List, [], ◌∷◌, ◌++◌, get_or, length, nat_eq, refl, sym, ap, subst, ◌∙◌, arith, length-append}
 use Rattle.std.specs.List.{All, AllPass, Contains, dedup, filter, list_all, range_with_len}
 use Rattle.std.specs.List.Retain.{DiffersFromLast, IsFiltered}
-use Rattle.std.specs.List.Sorted.{IsPermutation, IsSorted, IsStrictlyIncreasing}
+use Rattle.std.specs.List.Sorted.{IsPermutation, IsSorted}
 use Rattle.std.specs.Ordering.{nat_cmp}
 use Rattle.std.proofs.lemmas.Bool.{or_left, or_right}
 use Rattle.std.proofs.lemmas.Bool.Decides.{Decides-eqb, nat_tests}
 use Rattle.std.specs.Prelude.{nat_lt}
-use Rattle.std.proofs.lemmas.List.Elements.{All-contains, All-filter, filter-append, filter_passes}
+use Rattle.std.proofs.lemmas.List.Elements.{All-contains, filter-append}
 use Rattle.std.proofs.lemmas.List.Filters.{dedup_is}
 use Rattle.std.proofs.lemmas.List.Folds.{Any-from_list_any, list_all-append, list_any-from_Any}
-use Rattle.std.proofs.lemmas.List.FromFn.{get_or-range_with_len, length-range_with_len}
-use Rattle.std.proofs.lemmas.List.Kept.{Contains-dedup_nat, Contains-from_dedup, IsStrictlyIncreasing-filter}
+use Rattle.std.proofs.lemmas.List.Kept.{Contains-dedup_nat, Contains-from_dedup}
 use Rattle.std.proofs.lemmas.List.Sorted.{Contains-permutation, IsPermutation-sym}
-use Rattle.std.proofs.lemmas.List.Sums.{count_by-le-length, length-filter, list_all-from_AllPass}
+use Rattle.std.proofs.lemmas.List.Sums.{list_all-from_AllPass}
 use Rattle.std.proofs.lemmas.Map.Keys.{IsStrictlyIncreasing-dedup}
-use Rattle.audit_core.specs.Classes.{is_among, numbers_where, represents_protocol}
-use Rattle.audit_core.proofs.OrderLemmas.{contains_cases, contains_first, contains_later, increasing_ext}
+use Rattle.audit_core.specs.Classes.{is_among, represents_protocol}
+use Rattle.rules_space.specs.Numbers.{numbers_where}
+use Rattle.rules_space.proofs.NumberLaws.{range_below, where_has, where_only, where_rises, where_short}
+use Rattle.audit_core.proofs.OrderLemmas.{increasing_ext}
 
--- 1. The numbers below a limit for which a test is true.
-
-range_has : (n c : ℕ) → c < n → Contains (range_with_len 0 n) c
-range_has n c low = let long = length-range_with_len 0 n in let at = get_or-range_with_len 0 n c c low in (c, omega arith, omega arith)
-
-range_below : (n : ℕ) → All (λ x. x < n) (range_with_len 0 n)
-range_below n k d within =
-    let long = length-range_with_len 0 n in
-    let low : k < n = omega arith in
-    let at = get_or-range_with_len 0 n k d low in
-    omega arith
-
-range_rises : (n : ℕ) → IsStrictlyIncreasing (range_with_len 0 n)
-range_rises n k within =
-    let long = length-range_with_len 0 n in
-    let next : k + 1 < n = omega arith in
-    let here = get_or-range_with_len 0 n k 0 (omega arith) in
-    let there = get_or-range_with_len 0 n (k + 1) 0 next in
-    omega arith
-
-filter_has : (test : ℕ → Bool) (xs : List ℕ) (c : ℕ) → test c ≡ true → Contains xs c → Contains (filter test xs) c
-filter_has test [] c is there = there
-filter_has test (x ∷ xs) c is there = by_test (test x) refl (filter_has test xs c is) (contains_cases x xs c there)
-  where
-    by_test : (b : Bool) → test x ≡ b → (Contains xs c → Contains (filter test xs) c) → (x ≡ c) ⊎ Contains xs c
-        → Contains (cond b (x ∷ filter test xs) (filter test xs)) c
-    by_test true at rest (inl same) = contains_first x (filter test xs) c same
-    by_test true at rest (inr later) = contains_later x (filter test xs) c (rest later)
-    by_test false at rest (inl same) = absurd (true≢false (sym is ∙ ap test (sym same) ∙ at))
-    by_test false at rest (inr later) = rest later
-
-module _ (test : ℕ → Bool) (limit : ℕ) where
-  pub where_has : (c : ℕ) → c < limit → test c ≡ true → Contains (numbers_where test limit) c
-  unfolding numbers_where
-  where_has c low is = filter_has test (range_with_len 0 limit) c is (range_has limit c low)
-
-  pub where_only : (c : ℕ) → Contains (numbers_where test limit) c → (c < limit) × (test c ≡ true)
-  unfolding numbers_where
-  where_only c there =
-      let range = range_with_len 0 limit in (
-        All-contains (λ x. x < limit) (filter test range) c (All-filter test (λ x. x < limit) range (range_below limit)) there,
-        All-contains (λ x. test x ≡ true) (filter test range) c (filter_passes test range) there,
-      )
-
-  where_rises : IsStrictlyIncreasing (numbers_where test limit)
-  unfolding numbers_where
-  where_rises = IsStrictlyIncreasing-filter test (range_with_len 0 limit) (range_rises limit)
-
-  where_short : length (numbers_where test limit) ≤ limit
-  unfolding numbers_where
-  where_short =
-      let range = range_with_len 0 limit in
-      let all = length-range_with_len 0 limit in
-      let many = length-filter test range in
-      let fewer = count_by-le-length test range in
-      omega arith
+-- 1. The count of the numbers below a limit for which a test is true.
 
 pub short_is : (test : ℕ → Bool) (limit n : ℕ) → n ≡ length (numbers_where test limit) → n ≤ limit
 short_is test limit n is = let short = where_short test limit in omega (arith, is)

@@ -22,7 +22,7 @@ use Rattle.ofp_rules.specs.Matching.{kind_matches, number_matches, packet_matche
 use Rattle.ofp_rules.specs.Semantics.{HasVerdict, IsOneOf}
 use Rattle.audit_core.specs.Parts.{address_parts, entry_parts, number_parts, one_port_parts, port_parts, prefix_parts, protocol_parts, rule_parts, rules_parts}
 use Rattle.audit_core.specs.inner.Ranges.{within}
-use Rattle.audit_core.specs.Rules.{Rules, Chains, Entries, filter_of}
+use Rattle.rules_space.specs.Rules.{Rules, Chains, Entries, filter_of}
 use Rattle.audit_core.proofs.PartLemmas.{AreAlikeFor, IsAlikeFor, all_listed, all_parts}
 
 -- 1. Chains of rules.

@@ -9,7 +9,7 @@ use Rattle.audit_core.specs.declared.kind.Kind.{Kind}
 use Rattle.audit_core.specs.declared.kind.Kind.TheVariants.{Alone, AfterSwap, AfterBoth}
 use Rattle.audit_core.specs.Findings.{DifferSomewhere}
 use Rattle.audit_core.specs.inner.Pairs.{AreSame, IsDifferent}
-use Rattle.audit_core.specs.Verdicts.{GivesOne}
+use Rattle.rules_space.specs.Verdicts.{GivesOne}
 use Rattle.audit_core.specs.inner.Sides.{AgreeAlways}
 use Rattle.audit_core.specs.inner.Faults.{AreRight}
 use Rattle.audit_core.specs.laws.FindingLaws.{trace_packets}
@@ -17,7 +17,7 @@ use Rattle.audit_core.specs.laws.ListLaws.{agree_not_differ, differ_on}
 use Rattle.audit_core.specs.Lists.{front_of, list_of}
 use Rattle.header_space.specs.Owners.{owners_of}
 use Rattle.audit_core.specs.Pairs.{AreDifferences, Case, DiffersAt, IsDifference, all_cases}
-use Rattle.audit_core.specs.Rules.{filter_of}
+use Rattle.rules_space.specs.Rules.{filter_of}
 use Rattle.audit_core.specs.Sides.{Differ, AreEquivalent, Sides, permits_reply_to, permits}
 use Rattle.audit_core.proofs.ExpectedLaws.{expected_where_agree}
 use Rattle.audit_core.proofs.JudgingLemmas.{agree_where_right, right_from}

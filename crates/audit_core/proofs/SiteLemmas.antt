@@ -1,14 +1,12 @@
 -- The law of classes for a description: packets that its parts do not separate belong to the same flow, by its services.
-use Rattle.std.proofs.Common.{◌≡◌, ◌≢◌, ℕ, suc, ◌+◌, ◌<◌, Bool, true, false, cond, ◌&&◌, ◌||◌, ◌==◌, List, [], ◌∷◌, Option, Some, None, map, length, refl, sym, ap, subst, ◌∙◌, arith, true≢false}
-use Rattle.std.specs.Prelude.{if◌then◌else◌}
+use Rattle.std.proofs.Common.{◌≡◌, ℕ, ◌+◌, Bool, true, false, cond, ◌&&◌, ◌||◌, List, [], ◌∷◌, Option, Some, None, map, length, refl, sym, ap, ◌∙◌, true≢false}
 use Rattle.std.specs.List.{AllByRecursion, flat_map, list_any, position_from}
 use Rattle.std.specs.Option.{option_or, option_map_or}
-use Rattle.std.proofs.lemmas.Bool.Decides.{nat_tests}
 use Rattle.host_net.specs.declared.packet.Packet.{Packet}
 use Rattle.host_net.specs.declared.prefix.Prefix.{Prefix}
 use Rattle.host_net.specs.declared.service.Service.{Service}
 use Rattle.host_net.specs.Prefix.{covers}
-use Rattle.host_net.specs.Host.{Host, covers_any, prefix_owner_of, owner_of, rest_of}
+use Rattle.host_net.specs.Host.{Host, covers_any, owner_of, rest_of}
 use Rattle.host_net.specs.Hosts.{all_prefixes}
 use Rattle.host_net.specs.Service.{is_served, serves}
 use Rattle.host_net.specs.Services.{services_of}
@@ -16,10 +14,11 @@ use Rattle.host_net.specs.Site.{Site}
 use Rattle.flow_set.specs.declared.flow.Flow.{Flow}
 use Rattle.flow_set.specs.EveryFlow.{every_flow}
 use Rattle.flow_set.proofs.EveryFlowLaws.{IsFull-every_flow}
-use Rattle.flow_set.specs.Flow.{IsFlow, same_flow}
+use Rattle.flow_set.specs.Flow.{same_flow}
 use Rattle.flow_set.specs.laws.FlowLaws.{same_fact}
 use Rattle.flow_set.specs.FlowSet.{has}
 use Rattle.pkt_core.specs.FlowPolicy.{flow_of, flow_of_owners, is_of}
+use Rattle.policy_space.proofs.FlowLaws.{flow_is_one}
 use Rattle.audit_core.specs.Parts.{Addresses, flow_services, service_parts, site_parts}
 use Rattle.audit_core.proofs.PartLemmas.{AreAlikeFor, IsAlikeFor, all_listed, all_parts}
 
@@ -43,24 +42,6 @@ holder_alike (h ∷ hosts) k a b alike =
 owner_alike : (hosts : List Host) (a b : ℕ) → AllByRecursion (λ p. covers p a ≡ covers p b) (all_prefixes hosts) → owner_of hosts a ≡ owner_of hosts b
 unfolding owner_of
 owner_alike hosts a b all = ap (λ (o : Option ℕ). option_or o (rest_of hosts)) (holder_alike hosts 0 a b all)
-
-place_below : (test : Host → Bool) (k : ℕ) (hs : List Host) (i : ℕ) → position_from test k hs ≡ Some i → i < k + length hs
-place_below test k [] i found = cc
-place_below test k (h ∷ hs) i found = by_test (test h) (place_below test (k + 1) hs i) found
-  where
-    by_test : (b : Bool) → (position_from test (k + 1) hs ≡ Some i → i < k + 1 + length hs) → cond b (Some k) (position_from test (k + 1) hs) ≡ Some i
-        → i < k + suc (length hs)
-    by_test true later found = let same : k ≡ i = cc in omega arith
-    by_test false later found = let below = later found in omega arith
-
--- An owner is one of the hosts.
-pub owner_below : (hosts : List Host) (a i : ℕ) → owner_of hosts a ≡ Some i → i < length hosts
-unfolding owner_of
-owner_below hosts a i owned = by_holder (prefix_owner_of hosts a) refl owned
-  where
-    by_holder : (o : Option ℕ) → prefix_owner_of hosts a ≡ o → option_or o (rest_of hosts) ≡ Some i → i < length hosts
-    by_holder None is found = let below = place_below (λ h. h.rest) 0 hosts i found in omega arith
-    by_holder (Some j) is found = let below = place_below (λ h. covers_any h.prefixes a) 0 hosts i (is ∙ found) in omega arith
 
 -- A property of all elements that are listed for flows holds for the elements that are listed for one of the flows.
 all_of_flow : {X : Type 0} (P : X → Type 0) (listed : Flow → List X) (fs : List Flow) (f : Flow) → has fs f ≡ true
@@ -97,26 +78,6 @@ flow_alike site p q alike =
     let src = owner_alike site.hosts p.src q.src (mapped (IsAlikeFor p q) (λ x. covers x p.src ≡ covers x q.src) Addresses all (λ x same. same.0) prefixes) in
     let dst = owner_alike site.hosts p.dst q.dst (mapped (IsAlikeFor p q) (λ x. covers x p.dst ≡ covers x q.dst) Addresses all (λ x same. same.1) prefixes) in
     λ i. flow_of_owners (src i) (dst i)
-
--- The flow of a packet is a flow between hosts.
-pub flow_is_one : (hosts : List Host) (p : Packet) (f : Flow) → flow_of hosts p ≡ Some f → IsFlow (length hosts) f
-flow_is_one hosts p f is = by_owners (owner_of hosts p.src) (owner_of hosts p.dst) refl refl is
-  where
-    by_test : (i j : ℕ) (b : Bool) → (i == j) ≡ b → i < length hosts → j < length hosts → (if b then None else Some (record { from = i; to = j })) ≡ Some f
-        → IsFlow (length hosts) f
-    by_test i j true test low high is = let no : ⊥ = cc in absurd no
-    by_test i j false test low high is =
-        let from : i ≡ f.from = ap (λ (o : Option Flow). option_map_or (λ g. g.from) o 0) is in
-        let to : j ≡ f.to = ap (λ (o : Option Flow). option_map_or (λ g. g.to) o 0) is in
-        (omega (arith, from, low), omega (arith, to, high), (λ same. true≢false (sym (equal (from ∙ same ∙ sym to)) ∙ test)))
-      where
-        equal : i ≡ j → (i == j) ≡ true
-        equal e = grind (arith, nat_tests)
-
-    by_owners : (from to : Option ℕ) → owner_of hosts p.src ≡ from → owner_of hosts p.dst ≡ to → flow_of_owners from to ≡ Some f → IsFlow (length hosts) f
-    by_owners None to here there is = let no : ⊥ = cc in absurd no
-    by_owners (Some i) None here there is = let no : ⊥ = cc in absurd no
-    by_owners (Some i) (Some j) here there is = by_test i j (i == j) refl (owner_below hosts p.src i here) (owner_below hosts p.dst j there) is
 
 of_flow_alike : (site : Site) (flows : List Flow) (p q : Packet) (flow : Option Flow) → AllByRecursion (SameService p q) (flow_services site)
     → ((f : Flow) → flow ≡ Some f → has (every_flow (length site.hosts)) f ≡ true)

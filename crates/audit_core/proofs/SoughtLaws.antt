@@ -12,12 +12,12 @@ use Rattle.audit_core.specs.Cuts.{cuts_between, parts_between}
 use Rattle.header_space.proofs.SeekLaws.{not_before}
 use Rattle.audit_core.specs.Findings.{IsFirstTrace, events_of, trace_of}
 use Rattle.audit_core.specs.Places.{IsClassPacket, representatives_of}
-use Rattle.audit_core.specs.Rules.{filter_of}
+use Rattle.rules_space.specs.Rules.{filter_of}
 use Rattle.audit_core.specs.Lists.{front_of, list_of}
 use Rattle.audit_core.specs.Pairs.{DiffersAt}
 use Rattle.audit_core.specs.Sides.{Differ, Sides, permits_reply_to, permits}
 use Rattle.audit_core.specs.inner.Findings.{IsFinding}
-use Rattle.audit_core.specs.Verdicts.{GivesOne}
+use Rattle.rules_space.specs.Verdicts.{GivesOne}
 use Rattle.audit_core.proofs.FindingOnceLaws.{ordered}
 use Rattle.audit_core.specs.inner.Faults.{IsFirstKind, IsLeastFault, IsSought}
 use Rattle.audit_core.specs.laws.ListLaws.{differ_on}

@@ -8,9 +8,6 @@ pub mod Pairs
 pub mod Parts
 pub mod Places
 pub mod Ranges
-pub mod Rules
-pub mod RulesView
 pub mod Sides
-pub mod Verdicts
 pub mod inner
 pub mod laws

@@ -1,6 +1,6 @@
 -- The differences between the rules and a policy, by pairs of owners. A pair is the owner of the source and the owner of the destination of
 -- a packet.
-use Rattle.std.specs.Prelude.{◌≡◌, ℕ, ◌++◌, Bool, true, false, List, [], ◌∷◌, Option, Some, None}
+use Rattle.std.specs.Prelude.{◌≡◌, ℕ, ◌++◌, Bool, true, false, List, [], ◌∷◌, Option}
 use Rattle.std.specs.List.{Contains, flat_map}
 use Rattle.host_net.specs.declared.packet.Packet.{Packet}
 use Rattle.host_net.specs.Host.{owner_of}

@@ -13,7 +13,7 @@ use Rattle.ipt_rules.specs.declared.rule.ProtoMatch.{ProtoMatch}
 use Rattle.ipt_rules.specs.declared.rule.Rule.{Rule}
 use Rattle.ipt_rules.specs.Rules.{all_rules}
 use Rattle.ofp_rules.specs.declared.entry.Entry.{Entry}
-use Rattle.audit_core.specs.Rules.{Rules, Chains, Entries}
+use Rattle.rules_space.specs.Rules.{Rules, Chains, Entries}
 
 pub data Part : Type 0 where
   Addresses : Prefix → Part

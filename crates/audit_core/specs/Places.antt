@@ -2,7 +2,8 @@
 use Rattle.std.specs.Prelude.{ℕ, ◌*◌, ◌^◌, List, length}
 use Rattle.std.specs.List.{Contains}
 use Rattle.host_net.specs.declared.packet.Packet.{Packet}
-use Rattle.audit_core.specs.Classes.{is_among, numbers_where, represents_protocol}
+use Rattle.audit_core.specs.Classes.{is_among, represents_protocol}
+use Rattle.rules_space.specs.Numbers.{numbers_where}
 use Rattle.audit_core.specs.Cuts.{Cuts, cuts_between}
 use Rattle.audit_core.specs.Sides.{Sides}
 

@@ -12,7 +12,7 @@ use Rattle.pkt_core.specs.Filter.{ForwardsAsExpected}
 use Rattle.pkt_core.specs.FlowPolicy.{is_of}
 use Rattle.audit_core.specs.Agreement.{AgreeOn, DifferOn}
 use Rattle.audit_core.specs.Lists.{DifferAfter}
-use Rattle.audit_core.specs.Rules.{Rules, filter_of}
+use Rattle.rules_space.specs.Rules.{Rules, filter_of}
 
 -- The two sides: a policy between hosts, with the services of its flows, and rules.
 pub record Sides : Type 0 where

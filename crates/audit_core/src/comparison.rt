@@ -7,7 +7,7 @@ ghost use Rattle.audit_core.specs.Findings.{DifferSomewhere};
 ghost use Rattle.audit_core.specs.inner.Findings.{IsFinding, IsRefused};
 ghost use Rattle.audit_core.specs.inner.Faults.{IsSought};
 ghost use Rattle.audit_core.specs.Places.{class_count, most_classes};
-ghost use Rattle.audit_core.specs.RulesView.{rules_of};
+ghost use Rattle.rules_space.specs.RulesView.{rules_of};
 ghost use Rattle.audit_core.specs.Sides.{sides_of};
 
 use crate::fault::{are_right, fault_of};
@@ -15,10 +15,10 @@ use crate::finding::{AuditRefusal, Finding};
 use crate::kind::Kind;
 use crate::named::named_between;
 use crate::part::Part;
-use crate::text::Text;
 use flow_set::FlowSet;
 use host_net::{Hosts, Services};
 use pkt_core::FlowPolicy;
+use rules_space::RulesRef;
 use std::alloc::{AllocError, Global};
 
 const MOST_CLASSES: u128 = 4_000_000;
@@ -31,7 +31,7 @@ pub fn audit(
     services: &Services,
     p: &FlowSet,
     s: &FlowSet,
-    text: &Text<'_>,
+    text: &RulesRef<'_>,
 ) -> Result<Finding, AuditRefusal>
     requires permitted { p.now.size ≡ length hosts.now }
     requires stateful { s.now.size ≡ length hosts.now }
@@ -53,7 +53,7 @@ pub fn audit(
 pub fn audit_policy(
     alloc: Global,
     policy: &FlowPolicy<'_>,
-    text: &Text<'_>,
+    text: &RulesRef<'_>,
 ) -> Result<Finding, AuditRefusal>
     // The two sides agree on every list of events, or this is the first short list on which they differ.
     ensures found { IfOk result (IsFinding (sides_of policy.now.site policy.now.permitted policy.now.stateful (rules_of text.now))) }
@@ -73,7 +73,7 @@ pub fn audit_policy(
 pub fn compare_policy(
     alloc: Global,
     policy: &FlowPolicy<'_>,
-    text: &Text<'_>,
+    text: &RulesRef<'_>,
 ) -> Result<Finding, AllocError>
     // The two sides agree on every list of events, or this is the first short list on which they differ.
     ensures found { IfOk result (IsFinding (sides_of policy.now.site policy.now.permitted policy.now.stateful (rules_of text.now))) }
@@ -88,7 +88,7 @@ pub fn compare_policy(
 fn count_classes(
     alloc: Global,
     policy: &FlowPolicy<'_>,
-    text: &Text<'_>,
+    text: &RulesRef<'_>,
 ) -> Result<u128, AllocError>
     ensures { IfOk result (λ count. count ≡ class_count (sides_of policy.now.site policy.now.permitted policy.now.stateful (rules_of text.now))) }
 {

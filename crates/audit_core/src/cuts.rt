@@ -1,7 +1,8 @@
 //! The cuts of ranges, which divide addresses and ports into classes, and the protocols.
 
 ghost use Rattle.std.specs.Prelude.{◌≡◌, ◌++◌, ◌^◌, OnOk};
-ghost use Rattle.audit_core.specs.Classes.{is_among, numbers_where};
+ghost use Rattle.audit_core.specs.Classes.{is_among};
+ghost use Rattle.rules_space.specs.Numbers.{numbers_where};
 ghost use Rattle.audit_core.specs.Ranges.{range_cuts};
 
 use std::alloc::AllocError;

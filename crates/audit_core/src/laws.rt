@@ -15,8 +15,8 @@ ghost use Rattle.audit_core.specs.Cuts.{Cuts, cuts_between};
 ghost use Rattle.audit_core.specs.inner.Cuts.{AreOneClass};
 ghost use Rattle.audit_core.specs.inner.Findings.{IsFinding};
 ghost use Rattle.audit_core.specs.Places.{IsClassPacket, representatives_of};
-ghost use Rattle.audit_core.specs.Rules.{Entries, filter_of};
-ghost use Rattle.audit_core.specs.Verdicts.{GivesOne};
+ghost use Rattle.rules_space.specs.Rules.{Entries, filter_of};
+ghost use Rattle.rules_space.specs.Verdicts.{GivesOne};
 ghost use Rattle.audit_core.specs.Sides.{Agree, AreEquivalent, AreSafe, Sides, permits_reply_to, permits};
 ghost use Rattle.audit_core.specs.inner.Sides.{AgreeAlways, AgreeShortly};
 

@@ -13,10 +13,8 @@ mod list_end;
 mod named;
 mod pairs;
 mod part;
-mod policy_box;
 mod report;
 mod sources;
-mod text;
 
 pub use comparison::{audit, audit_policy, compare_policy};
 pub use difference::Difference;
@@ -24,6 +22,5 @@ pub use finding::{AuditRefusal, Finding, Trace};
 pub use kind::Kind;
 pub use laws::{classes_are_uniform, equal_is_expected, short_lists_suffice};
 pub use pairs::compare_pairs;
-pub use policy_box::is_of_within;
 pub use report::{classes_line, finding_text, push_address, push_packet_text};
-pub use text::Text;
+pub use rules_space::RulesRef as Text;

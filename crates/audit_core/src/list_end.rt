@@ -7,10 +7,10 @@ ghost use Rattle.host_net.specs.declared.packet.CtState.TheVariants.{New};
 ghost use Rattle.host_net.specs.Packet.{IsPacket, swap_of};
 ghost use Rattle.header_space.specs.Boxes.{IsBox, IsIn, Narrows};
 ghost use Rattle.header_space.specs.Cuts.{IsCutOf};
-ghost use Rattle.audit_core.specs.Rules.{filter_of};
+ghost use Rattle.rules_space.specs.Rules.{filter_of};
 ghost use Rattle.audit_core.specs.Sides.{permits_reply_to, permits};
 ghost use Rattle.audit_core.specs.declared.difference.Direction.{Direction};
-ghost use Rattle.audit_core.specs.inner.Parts.{HaveFlow};
+ghost use Rattle.policy_space.specs.inner.Flows.{HaveFlow};
 ghost use Rattle.audit_core.specs.inner.Faults.{expected_at};
 ghost use Rattle.audit_core.specs.inner.Pairs.{DiffersBy, DiffersSo, EndsBy, HaveSameEnds, HoldsOf, state_after};
 

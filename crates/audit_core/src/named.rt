@@ -7,15 +7,15 @@ ghost use Rattle.host_net.specs.Services.{services_of};
 ghost use Rattle.ipt_rules.specs.Rules.{all_rules};
 ghost use Rattle.audit_core.specs.inner.Named.{AreMore, IsNamedBy};
 ghost use Rattle.audit_core.specs.Parts.{Addresses, Protocol, Ports, address_parts, entry_parts, flow_services, number_parts, one_port_parts, port_parts, prefix_parts, protocol_parts, rule_parts, rules_parts, service_parts, site_parts};
-ghost use Rattle.audit_core.specs.RulesView.{rules_of};
+ghost use Rattle.rules_space.specs.RulesView.{rules_of};
 
 use crate::cuts::{push_addresses, push_ports};
-use crate::text::Text;
 use flow_set::FlowSet;
 use host_net::{Hosts, Prefix, Service, Services};
 use ipt_rules::{AddrMatch, PortMatch, ProtoMatch, Rule, Ruleset};
 use ofp_rules::{Entry, Table};
 use pkt_core::FlowPolicy;
+use rules_space::RulesRef;
 use std::alloc::{AllocError, Global};
 
 /// The cuts of the ranges, the first cuts, and the protocols that a description and rules name, in no order.
@@ -30,7 +30,7 @@ pub(crate) struct Found {
 pub(crate) fn named_between(
     alloc: Global,
     policy: &FlowPolicy<'_>,
-    text: &Text<'_>,
+    text: &RulesRef<'_>,
 ) -> Result<Found, AllocError>
     ensures { IfOk result (IsNamedBy (site_parts policy.now.site ++ rules_parts (rules_of text.now))) }
 {
@@ -111,12 +111,12 @@ fn push_service(found: &mut Found, service: Service) -> Result<(), AllocError>
     Ok(())
 }
 
-fn push_text(found: &mut Found, text: &Text<'_>) -> Result<(), AllocError>
+fn push_text(found: &mut Found, text: &RulesRef<'_>) -> Result<(), AllocError>
     ensures { OnOk result (AreMore (rules_parts (rules_of text.now)) found.old found.new) }
 {
     match text {
-        Text::Ipt(rules) => push_rules(found, rules),
-        Text::Ofp(table) => push_entries(found, table),
+        RulesRef::Ipt(rules) => push_rules(found, rules),
+        RulesRef::Ofp(table) => push_entries(found, table),
     }
 }
 

@@ -8,7 +8,7 @@ ghost use Rattle.audit_core.specs.Pairs.{AreDifferences, IsComplete, case_of, ca
 ghost use Rattle.audit_core.specs.Sides.{Sides, sides_of};
 ghost use Rattle.header_space.specs.Owners.{AreOwned, HasRanges, IsOwned};
 ghost use Rattle.audit_core.specs.inner.Pairs.{AreAdded, HasRange, IsSender};
-ghost use Rattle.audit_core.specs.RulesView.{rules_of};
+ghost use Rattle.rules_space.specs.RulesView.{rules_of};
 
 use crate::difference::{Difference, Direction};
 use crate::fault::are_right;
@@ -16,9 +16,9 @@ use crate::finding::Trace;
 use crate::kind::Kind;
 use crate::part::Part;
 use crate::sources::Sender;
-use crate::text::Text;
 use header_space::{Owned, all_owned};
 use pkt_core::FlowPolicy;
+use rules_space::RulesRef;
 use std::alloc::{AllocError, Global};
 
 /// Compares rules with a policy for each pair of owners. The owners are the hosts in their order and, last,
@@ -29,7 +29,7 @@ use std::alloc::{AllocError, Global};
 pub fn compare_pairs(
     alloc: Global,
     policy: &FlowPolicy<'_>,
-    text: &Text<'_>,
+    text: &RulesRef<'_>,
 ) -> Result<Vec<Difference>, AllocError>
     ensures differences { IfOk result (λ list. AreDifferences (sides_of policy.now.site policy.now.permitted policy.now.stateful (rules_of text.now)) list.items) }
     ensures complete { IfOk result (λ list. IsComplete (sides_of policy.now.site policy.now.permitted policy.now.stateful (rules_of text.now)) list.items) }

@@ -7,64 +7,51 @@ ghost use Rattle.header_space.specs.Boxes.{IsBox, IsIn, Narrows};
 ghost use Rattle.header_space.specs.Cuts.{IsCutOf};
 ghost use Rattle.pkt_core.specs.inner.FlowPolicy.{IsFlowPolicy};
 ghost use Rattle.audit_core.specs.inner.Faults.{HasFault, IsFault, expected_at, is_asked};
-ghost use Rattle.audit_core.specs.Verdicts.{GivesOne, HaveSameVerdicts};
-ghost use Rattle.audit_core.specs.inner.Parts.{HaveFlow, HaveSameFaults, IsPartOf};
-ghost use Rattle.audit_core.specs.Rules.{Chains, filter_of};
-ghost use Rattle.audit_core.specs.RulesView.{rules_of};
+ghost use Rattle.rules_space.specs.Verdicts.{GivesOne, HaveSameVerdicts};
+ghost use Rattle.policy_space.specs.inner.Flows.{HaveFlow};
+ghost use Rattle.audit_core.specs.inner.Parts.{HaveSameFaults, IsPartOf};
+ghost use Rattle.rules_space.specs.Rules.{Chains, filter_of};
+ghost use Rattle.rules_space.specs.RulesView.{rules_of};
 ghost use Rattle.audit_core.specs.Sides.{permits, sides_of};
 
 use crate::fault::state_in;
 use crate::kind::Kind;
-use crate::policy_box::{answers_are_of_within_flow, flow_within, is_of_within_flow};
-use crate::text::Text;
 use flow_set::Flow;
 use header_space::{Cut, PacketBox};
 use host_net::CtState;
-use ipt_rules::Slice;
 use pkt_core::FlowPolicy;
+use policy_space::{answers_are_of_within_flow, flow_within, is_of_within_flow};
+use rules_space::{HeldRules, RulesRef};
 use std::alloc::{AllocError, Global};
 use std::marker::Model;
-
-/// All rules, or the rules of a slice.
-#[derive(Drop)]
-enum Held<'a> {
-    Whole(Text<'a>),
-    Own(Slice),
-    Lent(&'a Slice),
-}
 
 /// The two sides, with all rules or with the rules of a slice.
 #[derive(Drop)]
 pub(crate) struct Part<'a> {
     policy: &'a FlowPolicy<'a>,
-    rules: Held<'a>,
+    rules: HeldRules<'a>,
 }
 
 impl<'a> Model for Part<'a> {
-    ghost use Rattle.audit_core.specs.Rules.{filter_of};
-    ghost use Rattle.audit_core.specs.Verdicts.{GivesOne};
-    ghost use Rattle.audit_core.specs.RulesView.{part_rules};
     ghost use Rattle.audit_core.specs.Sides.{Sides, sides_of};
 
     ghost Value = { Sides };
 
-    ghost view = { λ s. sides_of s.policy.now.site s.policy.now.permitted s.policy.now.stateful (part_rules s.rules) };
-
-    ghost invariant = { λ s. GivesOne (filter_of (part_rules s.rules)) };
+    ghost view = { λ s. sides_of s.policy.now.site s.policy.now.permitted s.policy.now.stateful s.rules };
 }
 
 impl<'a> Part<'a> {
     /// Returns the sides with all rules.
-    pub(crate) fn whole(policy: &'a FlowPolicy<'a>, text: Text<'a>) -> Part<'a>
-        ensures sides { result ≡ sides_of policy.now.site policy.now.permitted policy.now.stateful (rules_of text.entry) }
+    pub(crate) fn whole(policy: &'a FlowPolicy<'a>, rules: RulesRef<'a>) -> Part<'a>
+        ensures sides { result ≡ sides_of policy.now.site policy.now.permitted policy.now.stateful (rules_of rules.entry) }
         ensures policy { IsFlowPolicy policy.now }
-        ensures gives { GivesOne (filter_of (rules_of text.entry)) }
+        ensures gives { GivesOne (filter_of (rules_of rules.entry)) }
     {
         // These calls make known the invariant of a policy, and that a packet passes or does not.
-        let (_count, _rules) = (policy.count(), text.rules());
+        let (_count, _rules) = (policy.count(), rules.rules());
         Part {
             policy,
-            rules: Held::Whole(text),
+            rules: HeldRules::whole(rules),
         }
     }
 
@@ -74,11 +61,7 @@ impl<'a> Part<'a> {
     {
         Part {
             policy: self.policy,
-            rules: match &self.rules {
-                Held::Whole(text) => Held::Whole(*text),
-                Held::Own(slice) => Held::Lent(slice),
-                Held::Lent(slice) => Held::Lent(slice),
-            },
+            rules: self.rules.by_ref(),
         }
     }
 
@@ -86,8 +69,7 @@ impl<'a> Part<'a> {
     pub(crate) fn gives_one(&self)
         ensures { GivesOne (filter_of self.now.rules) }
     {
-        // The use of this field makes the invariant known.
-        let _policy = &self.policy;
+        self.rules.gives_one();
     }
 
     /// Returns the sides with the slice of the rules for the packets of a box, if it is worth its cost.
@@ -99,27 +81,12 @@ impl<'a> Part<'a> {
         ensures faults { IfOk result (λ part. IfSome part (HaveSameFaults within.now self.now)) }
         ensures part { IfOk result (λ part. IfSome part (IsPartOf within.now self.now)) }
     {
-        match self.slice(alloc, within)? {
+        match self.rules.slice(alloc, within)? {
             None => Ok(None),
-            Some(slice) => {
-                // This call makes known that a packet passes by the slice or does not.
-                let _rules = slice.rules();
-                Ok(Some(Part {
-                    policy: self.policy,
-                    rules: Held::Own(slice),
-                }))
-            }
-        }
-    }
-
-    /// Returns the slice of the rules for the packets of a box, if it is worth its cost.
-    fn slice(&self, alloc: Global, within: &PacketBox) -> Result<Option<Slice>, AllocError>
-        ensures { IfOk result (λ slice. IfSome slice (λ chains. HaveSameVerdicts within.now self.now.rules (Chains chains))) }
-    {
-        match &self.rules {
-            Held::Whole(text) => text.slice(alloc, within),
-            Held::Own(slice) => slice.slice(alloc, within),
-            Held::Lent(slice) => slice.slice(alloc, within),
+            Some(rules) => Ok(Some(Part {
+                policy: self.policy,
+                rules,
+            })),
         }
     }
 
@@ -143,11 +110,7 @@ impl<'a> Part<'a> {
         ensures part { Narrows within.old within.new }
         ensures passes { (p : Packet) → IsIn within.new p → filter_of self.now.rules state p result }
     {
-        match &self.rules {
-            Held::Whole(text) => text.passes_within(within, state),
-            Held::Own(slice) => slice.verdict_within(within, state).is_forward(),
-            Held::Lent(slice) => slice.verdict_within(within, state).is_forward(),
-        }
+        self.rules.passes_within(within, state)
     }
 
     /// Returns the flow of the packets of a box.

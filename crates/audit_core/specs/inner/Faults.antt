@@ -13,7 +13,7 @@ use Rattle.audit_core.specs.declared.finding.Finding.{Finding}
 use Rattle.audit_core.specs.declared.finding.Finding.TheVariants.{Equal, Differ as Differing}
 use Rattle.audit_core.specs.declared.finding.Trace.{Trace}
 use Rattle.audit_core.specs.Findings.{place_of, trace_of}
-use Rattle.audit_core.specs.Rules.{filter_of}
+use Rattle.rules_space.specs.Rules.{filter_of}
 use Rattle.audit_core.specs.Sides.{Sides, permits_reply_to, permits}
 
 abbrev pub state_in : Kind → CtState

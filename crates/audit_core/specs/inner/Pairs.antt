@@ -21,7 +21,7 @@ use Rattle.audit_core.specs.declared.sources.Sender.{Sender}
 use Rattle.audit_core.specs.declared.sources.Source.{Source}
 use Rattle.audit_core.specs.inner.Faults.{expected_at}
 use Rattle.audit_core.specs.Pairs.{Case, AreListedFor, DiffersAt}
-use Rattle.audit_core.specs.Rules.{Rules, filter_of}
+use Rattle.rules_space.specs.Rules.{Rules, filter_of}
 use Rattle.audit_core.specs.Sides.{Sides}
 
 -- ---- The end of a list

@@ -1,13 +1,10 @@
 -- Sides with the same verdicts on the packets of a box. Callers use `Findings` instead.
-use Rattle.std.specs.Prelude.{◌≡◌, ◌↔◌, List, Option}
+use Rattle.std.specs.Prelude.{◌≡◌, ◌↔◌}
 use Rattle.host_net.specs.declared.packet.Packet.{Packet}
-use Rattle.host_net.specs.Host.{Host}
-use Rattle.flow_set.specs.declared.flow.Flow.{Flow}
 use Rattle.header_space.specs.declared.packet_box.PacketBox.{PacketBox}
 use Rattle.header_space.specs.Boxes.{IsIn}
-use Rattle.pkt_core.specs.FlowPolicy.{flow_of}
 use Rattle.audit_core.specs.declared.kind.Kind.{Kind}
-use Rattle.audit_core.specs.Verdicts.{HaveSameVerdicts}
+use Rattle.rules_space.specs.Verdicts.{HaveSameVerdicts}
 use Rattle.audit_core.specs.Sides.{Sides, sides_of}
 use Rattle.audit_core.specs.inner.Faults.{IsFault}
 
@@ -19,7 +16,3 @@ HaveSameFaults b sides others = (p : Packet) → IsIn b p → (kind : Kind) → 
 pub record IsPartOf (b : PacketBox) (sides part : Sides) : Type 0 where
   pub policy : part ≡ sides_of sides.site sides.permitted sides.stateful part.rules
   pub verdicts : HaveSameVerdicts b sides.rules part.rules
-
--- All packets of the box belong to this flow, or to no flow if it is `None`.
-abbrev pub HaveFlow : List Host → PacketBox → Option Flow → Type 0
-HaveFlow hosts b flow = (p : Packet) → IsIn b p → flow_of hosts p ≡ flow

@@ -4,7 +4,7 @@ use Rattle.host_net.specs.declared.packet.Packet.{Packet}
 use Rattle.pkt_core.specs.declared.event.Event.{Event}
 use Rattle.pkt_core.specs.Filter.{ArePackets}
 use Rattle.audit_core.specs.inner.Agreement.{AgreeAt}
-use Rattle.audit_core.specs.Rules.{filter_of}
+use Rattle.rules_space.specs.Rules.{filter_of}
 use Rattle.audit_core.specs.Sides.{Agree, Sides, permits_reply_to, permits}
 
 -- The two sides agree on the three short lists at a packet.

@@ -13,7 +13,7 @@ use Rattle.audit_core.specs.declared.finding.Trace.{Trace}
 use Rattle.audit_core.specs.Findings.{DifferSomewhere, events_of, trace_of}
 use Rattle.audit_core.specs.inner.Findings.{IsFinding}
 use Rattle.audit_core.specs.laws.ListLaws.{agree_not_differ}
-use Rattle.audit_core.specs.Rules.{filter_of}
+use Rattle.rules_space.specs.Rules.{filter_of}
 use Rattle.audit_core.specs.Sides.{Sides, permits_reply_to, permits}
 
 -- The swap of a packet is a packet.

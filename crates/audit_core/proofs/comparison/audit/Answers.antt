@@ -3,7 +3,7 @@ use Rattle.std.specs.Prelude.{IfOk}
 use Rattle.pkt_core.specs.inner.FlowPolicy.{FlowPolicy}
 use Rattle.audit_core.specs.declared.finding.Finding.TheVariants.{Equal}
 use Rattle.audit_core.specs.Findings.{DifferSomewhere}
-use Rattle.audit_core.specs.RulesView.{rules_of}
+use Rattle.rules_space.specs.RulesView.{rules_of}
 use Rattle.audit_core.specs.Sides.{sides_of}
 use Rattle.audit_core.proofs.comparison.audit.Goals as goal
 

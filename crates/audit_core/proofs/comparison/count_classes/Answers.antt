@@ -1,4 +1,4 @@
-use Rattle.audit_core.specs.RulesView.{rules_of}
+use Rattle.rules_space.specs.RulesView.{rules_of}
 use Rattle.audit_core.specs.Sides.{sides_of}
 use Rattle.audit_core.proofs.AuditLemmas.{count_is}
 use Rattle.audit_core.proofs.comparison.count_classes.Goals as goal

@@ -1,4 +1,5 @@
-use Rattle.audit_core.proofs.FaultLaws.{in_every, packet_in_every, right_where}
+use Rattle.rules_space.proofs.EveryPacketLaws.{in_every, packet_in_every}
+use Rattle.audit_core.proofs.FaultLaws.{right_where}
 use Rattle.audit_core.proofs.fault.fault_of.Goals as goal
 
 pub returns-in-None : goal.returns-in-None

@@ -1,5 +1,5 @@
 use Rattle.audit_core.proofs.ExpectedLaws.{equal_where_expected, expected_where_agree}
-use Rattle.audit_core.specs.Rules.{filter_of}
+use Rattle.rules_space.specs.Rules.{filter_of}
 use Rattle.pkt_core.proofs.AnyTrackingLaws.{forwards_only_expected}
 use Rattle.audit_core.proofs.laws.equal_is_expected.Goals as goal
 

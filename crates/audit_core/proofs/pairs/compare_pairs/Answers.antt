@@ -4,9 +4,9 @@ use Rattle.std.proofs.lemmas.Result.{IfOk-weaker}
 use Rattle.pkt_core.specs.inner.FlowPolicy.{FlowPolicy}
 use Rattle.audit_core.specs.declared.difference.Difference.{Difference}
 use Rattle.audit_core.specs.declared.kind.Kind.{Kind}
-use Rattle.audit_core.specs.declared.text.Text.{Text}
+use Rattle.rules_space.specs.declared.rules_ref.RulesRef.{RulesRef}
 use Rattle.audit_core.specs.Findings.{DifferSomewhere}
-use Rattle.audit_core.specs.RulesView.{rules_of}
+use Rattle.rules_space.specs.RulesView.{rules_of}
 use Rattle.audit_core.specs.Pairs.{AreDifferences, IsComplete}
 use Rattle.audit_core.specs.Sides.{Sides, sides_of}
 use Rattle.audit_core.specs.inner.Faults.{AreRight}
@@ -15,7 +15,7 @@ use Rattle.audit_core.proofs.SameLaws.{none_exactly, none_where_right}
 use Rattle.audit_core.proofs.pairs.compare_pairs.Goals as goal
 
 -- The two sides that are compared.
-abbrev compared : FlowPolicy → Text → Sides
+abbrev compared : FlowPolicy → RulesRef → Sides
 compared policy text = sides_of policy.site policy.permitted policy.stateful (rules_of text)
 
 pub returns-then-branch-clause-differences : goal.returns-then-branch-clause-differences

@@ -5,7 +5,8 @@ use Rattle.header_space.specs.declared.owners.Owned.{Owned}
 use Rattle.header_space.specs.Owners.{IsOwned}
 use Rattle.audit_core.specs.inner.Pairs.{AreAdded}
 use Rattle.audit_core.specs.Pairs.{Case, cases_between}
-use Rattle.audit_core.proofs.NamedLemmas.{listed_more, take_at}
+use Rattle.audit_core.proofs.NamedLemmas.{listed_more}
+use Rattle.rules_space.proofs.ListLaws.{take_at}
 use Rattle.audit_core.proofs.PairLaws.{added_step}
 use Rattle.audit_core.proofs.pairs.push_from.Goals as goal
 

@@ -1,7 +1,7 @@
 use Rattle.std.proofs.Common.{◌∙◌, subst}
 use Rattle.host_net.specs.declared.packet.CtState.{CtState}
 use Rattle.header_space.proofs.BoxLaws.{narrows_in}
-use Rattle.audit_core.specs.Rules.{filter_of}
+use Rattle.rules_space.specs.Rules.{filter_of}
 use Rattle.audit_core.proofs.FaultLaws.{differs, fault_by}
 use Rattle.audit_core.proofs.part.Part.is_fault.Goals as goal
 

@@ -1,7 +1,7 @@
 use Rattle.std.proofs.Common.{Bool, sym, subst}
 use Rattle.host_net.specs.declared.packet.CtState.{CtState}
 use Rattle.header_space.proofs.BoxLaws.{least_in}
-use Rattle.audit_core.specs.Rules.{filter_of}
+use Rattle.rules_space.specs.Rules.{filter_of}
 use Rattle.audit_core.specs.inner.Faults.{Wrong}
 use Rattle.audit_core.proofs.FaultLaws.{fault_said}
 use Rattle.audit_core.proofs.part.Part.trace_at.Goals as goal

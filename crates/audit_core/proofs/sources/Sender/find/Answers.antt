@@ -4,7 +4,7 @@ use Rattle.audit_core.specs.declared.sources.Source.{Source}
 use Rattle.audit_core.specs.inner.Pairs.{DiffersSo, HoldsBetween, HoldsOf, IsFoundBetween, IsSource, ranges_in}
 use Rattle.header_space.proofs.CutLaws.{improves_nowhere}
 use Rattle.audit_core.proofs.BetweenLaws.{sources_more_found}
-use Rattle.audit_core.proofs.NamedLemmas.{take_at}
+use Rattle.rules_space.proofs.ListLaws.{take_at}
 use Rattle.audit_core.proofs.sources.Sender.find.Goals as goal
 
 pub loop-source-init : goal.loop-source-init

@@ -1,0 +1,4 @@
+pub mod EveryPacketLaws
+pub mod ListLaws
+pub mod NumberLaws
+pub mod RulesLaws
