@@ -145,4 +145,7 @@ def why_not() -> str | None:
         return 'only root may make a network namespace'
     missing = [tool for tool in TOOLS if not any(os.access(os.path.join(folder, tool), os.X_OK)
                                                  for folder in os.get_exec_path())]
-    return f'{missing[0]} is missing' if missing else None
+    if missing:
+        return f'{missing[0]} is missing'
+    made = subprocess.run(['unshare', '--net', 'true'], stderr=subprocess.DEVNULL, check=False)
+    return 'this kernel has no namespaces' if made.returncode else None
