@@ -9,7 +9,7 @@ use Rattle.ipt_rules.specs.Chain.{Chain, rules_of}
 use Rattle.ipt_rules.specs.Marks.{is_marked}
 use Rattle.ipt_rules.specs.inner.OneOutcome.{AreDeterministic}
 use Rattle.ipt_rules.proofs.DeadRuleLaws.{same_verdicts}
-use Rattle.audit_core.proofs.FaultLaws.{in_every, packet_in_every}
+use Rattle.rules_space.proofs.EveryPacketLaws.{in_every, packet_in_every}
 use Rattle.pass_core.specs.Dead.{AreDead, AreRemovable, HasForwardRule, IsDead, is_listed}
 use Rattle.pass_core.specs.inner.Meeting.{AreMarked, IsMetWithin, IsUnmarked, MarksMore, MetRules}
 use Rattle.pass_core.specs.inner.Places.{AreBefore}

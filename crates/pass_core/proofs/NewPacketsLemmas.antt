@@ -3,8 +3,8 @@ use Rattle.std.proofs.Common.{◌↔◌, Bool, true, IsTrue, sym, subst, ◌∙�
 use Rattle.host_net.specs.declared.packet.Packet.{Packet}
 use Rattle.host_net.specs.declared.packet.CtState.TheVariants.{New}
 use Rattle.host_net.specs.Packet.{IsPacket}
-use Rattle.audit_core.specs.Rules.{Rules, filter_of}
-use Rattle.audit_core.specs.Verdicts.{GivesOne}
+use Rattle.rules_space.specs.Rules.{Rules, filter_of}
+use Rattle.rules_space.specs.Verdicts.{GivesOne}
 use Rattle.pass_core.specs.NewPackets.{LetsPass}
 
 pub passes_if : (rules : Rules) → GivesOne (filter_of rules) → (p : Packet) → IsPacket p → (b : Bool) → filter_of rules New p b → (IsTrue b ↔ LetsPass rules p)

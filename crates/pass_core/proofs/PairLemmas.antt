@@ -16,7 +16,7 @@ use Rattle.pass_core.specs.declared.passing_range.PassingRange.{PassingRange}
 use Rattle.host_net.specs.Host.{Host}
 use Rattle.header_space.specs.Owners.{AreOwned, GoesBetween, IsOfPair, IsOwned, IsRange, LiesIn, LiesInOne, owners_of}
 use Rattle.header_space.proofs.OwnersLaws.{covered_cases, covered_left, covered_only, covered_owned, covered_right}
-use Rattle.audit_core.proofs.NamedLemmas.{take_at}
+use Rattle.rules_space.proofs.ListLaws.{take_at}
 use Rattle.pass_core.specs.Pairs.{AreListed, AreListedByOwners, AreListedFor, AreListedFrom, IsListedFor}
 use Rattle.pass_core.specs.Passing.{ArePassing, IsExampleOf, IsOfService, IsShown}
 use Rattle.pass_core.specs.Services.{service_count, service_of}

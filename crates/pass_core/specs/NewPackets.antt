@@ -2,7 +2,7 @@
 use Rattle.std.specs.Prelude.{true}
 use Rattle.host_net.specs.declared.packet.Packet.{Packet}
 use Rattle.host_net.specs.declared.packet.CtState.TheVariants.{New}
-use Rattle.audit_core.specs.Rules.{Rules, filter_of}
+use Rattle.rules_space.specs.Rules.{Rules, filter_of}
 
 -- The rules accept the packet as a packet of a new connection.
 abbrev pub LetsPass : Rules → Packet → Type 0

@@ -1,5 +1,4 @@
 pub mod Areas
-pub mod Held
 pub mod Asking
 pub mod Joining
 pub mod Listing

@@ -5,13 +5,13 @@ ghost use Rattle.ipt_rules.specs.ChainTable.{rule_count};
 ghost use Rattle.ipt_rules.specs.inner.RuleParts.{is_rule};
 
 use crate::{dead_rules, passing_between};
-use audit_core::Text;
 use header_space::AddressRange;
 use host_net::Prefix;
 use ipt_rules::{
     AddrMatch, Chains, FORWARD, Place, Policy, PortMatch, ProtoMatch, Rule, Ruleset, StateMatch,
     Target,
 };
+use rules_space::RulesRef;
 use std::alloc::Global;
 use std::process::Abort;
 
@@ -90,7 +90,9 @@ fn services_of_one_destination(rt: HostRuntime) {
         first: SERVER,
         last: SERVER,
     }];
-    let found = passing_between(rt.alloc(), &Text::Ipt(&rules), &from, &to).expect(&rt, "memory");
+    let found = passing_between(rt.alloc(), &RulesRef::Ipt(&rules), &from, &to).expect(
+        &rt, "memory",
+    );
     assert_eq!(rt; found.len(), 2);
     let tcp = &found[0];
     assert_eq!(rt; (tcp.low, tcp.high), (6 * 65536 + 22, 6 * 65536 + 25));
@@ -109,7 +111,9 @@ fn services_of_two_destinations(rt: HostRuntime) {
         first: SERVER,
         last: SERVER + 1,
     }];
-    let found = passing_between(rt.alloc(), &Text::Ipt(&rules), &from, &to).expect(&rt, "memory");
+    let found = passing_between(rt.alloc(), &RulesRef::Ipt(&rules), &from, &to).expect(
+        &rt, "memory",
+    );
     assert_eq!(rt; found.len(), 2);
     let tcp = &found[0];
     assert_eq!(rt; (tcp.low, tcp.high), (6 * 65536 + 22, 6 * 65536 + 25));

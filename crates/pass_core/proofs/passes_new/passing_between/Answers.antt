@@ -1,7 +1,7 @@
 use Rattle.std.proofs.Common.{subst}
 use Rattle.std.specs.Prelude.{IfOk}
 use Rattle.header_space.specs.Owners.{GoesBetween}
-use Rattle.audit_core.specs.Rules.{Rules}
+use Rattle.rules_space.specs.Rules.{Rules}
 use Rattle.pass_core.specs.NewPackets.{LetsPass}
 use Rattle.pass_core.specs.Passing.{ArePassing}
 use Rattle.pass_core.proofs.passes_new.passing_between.Goals as goal

@@ -1,6 +1,6 @@
 use Rattle.std.proofs.lemmas.Result.{IfOk-weaker}
 use Rattle.header_space.proofs.OwnersLaws.{owned_ranges}
-use Rattle.audit_core.specs.RulesView.{rules_of}
+use Rattle.rules_space.specs.RulesView.{rules_of}
 use Rattle.pass_core.specs.NewPackets.{LetsPass}
 use Rattle.pass_core.specs.Pairs.{AreListed, AreListedByOwners}
 use Rattle.pass_core.proofs.PairLemmas.{by_owners}
