@@ -19,8 +19,8 @@ use Rattle.ofp_rules.specs.declared.entry.Entry.{Entry}
 use Rattle.ofp_rules.specs.declared.entry.Frame.{Frame}
 use Rattle.ofp_rules.specs.declared.entry.Frame.TheVariants.{Ipv4}
 use Rattle.ofp_rules.specs.Deciders.{IsDecider as IsEntryDecider}
-use Rattle.audit_core.specs.Rules.{Rules, Chains, Entries, filter_of}
-use Rattle.audit_core.specs.Verdicts.{GivesOne}
+use Rattle.rules_space.specs.Rules.{Rules, Chains, Entries, filter_of}
+use Rattle.rules_space.specs.Verdicts.{GivesOne}
 use Rattle.pass_core.proofs.DeadLemmas.{no_rules}
 use Rattle.decide_core.specs.Deciders.{IsDecider}
 use Rattle.decide_core.specs.inner.Classifying.{HasMarks, HasRule, chain_count, count_in, entry_place, unset_marks}

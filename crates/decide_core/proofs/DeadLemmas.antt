@@ -1,9 +1,5 @@
 -- The unmarked entries are the dead entries.
-use Rattle.std.proofs.Common.{◌≡◌, inl, inr, ℕ, ◌+◌, ◌∙◌, Bool, false, not, List, Option, Some, length, refl, sym, ap, subst, arith}
-use Rattle.std.specs.List.{range_with_len}
-use Rattle.std.specs.List.Sorted.{IsStrictlyIncreasing}
-use Rattle.std.proofs.lemmas.List.FromFn.{get_or-range_with_len, length-range_with_len}
-use Rattle.std.proofs.lemmas.List.Kept.{IsStrictlyIncreasing-filter}
+use Rattle.std.proofs.Common.{◌≡◌, inl, inr, ℕ, ◌∙◌, Bool, false, not, List, Option, Some, length, refl, sym, ap, subst, arith}
 use Rattle.std.proofs.lemmas.Bool.{false_from_ne_true, not-true, true≢false}
 use Rattle.host_net.specs.declared.packet.Packet.{Packet}
 use Rattle.header_space.specs.declared.packet_box.PacketBox.{PacketBox}
@@ -11,25 +7,13 @@ use Rattle.header_space.specs.Boxes.{IsIn, every_packet}
 use Rattle.ipt_rules.specs.declared.marks.Place.{Place}
 use Rattle.ipt_rules.specs.Marks.{is_marked}
 use Rattle.ofp_rules.specs.declared.entry.Entry.{Entry}
-use Rattle.audit_core.specs.Classes.{numbers_where}
-use Rattle.audit_core.specs.Rules.{Entries}
-use Rattle.audit_core.proofs.FaultLaws.{in_every, packet_in_every}
-use Rattle.audit_core.proofs.RepresentativeLemmas.{where_has, where_only}
+use Rattle.rules_space.specs.Rules.{Entries}
+use Rattle.rules_space.proofs.EveryPacketLaws.{in_every, packet_in_every}
+use Rattle.rules_space.proofs.NumberLaws.{where_has, where_only, where_rises}
 use Rattle.decide_core.specs.DeadEntries.{AreDeadEntries, IsDeadEntry}
 use Rattle.decide_core.specs.Deciders.{DecidesOne}
 use Rattle.decide_core.specs.inner.Deciding.{Counts, CountsAmong, Deciding, IsKnown, NotesMoreIn, is_noted}
 use Rattle.decide_core.specs.inner.Marked.{entry_at, unmarked_below}
-
-numbers_rise : (test : ℕ → Bool) (n : ℕ) → IsStrictlyIncreasing (numbers_where test n)
-unfolding numbers_where
-numbers_rise test n = IsStrictlyIncreasing-filter test (range_with_len 0 n) rises
-  where
-    rises : IsStrictlyIncreasing (range_with_len 0 n)
-    rises k within =
-        let long = length-range_with_len 0 n in
-        let here = get_or-range_with_len 0 n k 0 (omega (arith, long, within)) in
-        let there = get_or-range_with_len 0 n (k + 1) 0 (omega (arith, long, within)) in
-        omega (arith, here, there)
 
 module _ (entries : List Entry) (b : PacketBox) (x y : Deciding) (same : x.rules ≡ Entries entries) (every : b ≡ every_packet) (all : x.passing ≡ false)
     (none : (e : Option Place) → is_noted x e ≡ false) (more : NotesMoreIn b x y) (known : (p : Packet) → IsIn b p → IsKnown y p) where
@@ -59,7 +43,7 @@ module _ (entries : List Entry) (b : PacketBox) (x y : Deciding) (same : x.rules
 
   pub are_dead : (n : ℕ) (ks : List ℕ) → n ≡ length entries → ks ≡ unmarked_below y.marks n → AreDeadEntries entries ks
   are_dead n ks count are = subst (AreDeadEntries entries) (sym are) (record {
-    ascending = numbers_rise unmarked n;
+    ascending = where_rises unmarked n;
     exact = λ k. (
       λ found. let is = where_only unmarked n k found in let low = is.0 in (omega (arith, low, count), unmarked_dead k (not-true (is_marked y.marks (entry_at k)) is.1)),
       λ dead. let low = dead.0 in where_has unmarked n k (omega (arith, low, count)) (ap not (dead_unmarked k dead.1)),

@@ -8,7 +8,7 @@ use Rattle.header_space.specs.Boxes.{IsIn}
 use Rattle.ipt_rules.specs.declared.marks.Place.{Place}
 use Rattle.ipt_rules.specs.Marks.{marks_of}
 use Rattle.ipt_rules.proofs.MarkLemmas.{kept_if, marked_if, only_if}
-use Rattle.audit_core.specs.Rules.{Rules}
+use Rattle.rules_space.specs.Rules.{Rules}
 use Rattle.decide_core.specs.declared.deciders.Deciders.{Deciders}
 use Rattle.decide_core.specs.Deciders.{AreDeciders, DecidesOne, IsDecider, IsInOne, PassesAmong}
 use Rattle.decide_core.specs.inner.Deciding.{Counts, CountsAmong, Deciding, HasNoted, IsKnown, NotesMore, NotesMoreIn, is_noted, noted}

@@ -8,8 +8,8 @@ use Rattle.host_net.specs.declared.packet.Packet.{Packet}
 use Rattle.header_space.specs.declared.address_range.AddressRange.{AddressRange}
 use Rattle.header_space.specs.Owners.{HaveAddresses, IsOfPair, owners_of}
 use Rattle.header_space.proofs.OwnersLaws.{covered_owned}
-use Rattle.audit_core.specs.Rules.{Rules}
-use Rattle.audit_core.proofs.NamedLemmas.{take_at}
+use Rattle.rules_space.specs.Rules.{Rules}
+use Rattle.rules_space.proofs.ListLaws.{take_at}
 use Rattle.pass_core.specs.Pairs.{AreListedByOwners, AreListedFor, IsListedFor}
 use Rattle.pass_core.specs.Passing.{IsShown}
 use Rattle.pass_core.specs.Services.{service_count}

@@ -5,7 +5,7 @@ use Rattle.std.proofs.lemmas.Bool.{cases_lt}
 use Rattle.std.proofs.lemmas.Option.{slice_get_within}
 use Rattle.ipt_rules.specs.declared.marks.Place.{Place}
 use Rattle.ipt_rules.specs.Marks.{is_marked, marks_of}
-use Rattle.audit_core.specs.Rules.{Rules}
+use Rattle.rules_space.specs.Rules.{Rules}
 use Rattle.pass_core.specs.inner.Places.{AreBefore}
 use Rattle.pass_core.proofs.PlaceLaws.{all_before, at}
 use Rattle.decide_core.specs.inner.Classifying.{HasMarks, chain_count}

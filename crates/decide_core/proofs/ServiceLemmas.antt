@@ -11,7 +11,7 @@ use Rattle.header_space.specs.declared.address_range.AddressRange.{AddressRange}
 use Rattle.header_space.specs.Owners.{LiesInOne}
 use Rattle.header_space.proofs.OwnersLaws.{covered_cases, covered_left, covered_only, covered_right}
 use Rattle.pass_core.specs.Services.{service_of}
-use Rattle.audit_core.specs.Rules.{Rules}
+use Rattle.rules_space.specs.Rules.{Rules}
 use Rattle.decide_core.specs.declared.deciders.Deciders.{Deciders}
 use Rattle.decide_core.specs.declared.service_block.ServiceBlock.{ServiceBlock}
 use Rattle.decide_core.specs.Deciders.{AreDeciders, DecidesOne, IsInOne, PassesAmong}

@@ -2,7 +2,7 @@
 use Rattle.std.specs.Prelude.{◌≡◌, List, map}
 use Rattle.std.specs.List.{All}
 use Rattle.ipt_rules.specs.declared.marks.Place.{Place}
-use Rattle.audit_core.specs.Rules.{Rules, Chains, Entries}
+use Rattle.rules_space.specs.Rules.{Rules, Chains, Entries}
 use Rattle.pass_core.specs.Dead.{AreDead}
 use Rattle.decide_core.specs.DeadEntries.{AreDeadEntries}
 

@@ -8,7 +8,7 @@ use Rattle.ipt_rules.specs.declared.marks.Place.{Place}
 use Rattle.ipt_rules.specs.Meets.{IsDecider as IsRuleDecider}
 use Rattle.ofp_rules.specs.declared.entry.Frame.TheVariants.{Ipv4}
 use Rattle.ofp_rules.specs.Deciders.{IsDecider as IsEntryDecider}
-use Rattle.audit_core.specs.Rules.{Rules, Chains, Entries, filter_of}
+use Rattle.rules_space.specs.Rules.{Rules, Chains, Entries, filter_of}
 use Rattle.pass_core.specs.Dead.{AreAscending, is_listed}
 use Rattle.decide_core.specs.declared.deciders.Deciders.{Deciders}
 

@@ -4,7 +4,7 @@ use Rattle.std.specs.List.{All}
 use Rattle.host_net.specs.Host.{Host}
 use Rattle.host_net.specs.declared.packet.Packet.{Packet}
 use Rattle.header_space.specs.Owners.{IsOfPair}
-use Rattle.audit_core.specs.Rules.{Rules}
+use Rattle.rules_space.specs.Rules.{Rules}
 use Rattle.pass_core.specs.NewPackets.{LetsPass}
 use Rattle.pass_core.specs.Pairs.{AreListedByOwners}
 use Rattle.pass_core.specs.Services.{service_of}

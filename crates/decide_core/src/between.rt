@@ -4,7 +4,7 @@ ghost use Rattle.std.specs.Prelude.{◌↔◌, ◌<◌, ◌∷◌, [], IfOk};
 ghost use Rattle.std.specs.List.{All};
 ghost use Rattle.host_net.specs.declared.packet.Packet.{Packet};
 ghost use Rattle.header_space.specs.Boxes.{IsBox};
-ghost use Rattle.audit_core.specs.RulesView.{rules_of};
+ghost use Rattle.rules_space.specs.RulesView.{rules_of};
 ghost use Rattle.header_space.specs.Owners.{IsRange};
 ghost use Rattle.pass_core.specs.Services.{service_count};
 ghost use Rattle.decide_core.specs.Deciders.{AreDeciders, IsInOne};
@@ -13,15 +13,15 @@ ghost use Rattle.decide_core.specs.inner.ServiceBoxes.{AddsBoxes};
 
 use crate::deciders::{Deciders, deciders_of};
 use crate::service_block::push_services;
-use audit_core::Text;
 use header_space::{AddressRange, PacketBox};
+use rules_space::RulesRef;
 use std::alloc::{AllocError, Global};
 
 /// Returns the rules that decide new packets from one set of addresses to another such that they pass. Only
 /// packets with services from `low` to `high` count. The number of a service is `65536 * protocol + port`.
 pub fn deciders_between(
     alloc: Global,
-    text: &Text<'_>,
+    text: &RulesRef<'_>,
     from: &[AddressRange],
     to: &[AddressRange],
     low: u32,

@@ -5,17 +5,17 @@ ghost use Rattle.host_net.specs.declared.packet.Packet.{Packet};
 ghost use Rattle.host_net.specs.declared.packet.CtState.TheVariants.{New};
 ghost use Rattle.header_space.specs.Boxes.{IsBox, IsIn, Narrows};
 ghost use Rattle.ipt_rules.specs.declared.marks.Place.{Place};
-ghost use Rattle.audit_core.specs.Rules.{filter_of};
-ghost use Rattle.audit_core.specs.RulesView.{rules_of};
+ghost use Rattle.rules_space.specs.Rules.{filter_of};
+ghost use Rattle.rules_space.specs.RulesView.{rules_of};
 ghost use Rattle.decide_core.specs.Deciders.{IsDecider};
 ghost use Rattle.decide_core.specs.inner.Classifying.{HasRule, chain_count, count_in, entry_place, rules_by};
 
 use crate::ruleset_walk::RulesetWalk;
-use audit_core::Text;
 use header_space::PacketBox;
 use host_net::CtState;
 use ipt_rules::Place;
 use ofp_rules::Table;
+use rules_space::RulesRef;
 use std::alloc::{AllocError, Global};
 
 /// The rules of a rule set or flow table, as a classifier of packets.
@@ -26,25 +26,25 @@ pub(crate) enum Classifier<'a> {
 }
 
 impl<'a> Classifier<'a> {
-    pub(crate) fn new(alloc: Global, text: &Text<'a>) -> Result<Classifier<'a>, AllocError>
+    pub(crate) fn new(alloc: Global, text: &RulesRef<'a>) -> Result<Classifier<'a>, AllocError>
         ensures { IfOk result (λ classifier. rules_by classifier ≡ rules_of text.now) }
     {
         match text {
-            Text::Ipt(rules) => {
+            RulesRef::Ipt(rules) => {
                 let walk = RulesetWalk::new(alloc, rules)?;
                 Ok(Classifier::Ipt(walk))
             }
-            Text::Ofp(table) => Ok(Classifier::Ofp(table)),
+            RulesRef::Ofp(table) => Ok(Classifier::Ofp(table)),
         }
     }
 
     /// Returns the rule set or flow table.
-    fn text(&self) -> Text<'a>
+    fn text(&self) -> RulesRef<'a>
         ensures { rules_of result ≡ rules_by self.now }
     {
         match self {
-            Classifier::Ipt(walk) => Text::Ipt(walk.rules()),
-            Classifier::Ofp(table) => Text::Ofp(table),
+            Classifier::Ipt(walk) => RulesRef::Ipt(walk.rules()),
+            Classifier::Ofp(table) => RulesRef::Ofp(table),
         }
     }
 

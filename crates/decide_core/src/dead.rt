@@ -2,17 +2,17 @@
 
 ghost use Rattle.std.specs.Prelude.{◌≡◌, IfOk, map};
 ghost use Rattle.std.specs.List.{All};
-ghost use Rattle.audit_core.specs.RulesView.{rules_of};
+ghost use Rattle.rules_space.specs.RulesView.{rules_of};
 ghost use Rattle.decide_core.specs.DeadEntries.{AreDeadEntries};
 ghost use Rattle.decide_core.specs.DeadPlaces.{AreDeadPlaces};
 ghost use Rattle.decide_core.specs.inner.Marked.{entry_at};
 
 use crate::deciding::Deciding;
-use audit_core::Text;
 use header_space::{PacketBox, visit_all};
 use ipt_rules::Place;
 use ofp_rules::Table;
 use pass_core::dead_rules;
+use rules_space::RulesRef;
 use std::alloc::{AllocError, Global};
 
 /// Returns the numbers of the dead entries, from 0 and ascending: they decide no IPv4 packet.
@@ -21,7 +21,7 @@ use std::alloc::{AllocError, Global};
 pub fn dead_entries(alloc: Global, table: &Table) -> Result<Vec<u32>, AllocError>
     ensures { IfOk result (λ entries. AreDeadEntries table.now entries.items) }
 {
-    let text = Text::Ofp(table);
+    let text = RulesRef::Ofp(table);
     let mut deciding = Deciding::none(alloc, &text, false)?;
     visit_all(alloc, &mut deciding, PacketBox::every())?;
     let entries = deciding.unmarked_entries(alloc, table.len())?;
@@ -30,12 +30,12 @@ pub fn dead_entries(alloc: Global, table: &Table) -> Result<Vec<u32>, AllocError
 
 /// Returns the places of the dead rules of a text, in ascending order. An entry of a flow table has its number
 /// as its place in chain 0.
-pub fn dead_places(alloc: Global, text: &Text<'_>) -> Result<Vec<Place>, AllocError>
+pub fn dead_places(alloc: Global, text: &RulesRef<'_>) -> Result<Vec<Place>, AllocError>
     ensures { IfOk result (λ places. AreDeadPlaces (rules_of text.now) places.items) }
 {
     match text {
-        Text::Ipt(rules) => dead_rules(alloc, rules),
-        Text::Ofp(table) => dead_entry_places(alloc, table),
+        RulesRef::Ipt(rules) => dead_rules(alloc, rules),
+        RulesRef::Ofp(table) => dead_entry_places(alloc, table),
     }
 }
 

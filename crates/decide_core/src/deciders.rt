@@ -3,13 +3,13 @@
 ghost use Rattle.std.specs.Prelude.{IfOk};
 ghost use Rattle.std.specs.List.{All};
 ghost use Rattle.header_space.specs.Boxes.{IsBox};
-ghost use Rattle.audit_core.specs.RulesView.{rules_of};
+ghost use Rattle.rules_space.specs.RulesView.{rules_of};
 ghost use Rattle.decide_core.specs.Deciders.{AreDeciders, IsInOne};
 
 use crate::deciding::Deciding;
-use audit_core::Text;
 use header_space::PacketBox;
 use ipt_rules::Place;
+use rules_space::RulesRef;
 use std::alloc::{AllocError, Global};
 
 /// The rules that decide packets such that they pass.
@@ -27,7 +27,7 @@ pub struct Deciders {
 /// Costs two traversals for each box of packets that the rules distinguish.
 pub fn deciders_of(
     alloc: Global,
-    text: &Text<'_>,
+    text: &RulesRef<'_>,
     boxes: &[PacketBox],
 ) -> Result<Deciders, AllocError>
     requires { All IsBox boxes.now }

@@ -6,7 +6,7 @@ ghost use Rattle.host_net.specs.declared.packet.Packet.{Packet};
 ghost use Rattle.header_space.specs.Boxes.{IsBox, IsIn, Narrows};
 ghost use Rattle.ipt_rules.specs.declared.marks.Place.{Place};
 ghost use Rattle.ipt_rules.specs.Marks.{marks_of};
-ghost use Rattle.audit_core.specs.RulesView.{rules_of};
+ghost use Rattle.rules_space.specs.RulesView.{rules_of};
 ghost use Rattle.decide_core.specs.Deciders.{IsDecider, IsInOne};
 ghost use Rattle.decide_core.specs.inner.Deciding.{Counts, HasNoted, IsKnown, NotesMoreIn, is_noted, noted};
 ghost use Rattle.decide_core.specs.inner.Marked.{AreMarked, unmarked_below};
@@ -14,9 +14,9 @@ ghost use Rattle.decide_core.specs.inner.Marked.{AreMarked, unmarked_below};
 use crate::classifier::Classifier;
 use crate::marked::{marked_places, unmarked_entries};
 use crate::rule_marks::RuleMarks;
-use audit_core::Text;
 use header_space::{PacketBox, Visitor, visit_all};
 use ipt_rules::Place;
+use rules_space::RulesRef;
 use std::alloc::{AllocError, Global};
 use std::marker::Model;
 
@@ -46,7 +46,7 @@ impl<'a> Deciding<'a> {
     /// Returns the rules with no mark.
     pub(crate) fn none(
         alloc: Global,
-        text: &Text<'a>,
+        text: &RulesRef<'a>,
         passing: bool,
     ) -> Result<Deciding<'a>, AllocError>
         ensures rules { IfOk result (λ d. d.rules ≡ rules_of text.now) }
@@ -67,7 +67,7 @@ impl<'a> Deciding<'a> {
     /// `passing`, else of all.
     pub(crate) fn of(
         alloc: Global,
-        text: &Text<'a>,
+        text: &RulesRef<'a>,
         passing: bool,
         boxes: &[PacketBox],
     ) -> Result<Deciding<'a>, AllocError>

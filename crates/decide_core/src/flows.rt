@@ -3,7 +3,7 @@
 ghost use Rattle.std.specs.Prelude.{◌≡◌, ◌<◌, IfOk, map};
 ghost use Rattle.std.specs.List.{All};
 ghost use Rattle.header_space.specs.Owners.{IsRange};
-ghost use Rattle.audit_core.specs.RulesView.{rules_of};
+ghost use Rattle.rules_space.specs.RulesView.{rules_of};
 ghost use Rattle.pass_core.specs.Services.{service_count};
 ghost use Rattle.decide_core.specs.Deciders.{AreDeciders};
 ghost use Rattle.decide_core.specs.Flows.{AreFlows, AreFlowsOf, AreFlowsOfEach};
@@ -12,10 +12,10 @@ ghost use Rattle.decide_core.specs.inner.Flows.{HasServices};
 
 use crate::between::deciders_between;
 use crate::deciders::Deciders;
-use audit_core::Text;
 use header_space::{AddressRange, ranges_of};
 use host_net::Hosts;
 use pass_core::{PairServices, PassingRange, passing_by_pairs};
+use rules_space::RulesRef;
 use std::alloc::{AllocError, Global};
 
 /// A range of services that pass, wholly or in part, with the rules that let its packets pass.
@@ -39,7 +39,7 @@ pub struct PairFlows {
 /// also of an owner with itself. The owners are the hosts in their order and, last, `None`.
 pub fn flows_by_pairs(
     alloc: Global,
-    text: &Text<'_>,
+    text: &RulesRef<'_>,
     hosts: &Hosts,
 ) -> Result<Vec<PairFlows>, AllocError>
     ensures { IfOk result (λ flows. AreFlows (rules_of text.now) hosts.now flows.items) }
@@ -51,7 +51,7 @@ pub fn flows_by_pairs(
 /// Returns the flows of the pairs, one by one.
 fn decide_pairs(
     alloc: Global,
-    text: &Text<'_>,
+    text: &RulesRef<'_>,
     hosts: &Hosts,
     pairs: &[PairServices],
 ) -> Result<Vec<PairFlows>, AllocError>
@@ -68,7 +68,7 @@ fn decide_pairs(
 
 fn decide_pair(
     alloc: Global,
-    text: &Text<'_>,
+    text: &RulesRef<'_>,
     hosts: &Hosts,
     pair: &PairServices,
 ) -> Result<PairFlows, AllocError>
@@ -88,7 +88,7 @@ fn decide_pair(
 /// Returns the ranges of services between two sets of addresses, each with the rules that let it pass.
 fn decide_ranges(
     alloc: Global,
-    text: &Text<'_>,
+    text: &RulesRef<'_>,
     from: &[AddressRange],
     to: &[AddressRange],
     ranges: &[PassingRange],

@@ -48,7 +48,7 @@ fn push_marked(
 }
 
 /// Returns the numbers of the unmarked entries among the first `count` entries of a flow table.
-#[tactic(auto, unfolding(audit_core::specs::Classes::numbers_where))]
+#[tactic(auto, unfolding(rules_space::specs::Numbers::numbers_where))]
 pub(crate) fn unmarked_entries(
     alloc: Global,
     marks: &RuleMarks,

@@ -8,13 +8,13 @@ ghost use Rattle.ipt_rules.specs.inner.RuleParts.{is_rule};
 ghost use Rattle.ofp_rules.specs.Matching.{asks_of_ip};
 
 use crate::{dead_entries, dead_places, deciders_between, deciders_of, flows_by_pairs};
-use audit_core::Text;
 use header_space::{AddressRange, PacketBox};
 use host_net::{Hosts, Prefix};
 use ipt_rules::{
     AddrMatch, Chains, FORWARD, Place, Policy, PortMatch, ProtoMatch, Rule, Ruleset, Target,
 };
 use ofp_rules::{Action, Entry, FrameKind, Table};
+use rules_space::RulesRef;
 use std::alloc::Global;
 use std::process::Abort;
 
@@ -87,7 +87,7 @@ fn rules(alloc: Global, rt: &impl Abort) -> Ruleset {
 fn deciders_of_all_packets(rt: HostRuntime) {
     let rules = rules(rt.alloc(), &rt);
     let boxes = [PacketBox::every()];
-    let found = deciders_of(rt.alloc(), &Text::Ipt(&rules), &boxes).expect(&rt, "memory");
+    let found = deciders_of(rt.alloc(), &RulesRef::Ipt(&rules), &boxes).expect(&rt, "memory");
     assert_eq!(rt; found.places.len(), 2);
     let server = Place {
         chain: FORWARD,
@@ -114,7 +114,7 @@ fn deciders_of_the_server(rt: HostRuntime) {
         first: 0,
         last: u32::MAX,
     }];
-    let text = Text::Ipt(&rules);
+    let text = RulesRef::Ipt(&rules);
     let found = deciders_between(rt.alloc(), &text, &from, &to, 22, 6 * 65536 + 22);
     let found = found.expect(&rt, "memory");
     assert_eq!(rt; found.places.len(), 1);
@@ -169,7 +169,7 @@ fn flows_of_two_hosts(rt: HostRuntime) {
     push(&rt, &mut chains, rule_for_ports(server, 22, 23));
     push(&rt, &mut chains, rule_for_ports(server, 24, 25));
     let rules = Ruleset::build(rt.alloc(), chains).expect(&rt, "a rule set");
-    let flows = flows_by_pairs(rt.alloc(), &Text::Ipt(&rules), &hosts).expect(&rt, "memory");
+    let flows = flows_by_pairs(rt.alloc(), &RulesRef::Ipt(&rules), &hosts).expect(&rt, "memory");
     assert_eq!(rt; flows.len(), 2);
     assert_eq!(rt; (flows[0].from, flows[0].to), (Some(1), Some(1)));
     assert_eq!(rt; (flows[1].from, flows[1].to), (None, Some(1)));
@@ -211,7 +211,7 @@ fn dead_entry_behind_an_equal_one(rt: HostRuntime) {
     let dead = dead_entries(rt.alloc(), &table).expect(&rt, "memory");
     assert_eq!(rt; dead.len(), 1);
     assert_eq!(rt; dead[0], 1);
-    let places = dead_places(rt.alloc(), &Text::Ofp(&table)).expect(&rt, "memory");
+    let places = dead_places(rt.alloc(), &RulesRef::Ofp(&table)).expect(&rt, "memory");
     assert_eq!(rt; places.len(), 1);
     assert_eq!(rt; places[0], Place { chain: 0, rule: 1 });
 }

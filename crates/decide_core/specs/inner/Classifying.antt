@@ -4,7 +4,7 @@ use Rattle.std.specs.List.{range_with_len}
 use Rattle.ipt_rules.specs.declared.marks.Place.{Place}
 use Rattle.ipt_rules.specs.Chain.{rules_of}
 use Rattle.ipt_rules.specs.Marks.{marks_of}
-use Rattle.audit_core.specs.Rules.{Rules, Chains, Entries}
+use Rattle.rules_space.specs.Rules.{Rules, Chains, Entries}
 use Rattle.decide_core.specs.declared.classifier.Classifier.{Classifier}
 use Rattle.decide_core.specs.declared.classifier.Classifier.TheVariants.{Ipt, Ofp}
 

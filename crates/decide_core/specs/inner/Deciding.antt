@@ -7,7 +7,7 @@ use Rattle.header_space.specs.Boxes.{IsIn}
 use Rattle.ipt_rules.specs.declared.marks.Place.{Place}
 use Rattle.ipt_rules.specs.Marks.{is_marked}
 use Rattle.ipt_rules.specs.inner.Marking.{with_mark}
-use Rattle.audit_core.specs.Rules.{Rules, filter_of}
+use Rattle.rules_space.specs.Rules.{Rules, filter_of}
 use Rattle.decide_core.specs.Deciders.{DecidesOne, IsDecider}
 
 -- Rules, with marks on the rules that decide some packets: the packets that pass if `passing` is true, else any packets.

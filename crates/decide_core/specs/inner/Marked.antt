@@ -2,7 +2,7 @@
 use Rattle.std.specs.Prelude.{◌↔◌, ℕ, Bool, not, IsTrue, List}
 use Rattle.ipt_rules.specs.declared.marks.Place.{Place}
 use Rattle.ipt_rules.specs.Marks.{is_marked}
-use Rattle.audit_core.specs.Classes.{numbers_where}
+use Rattle.rules_space.specs.Numbers.{numbers_where}
 use Rattle.pass_core.specs.Dead.{AreAscending, is_listed}
 
 -- The rule at the place is marked.

@@ -1,4 +1,4 @@
-use Rattle.audit_core.specs.RulesView.{rules_of}
+use Rattle.rules_space.specs.RulesView.{rules_of}
 use Rattle.decide_core.specs.Deciders.{IsInOne}
 use Rattle.decide_core.specs.ServiceRanges.{HasServiceBetween}
 use Rattle.decide_core.proofs.ServiceLemmas.{same_deciders}

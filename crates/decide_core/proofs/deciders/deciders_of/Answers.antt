@@ -1,4 +1,4 @@
-use Rattle.audit_core.specs.RulesView.{rules_of}
+use Rattle.rules_space.specs.RulesView.{rules_of}
 use Rattle.decide_core.specs.Deciders.{IsInOne}
 use Rattle.decide_core.proofs.DecidingLemmas.{are_deciders}
 use Rattle.decide_core.proofs.deciders.deciders_of.Goals as goal

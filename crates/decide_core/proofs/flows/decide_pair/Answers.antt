@@ -1,5 +1,5 @@
 use Rattle.std.proofs.Common.{◌∙◌, refl}
-use Rattle.audit_core.specs.RulesView.{rules_of}
+use Rattle.rules_space.specs.RulesView.{rules_of}
 use Rattle.header_space.proofs.OwnersLaws.{ranges_some}
 use Rattle.decide_core.proofs.FlowLemmas.{deciders_of_pair}
 use Rattle.decide_core.proofs.flows.decide_pair.Goals as goal

@@ -1,5 +1,5 @@
 use Rattle.std.proofs.Common.{sym, subst}
-use Rattle.audit_core.specs.RulesView.{rules_of}
+use Rattle.rules_space.specs.RulesView.{rules_of}
 use Rattle.decide_core.specs.inner.Flows.{HasServices}
 use Rattle.decide_core.proofs.FlowLemmas.{flows_all, flows_more, flows_none}
 use Rattle.decide_core.proofs.flows.decide_pairs.Goals as goal

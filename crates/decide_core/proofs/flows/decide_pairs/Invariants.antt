@@ -1,5 +1,5 @@
 use Rattle.std.proofs.Common.{take}
-use Rattle.audit_core.specs.RulesView.{rules_of}
+use Rattle.rules_space.specs.RulesView.{rules_of}
 use Rattle.decide_core.specs.Flows.{AreFlowsOfEach}
 use Rattle.decide_core.proofs.flows.decide_pairs.Given as goal
 

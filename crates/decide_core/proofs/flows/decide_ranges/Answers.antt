@@ -1,7 +1,7 @@
 use Rattle.std.proofs.Common.{refl, ap, map, ◌∙◌}
 use Rattle.std.proofs.lemmas.List.{take_all}
 use Rattle.std.proofs.lemmas.List.Elements.{All-nil, All-push}
-use Rattle.audit_core.specs.RulesView.{rules_of}
+use Rattle.rules_space.specs.RulesView.{rules_of}
 use Rattle.decide_core.specs.declared.flows.FlowRange.{FlowRange}
 use Rattle.decide_core.specs.Deciders.{AreDeciders}
 use Rattle.decide_core.specs.ServiceRanges.{HasServiceBetween}

@@ -1,6 +1,6 @@
 use Rattle.std.proofs.Common.{◌≡◌, map, take}
 use Rattle.std.specs.List.{All}
-use Rattle.audit_core.specs.RulesView.{rules_of}
+use Rattle.rules_space.specs.RulesView.{rules_of}
 use Rattle.decide_core.specs.Deciders.{AreDeciders}
 use Rattle.decide_core.specs.ServiceRanges.{HasServiceBetween}
 use Rattle.decide_core.proofs.flows.decide_ranges.Given as goal

@@ -1,5 +1,5 @@
 use Rattle.std.proofs.lemmas.Result.{IfOk-weaker}
-use Rattle.audit_core.specs.RulesView.{rules_of}
+use Rattle.rules_space.specs.RulesView.{rules_of}
 use Rattle.pass_core.specs.NewPackets.{LetsPass}
 use Rattle.decide_core.specs.Flows.{AreFlows, AreFlowsOfEach}
 use Rattle.decide_core.proofs.FlowLemmas.{listed_have_services}

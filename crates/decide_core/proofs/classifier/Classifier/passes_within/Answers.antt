@@ -1,4 +1,4 @@
-use Rattle.audit_core.specs.RulesView.{rules_of}
+use Rattle.rules_space.specs.RulesView.{rules_of}
 use Rattle.header_space.proofs.BoxLaws.{narrows_in}
 use Rattle.decide_core.specs.inner.Classifying.{rules_by}
 use Rattle.decide_core.proofs.ClassifyingLemmas.{passes_only}

@@ -1,7 +1,7 @@
 use Rattle.std.proofs.Common.{◌≡◌, IsTrue, Option, take}
 use Rattle.host_net.specs.declared.packet.Packet.{Packet}
 use Rattle.ipt_rules.specs.declared.marks.Place.{Place}
-use Rattle.audit_core.specs.RulesView.{rules_of}
+use Rattle.rules_space.specs.RulesView.{rules_of}
 use Rattle.decide_core.specs.Deciders.{DecidesOne, IsInOne}
 use Rattle.decide_core.specs.inner.Deciding.{CountsAmong, IsKnown, is_noted}
 use Rattle.decide_core.proofs.deciding.Deciding.of.Given as goal
