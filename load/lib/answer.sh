@@ -1,18 +1,20 @@
 # shellcheck shell=bash disable=SC2034,SC2154
-# --confirm and --back: the decision about a load that has not ended.
+# --confirm and --back: the decision about a load that has not ended. Writes run[state], option[backend] and option[machine],
+# which are those of this load.
 
 # Decides how the load ends, waits for its end, and prints it. Before a load has asked, it can be rolled back, but not
 # confirmed.
 answer_pending() {
+  local digests
   find_pending
   if [ "$1" = kept ]; then refuse_unasked; fi
-  if [ "$1" = kept ] && [ -e "$state/connections" ]; then
+  if [ "$1" = kept ] && [ -e "${run[state]}/connections" ]; then
     need ss find
     refuse_old_login
   fi
   digests=$(digests_now)
-  if decide "$1"; then record "--$action"; fi
-  exec 9>"$state/lock"
+  if decide "$1"; then record "--${option[action]}" "$digests"; fi
+  exec 9>"${run[state]}/lock"
   tell_end
 }
 
@@ -21,35 +23,35 @@ answer_pending() {
 find_pending() {
   local each held='' broken=''
   need flock
-  for each in ${backend:-nft legacy}; do
+  for each in ${option[backend]:-nft legacy}; do
     if ! is_pending "$(folder_of "$each")"; then continue; fi
     if is_held "$(folder_of "$each")"; then held+=" $each"; else broken+=" $each"; fi
   done
   case ${held:-$broken} in
     '') refuse 'no load is awaiting confirmation in this network namespace' ;;
     ' nft legacy') refuse 'a load is awaiting confirmation in each back end: select one with --backend' ;;
-    *) backend=${held:-$broken} ;;
+    *) option[backend]=${held:-$broken} ;;
   esac
-  backend=${backend# }
-  state=$(folder_of "$backend")
+  option[backend]=${option[backend]# }
+  run[state]=$(folder_of "${option[backend]}")
 }
 
 # Refuses to confirm a load that has not asked.
 refuse_unasked() {
-  if [ -e "$state/asked" ]; then return; fi
-  if is_held "$state"; then refuse 'the load in progress has not asked for confirmation yet: nothing is decided'; fi
+  if [ -e "${run[state]}/asked" ]; then return; fi
+  if is_held "${run[state]}"; then refuse 'the load in progress has not asked for confirmation yet: nothing is decided'; fi
   refuse 'the load was interrupted before it asked for confirmation: topos-load --back ends it'
 }
 
 # Ends the load in its back end, on a firewall or on the machine of a host. This process has the lock.
 end_in_place() {
-  if [ -L "$state/result" ]; then return; fi # ended before the lock was free
-  local=$(cat "$state/local")
-  if [ -n "$local" ]; then change_machine; else change_box; fi
+  if [ -L "${run[state]}/result" ]; then return; fi # ended before the lock was free
+  option[machine]=$(cat "${run[state]}/local")
+  if [ -n "${option[machine]}" ]; then change_machine; else change_box; fi
   find_tools
-  open_changing || refuse "cannot write $state: nothing is changed"
+  open_changing || refuse "cannot write ${run[state]}: nothing is changed"
   end_broken_load
-  if ! [ -L "$state/result" ]; then refuse 'nothing is changed'; fi
+  if ! [ -L "${run[state]}/result" ]; then refuse 'nothing is changed'; fi
   exit "$(result_status)"
 }
 
@@ -63,7 +65,7 @@ connections() {
 
 # Prints those of them that this process and its ancestors hold.
 connections_held() {
-  local process=$$ sockets=''
+  local process=$$ sockets='' ends
   while [ "${process:-0}" -gt 0 ]; do
     sockets+=$(find "/proc/$process/fd" -lname 'socket:*' -printf ' %l' 2>/dev/null)
     process=$(sed -n 's/^PPid:[[:space:]]*//p' "/proc/$process/status" 2>/dev/null)
@@ -77,7 +79,7 @@ connections_held() {
 refuse_old_login() {
   local held old
   held=$(connections_held)
-  old=$(grep -Fxf "$state/connections" <<<"$held")
+  old=$(grep -Fxf "${run[state]}/connections" <<<"$held")
   if [ -n "$old" ]; then refuse "this login has a connection that predates the rules (${old% *}): log in again"; fi
   if [ -z "$held" ]; then
     refuse 'this login has no IPv4 connection from another machine: log in from another machine to test the rules'

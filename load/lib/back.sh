@@ -1,5 +1,7 @@
 # shellcheck shell=bash disable=SC2034,SC2154
-# The way back: a process in a session of its own that restores the previous rules unless somebody confirms in time.
+# The way back: a process in a session of its own that restores the previous rules unless somebody confirms in time. Writes
+# `guard`, `refused`, and in that process `was` and `loaded`, of run[..]; reads these, `state`, `restore` and `reason`, the
+# options that the process gets, and form[..].
 
 # One change at a time: a process that goes back waits for a load that is under way, also if its script is gone. The lock is
 # of a file that each process opens for itself (open_changing), and the restore holds it too, but not the lock of the load.
@@ -7,31 +9,32 @@
 load_change() {
   local status=0
   flock 8
-  if [ "${3:-}" != back ] && is_decided; then status=1
-  else change "$@" | "$restore" --noflush --wait 10 9>&- || status=1
+  if [[ " ${*:3} " != *' back '* ]] && is_decided; then status=1
+  else change "$@" | "${run[restore]}" --noflush --wait 10 9>&- || status=1
   fi
   flock -u 8
   return "$status"
 }
 
 # Opens the file of this lock.
-open_changing() { exec 8>"$state/changing"; }
+open_changing() { exec 8>"${run[state]}/changing"; }
 
 # Waits for a change that is under way: its restore holds the lock also if its script was killed.
 await_changes() { flock 8 && flock -u 8; }
 
 # Starts the process that goes back, and waits until it is ready.
 start_guard() {
-  local words=(--guard --wait "$seconds" --backend "$backend" ${keep:+--keep-connections} ${local:+--local}
-    ${program:+--program "$program"} ${unproved:+"$unproved"}) tries=0
-  TOPOS_LOAD=$$ setsid "$self" "${words[@]}" </dev/null >>"$state/log" 2>&1 &
-  guard=$!
-  disown "$guard" # no message of bash where it is killed
-  until [ -e "$state/armed" ]; do
+  local tries=0
+  local -a words=(--guard --wait "${option[seconds]}" --backend "${option[backend]}" ${option[keep]:+--keep-connections}
+    ${option[machine]:+--local} ${option[program]:+--program "${option[program]}"} ${option[unproved]:+"${option[unproved]}"})
+  TOPOS_LOAD=$$ setsid "$self" "${words[@]}" </dev/null >>"${run[state]}/log" 2>&1 &
+  run[guard]=$!
+  disown "${run[guard]}" # no message of bash where it is killed
+  until [ -e "${run[state]}/armed" ]; do
     tries=$((tries + 1))
-    if [ "$tries" -gt 100 ] || ! kill -0 "$guard" 2>/dev/null; then
-      kill -9 "$guard" 2>/dev/null
-      rm -f "$state/armed"
+    if [ "$tries" -gt 100 ] || ! kill -0 "${run[guard]}" 2>/dev/null; then
+      kill -9 "${run[guard]}" 2>/dev/null
+      rm -f "${run[state]}/armed"
       refuse 'cannot start the rollback process: nothing is changed'
     fi
     sleep 0.1
@@ -44,15 +47,15 @@ start_guard() {
 guard() {
   trap '' HUP INT TERM PIPE
   local left=6000 half parent=${TOPOS_LOAD:-0}
-  if [ "$(readlink "/proc/$$/fd/9")" != "$state/lock" ]; then wrong_words '--guard: unknown option'; fi
-  open_changing && was=$(cat "$state/before") && loaded=$(cat "$state/rules") || exit 1
+  if [ "$(readlink "/proc/$$/fd/9")" != "${run[state]}/lock" ]; then wrong_words '--guard: unknown option'; fi
+  open_changing && run[was]=$(cat "${run[state]}/before") && run[loaded]=$(cat "${run[state]}/rules") || exit 1
   echo -500 2>/dev/null >/proc/$$/oom_score_adj
-  : >"$state/armed" || exit 1
-  until [ -e "$state/asked" ] || ! [ -d "$state" ] || is_decided || [ "$left" -le 0 ] || is_orphan "$parent"; do
+  : >"${run[state]}/armed" || exit 1
+  until [ -e "${run[state]}/asked" ] || ! [ -d "${run[state]}" ] || is_decided || [ "$left" -le 0 ] || is_orphan "$parent"; do
     left=$((left - 1))
     sleep 0.1
   done
-  half=$((seconds * 5))
+  half=$((option[seconds] * 5))
   while ! is_decided && [ "$half" -gt 0 ]; do
     half=$((half - 1))
     sleep 0.2
@@ -72,58 +75,63 @@ is_orphan() {
 end_as_decided() {
   case $(decision) in
     kept) settle ;;
-    nothing) finish 69 "another tool changed $changed during the load: nothing is changed" ;;
+    nothing) finish 69 "another tool changed ${form[changed]} during the load: nothing is changed" ;;
     *) go_back ;;
   esac
 }
 
-# Goes back to the text `was`, and does not give up. From the third try on, rules that the kernel rejects are left out, and if
-# iptables cannot read the table, which has nft rules by then, the rules of the load are taken for it. At the sixth one a
+# Goes back to the text run[was], and does not give up. From the third try on, rules that the kernel rejects are left out, and
+# if iptables cannot read the table, which has nft rules by then, the rules of the load are taken for it. At the sixth one a
 # machine that may be locked out is opened. On a firewall the guard goes on, and says that it could not yet.
 go_back() {
-  local tries=0 now target='' changed_back='' reason='' flush='' told=$as_before
-  local -a refused=()
+  local tries=0 now target='' changed_back='' told=${form[as_before]}
+  local -a refused way=(back)
+  run[refused]=''
   await_changes
   while :; do
     if now=$(filter_now); then
-      if [ "${#refused[@]}" = 0 ] && ! target=$(with_added "$now"); then target=$was; fi
+      if [ -z "${run[refused]}" ] && ! target=$(with_added "$now"); then target=${run[was]}; fi
       if is_same_text "$now" "$target"; then break; fi
-      if [ "$tries" -ge 2 ]; then flush=yes; fi
-      if [ "$tries" -ge 3 ]; then leave_out; fi
-      if load_change "$now" "$target" back; then changed_back=yes; fi
-    elif [ "$tries" -ge 3 ] && flush=yes load_change "$loaded" "$was" back; then changed_back=yes; break
+      if [ "$tries" -ge 2 ]; then way=(back flush); fi
+      if [ "$tries" -ge 3 ]; then
+        find_refused "$now" "$target"
+        target=$(without_refused "$target")
+      fi
+      if load_change "$now" "$target" "${way[@]}"; then changed_back=yes; fi
+    elif [ "$tries" -ge 3 ] && load_change "${run[loaded]}" "${run[was]}" back flush; then changed_back=yes; break
     fi
     tries=$((tries + 1))
     if [ "$tries" -ge 6 ] && cannot_go_back "$tries"; then return; fi
     if [ -n "$changed_back" ]; then sleep 0.1; else sleep 1; fi
   done
   if [ -n "$changed_back" ]; then
-    drop_begun "$was" "$(older_of "$state/before")" 'the new rules'
-    told+="; $reason"
+    drop_begun "${run[was]}" "$(older_of "${run[state]}/before")" 'the new rules'
+    told+="; ${run[reason]}"
   fi
-  if [ "${#refused[@]}" -gt 0 ]; then
+  if [ -n "${run[refused]}" ]; then
+    mapfile -t refused <<<"${run[refused]%$'\n'}"
     printf '%s\n' "${refused[@]}" >&2
-    finish 71 "$changed: ${#refused[@]} rules are missing, which the kernel rejects (${refused[0]})"
+    finish 71 "${form[changed]}: ${#refused[@]} rules are missing, which the kernel rejects (${refused[0]})"
   else finish 75 "$told"
   fi
 }
 
 # Whether nothing is left to try. The guard of a firewall tries again every ten seconds.
 cannot_go_back() {
-  if [ -n "$local" ] && write_open | "$restore" --noflush --wait 10; then
-    finish 71 "cannot roll back: $changed have no rules and accept everything"
+  if [ -n "${option[machine]}" ] && write_open | "${run[restore]}" --noflush --wait 10; then
+    finish 71 "cannot roll back: ${form[changed]} have no rules and accept everything"
     return 0
   fi
-  if [ "$1" = 6 ]; then finish 71 "cannot roll back yet: the previous rules are in $state/before"; fi
-  if [ "$action" != guard ]; then return 0; fi
+  if [ "$1" = 6 ]; then finish 71 "cannot roll back yet: the previous rules are in ${run[state]}/before"; fi
+  if [ "${option[action]}" != guard ]; then return 0; fi
   sleep 9
   return 1
 }
 
-# Prints the text `was` with the rules that another tool added since: those at the head of a chain before the others, the
-# rest behind them. A rule counts as added unless it is of topos, in `was`, or in the text `loaded`.
+# Prints the text run[was] with the rules that another tool added since: those at the head of a chain before the others, the
+# rest behind them. A rule counts as added unless it is of topos, in run[was], or in run[loaded].
 with_added() {
-  awk -v entries="^($entries)$" -v entry="$entry" -v logs="$log" '
+  awk -v entries="^(${form[entries]})$" -v entry="${form[entry]}" -v logs="${form[log]}" '
     FNR == 1 { input++ }
     input == 1 { text[++lines] = $0; known[$0]; next }
     input == 2 { known[$0]; next }
@@ -140,50 +148,59 @@ with_added() {
       if (!begun) for (one = 1; one <= before; one++) print head[one]
       for (one = 1; one <= after; one++) print behind[one]
       print "COMMIT"
-    }' <(printf '%s\n' "$was") <(printf '%s\n' "$loaded") <(printf '%s\n' "$1")
+    }' <(printf '%s\n' "${run[was]}") <(printf '%s\n' "${run[loaded]}") <(printf '%s\n' "$1")
 }
 
-# Removes from `target` the rules that the kernel rejects; they are then in `refused`.
-leave_out() {
+# Finds the rules of the second text that the kernel, whose table is the first text, rejects: run[refused] has their lines.
+find_refused() {
   local -a rules=()
-  local each
-  refused=()
-  mapfile -t rules < <(our_rules "$target")
-  sift "${rules[@]}"
+  mapfile -t rules < <(our_rules "$2")
+  run[refused]=''
+  sift "$1" "$2" ${rules[@]+"${rules[@]}"}
   drop_trial
-  for each in ${refused[@]+"${refused[@]}"}; do
-    target=$(printf '%s\n' "$target" | grep -vxF -e "$each")
-  done
 }
 
-# Halves a list of rules until those that the kernel rejects are alone.
+# Prints a text without these rules.
+without_refused() {
+  if [ -z "${run[refused]}" ]; then printf '%s\n' "$1"
+  else printf '%s\n' "$1" | grep -vxF -e "${run[refused]%$'\n'}"
+  fi
+}
+
+# Halves a list of rules, which begins with the third argument, until those that the kernel rejects are alone: adds them to
+# run[refused]. The first two arguments are those of `takes`.
 sift() {
-  local half=$(($# / 2))
-  if [ $# = 0 ] || takes "$@"; then return; fi
-  if [ $# = 1 ]; then refused+=("$1"); return; fi
-  sift "${@:1:half}"
-  sift "${@:half+1}"
+  local half=$((($# - 2) / 2))
+  if [ $# = 2 ] || takes "$@"; then return; fi
+  if [ $# = 3 ]; then run[refused]+=$3$'\n'; return; fi
+  sift "$1" "$2" "${@:3:half}"
+  sift "$1" "$2" "${@:half+3}"
 }
 
-# Whether the kernel accepts rules, tried in a chain that no packet reaches. Chains that come with the change do not exist
-# yet.
+# Whether the kernel accepts the rules from the third argument on, tried in a chain that no packet reaches. Chains that come
+# with the change from the first text to the second one do not exist yet.
 takes() {
-  local each
+  local now=$1 target=$2 each
+  shift 2
   {
     printf '*filter\n:topos-try - [0:0]\n'
     for each; do
       each=${each#-A * }
-      if [[ $each =~ ^(.*)-[jg]\ ([^ ]+)$ ]] && is_coming "${BASH_REMATCH[2]}"; then each="${BASH_REMATCH[1]}-j RETURN"; fi
+      if [[ $each =~ ^(.*)-[jg]\ ([^ ]+)$ ]] && is_coming "${BASH_REMATCH[2]}" "$now" "$target"; then
+        each="${BASH_REMATCH[1]}-j RETURN"
+      fi
       printf -- '-A topos-try %s\n' "$each"
     done
     echo COMMIT
-  } | "$restore" --noflush --wait 10 2>/dev/null
+  } | "${run[restore]}" --noflush --wait 10 2>/dev/null
 }
 
-# Whether a target is a chain of the text `target` that the table, the text `now`, does not have.
-is_coming() { [[ $'\n'$now != *$'\n':"$1 -"* && $'\n'$target == *$'\n':"$1 -"* ]]; }
+# Whether a target is a chain of the third argument, a text, that the second one, the text of the table, does not have.
+is_coming() { [[ $'\n'$2 != *$'\n':"$1 -"* && $'\n'$3 == *$'\n':"$1 -"* ]]; }
 
 # Removes the chain in which rules are tried.
-drop_trial() { printf '*filter\n:topos-try - [0:0]\n-X topos-try\nCOMMIT\n' | "$restore" --noflush --wait 10 2>/dev/null; }
+drop_trial() {
+  printf '*filter\n:topos-try - [0:0]\n-X topos-try\nCOMMIT\n' | "${run[restore]}" --noflush --wait 10 2>/dev/null
+}
 
 part=back # a truncated file lacks this line

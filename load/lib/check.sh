@@ -1,64 +1,67 @@
 # shellcheck shell=bash disable=SC2034,SC2154
 # --check: the differences between the loaded rules and those that are asked for. What other rules do is a question for
-# topos-query.
+# topos-query. Writes run[folder]; reads `state`, `save` and `query` of run[..], option[..] and form[..].
 
 # Prints the differences, and a verdict as the last line; nothing if these rules are loaded.
 check_rules() {
-  local found around
-  folder=$(mktemp -d 2>/dev/null) || folder=$(mktemp -d -p /run) || refuse 'cannot create a directory for the comparison'
-  trap 'rm -rf "$folder"' EXIT
-  write_rules "$folder/rules"
-  save_filter "$folder/saved"
-  without_logs "$folder/saved" >"$folder/now"
-  if ! [ -s "$folder/now" ]; then refuse "cannot write $folder: nothing is compared"; fi
+  local found around=''
+  run[folder]=$(mktemp -d 2>/dev/null) || run[folder]=$(mktemp -d -p /run) || refuse 'cannot create a directory for the comparison'
+  trap 'rm -rf "${run[folder]}"' EXIT
+  write_rules "${run[folder]}/rules"
+  save_filter "${run[folder]}/saved"
+  without_logs "${run[folder]}/saved" >"${run[folder]}/now"
+  if ! [ -s "${run[folder]}/now" ]; then refuse "cannot write ${run[folder]}: nothing is compared"; fi
   tell_pending
   found=$(out_of_force)
-  tell_surroundings
-  if is_same "$folder/now" "$folder/rules" && [ -z "$found" ]; then
-    if [ -n "$verbose$around" ]; then say "the $wall has these rules"; fi
+  if tell_surroundings; then around=yes; fi
+  if is_same "${run[folder]}/now" "${run[folder]}/rules" && [ -z "$found" ]; then
+    if [ -n "${option[verbose]}$around" ]; then say "the ${form[wall]} has these rules"; fi
     return
   fi
   if [ -n "$found" ]; then say "$found"; fi
-  tell_differences | sed "s/^-/missing on the $wall:/; s/^+/only on the $wall:   /; s/^~/moved on the $wall:  /"
+  tell_differences | sed "
+    s/^-/missing on the ${form[wall]}:/
+    s/^+/only on the ${form[wall]}:   /
+    s/^~/moved on the ${form[wall]}:  /"
   tell_verdict "$found"
   exit 1
 }
 
 # Prints that a load has not ended and does not await its confirmation.
 tell_pending() {
-  if ! is_pending "$state"; then return; fi
-  if ! is_held "$state"; then say 'a load was interrupted before its confirmation: topos-load --back ends it'
-  elif ! [ -e "$state/asked" ]; then say 'a load is in progress: topos-load --back ends it'
+  if ! is_pending "${run[state]}"; then return; fi
+  if ! is_held "${run[state]}"; then say 'a load was interrupted before its confirmation: topos-load --back ends it'
+  elif ! [ -e "${run[state]}/asked" ]; then say 'a load is in progress: topos-load --back ends it'
   fi
 }
 
-# Prints the unused chains, and what else may drop packets, except what the last load listed. `around` is then not empty.
+# Prints the unused chains, and what else may drop packets, except what the last load listed. Whether there is any.
 tell_surroundings() {
-  local listed=$state/${remembered}listed found
-  if [ -n "$verbose" ] || ! [ -e "$listed" ]; then listed=/dev/null; fi
-  around=''
-  found=$(unused_chains '' "$folder/saved" | grep -vxF -f "$listed")
+  local listed=${run[state]}/${form[remembered]}listed found around=''
+  if [ -n "${option[verbose]}" ] || ! [ -e "$listed" ]; then listed=/dev/null; fi
+  found=$(unused_chains '' "${run[folder]}/saved" | grep -vxF -f "$listed")
   if [ -n "$found" ]; then
     around=yes
-    say "these chains are unused (topos-load ${local:+--local }--clean removes those of topos):"
+    say "these chains are unused (topos-load ${option[machine]:+--local }--clean removes those of topos):"
     some_lines <<<"$found" >&2
   fi
   found=$(others_that_drop | grep -vxF -f "$listed")
   if [ -n "$found" ]; then
     around=yes
-    say "these also process $packets packets and may drop them:"
+    say "these also process ${form[packets]} packets and may drop them:"
     some_lines <<<"$found" >&2
   fi
+  [ -n "$around" ]
 }
 
 # Prints the lines that differ, or their number if they are many and a comparison follows. If all rules are missing, prints
 # one line for each entry instead.
 tell_differences() {
-  local number
+  local folder=${run[folder]} number
   if tell_none; then return; fi
   line_changes <(essence "$folder/rules") <(essence "$folder/now") >"$folder/lines"
   number=$(wc -l <"$folder/lines")
-  if [ "$from:$local$verbose" = description: ] && [ "$number" -gt 20 ]; then
+  if [ "${option[from]}:${option[machine]}${option[verbose]}" = description: ] && [ "$number" -gt 20 ]; then
     echo "$number rules and chains differ (--verbose lists them)"
   else some_lines <"$folder/lines"
   fi
@@ -66,10 +69,10 @@ tell_differences() {
 
 # Prints that the entries have none of their rules, if no rule leads to a chain of topos, and the rules that they have.
 tell_none() {
-  local each number policy
-  if grep -qE "$jump" "$folder/now"; then return 1; fi
-  for each in ${entries//|/ }; do
-    number=$(grep -cE "^-A ($each|$chains) " "$folder/rules")
+  local folder=${run[folder]} each number policy
+  if grep -qE "${form[jump]}" "$folder/now"; then return 1; fi
+  for each in ${form[entries]//|/ }; do
+    number=$(grep -cE "^-A ($each|${form[chains]}) " "$folder/rules")
     policy=$(sed -n "s/^:$each \([A-Z]*\).*/\1/p" "$folder/now")
     if grep -q "^-A $each " "$folder/now"; then policy=others; fi
     case $policy in
@@ -81,41 +84,43 @@ tell_none() {
       echo "$each has none of its $number rules, and $policy"
     fi
   done
-  sed -nE "s/^-A ($entries) /+ &/p" "$folder/now" | some_lines
+  sed -nE "s/^-A (${form[entries]}) /+ &/p" "$folder/now" | some_lines
 }
 
 # Prints the last line, which is a verdict.
 tell_verdict() {
-  say "the $wall has other rules"
+  say "the ${form[wall]} has other rules"
   if [ -n "$1" ]; then say 'verdict: differs, since the rules have no effect'
-  elif [ "$from:$local" = description: ]; then compare_rules "$folder/now"
+  elif [ "${option[from]}:${option[machine]}" = description: ]; then compare_rules "${run[folder]}/now"
   else say "verdict: differs; equivalence is checked only for a firewall with a description"
   fi
 }
 
 # Prints whether other rules implement the description all the same, and the pairs of hosts for which they do not.
 compare_rules() {
-  local status=0 query
+  local folder=${run[folder]} status=0
   if ! find_query; then
-    say "verdict: cannot determine whether these rules implement $file: cannot find topos-query"
+    say "verdict: cannot determine whether these rules implement ${option[file]}: cannot find topos-query"
     return
   fi
   forwarding_rules "$1" >"$folder/compared"
   if [ -n "$(misread_rules "$(chains_of "$folder/compared")")" ]; then
-    say "verdict: cannot determine whether these rules implement $file: $save prints some nft rules as different rules"
+    say "verdict: cannot determine whether these rules implement ${option[file]}:" \
+      "${run[save]} prints some nft rules as different rules"
     return
   fi
-  "$query" compare iptables "$folder/rules.description" "$folder/compared" >"$folder/found" 2>"$folder/refused" || status=$?
+  "${run[query]}" compare iptables "$folder/rules.description" "$folder/compared" >"$folder/found" 2>"$folder/refused" ||
+    status=$?
   case $status in
-    0) say "verdict: these rules differ from those of topos, but implement $file" ;;
+    0) say "verdict: these rules differ from those of topos, but implement ${option[file]}" ;;
     2)
       differences_of "$folder/found" >"$folder/pairs"
       some_lines <"$folder/pairs"
-      say "verdict: these rules do not implement $file: $(number_of_pairs "$folder/pairs")" ;;
+      say "verdict: these rules do not implement ${option[file]}: $(number_of_pairs "$folder/pairs")" ;;
     *)
       cat "$folder/refused"
       refused_line "$folder/refused" "$folder/compared"
-      say "verdict: cannot determine whether these rules implement $file" ;;
+      say "verdict: cannot determine whether these rules implement ${option[file]}" ;;
   esac
 }
 
@@ -134,7 +139,7 @@ number_of_pairs() {
 differences_of() {
   sed 's/.*"differences":\[//; s/},{/}\n{/g' "$1" | sed -nE '
     s/^\{?"from":("([^"]*)"|null),"to":("([^"]*)"|null),"list":"([a-z]*)","rules":"([a-z]*)","events":\[(.*)\]\}.*/\2\t\4\t\5 \6\t\7/p' |
-    awk -F '\t' -v file="$file" '
+    awk -F '\t' -v file="${option[file]}" '
       BEGIN {
         says["new forward"] = "new packets pass that " file " denies"
         says["new drop"] = "new packets are dropped that " file " permits"

@@ -3,13 +3,17 @@
 # these rules, and is treated as if they had been there from the beginning. All others are deleted. The rules are in force
 # before: a deleted connection does not begin again, since its first packet is dropped. What was under way meanwhile is
 # found by judging until nothing is left to delete.
+#
+# Writes `judging`, `older`, `count` and `reason` of run[..]; reads these, `changing`, `loaded`, `older_saved`, `state`,
+# `stayed` and `wanted` of it, the options `keep`, `program`, `dry_run` and `verbose`, and `wall`, `log` and `ranges` of
+# form[..].
 
 # Prints the tracked connections over IPv4, a line each: the chain that decides about it; sender, receiver, protocol and
 # ports of the first packet as FORWARD sees it, with the receiver translated and the sender not yet; the number that the
 # kernel gives it; and the words by which conntrack knows it. No chain decides about those of a firewall itself, `own`. It
 # is `unknown` what a translated one of a machine meets.
 tracked() {
-  conntrack -L -f ipv4 -o id 2>/dev/null | awk -v wall="$wall" "$ranges"'
+  conntrack -L -f ipv4 -o id 2>/dev/null | awk -v wall="${form[wall]}" "${form[ranges]}"'
     function is_own(address, number, each) {
       if (address in owned) return owned[address]
       number = lowest(address)
@@ -53,7 +57,8 @@ own_addresses() {
 
 # Writes what a packet meets in a built-in chain of a text, as rules of FORWARD, which topos trace reads.
 as_forward() {
-  printf '%s\n' "$2" | grep -Ev "$log" | awk -v chain="$1" '
+  local judging=${run[judging]}
+  printf '%s\n' "$2" | grep -Ev "${form[log]}" | awk -v chain="$1" '
     ($1 == ":FORWARD" || $2 == "FORWARD") && chain != "FORWARD" { next }
     $1 == ":" chain || $1 == "-A" && $2 == chain { sub(chain, "FORWARD") }
     { print }' >"$judging/filter" || return 1
@@ -61,12 +66,12 @@ as_forward() {
 }
 
 # Prints the tracked connections that the rules of a text do not let begin, and with `unknown` those of which that is not
-# known, without those in `older`, a file of numbers.
+# known, without those in the file of numbers run[older].
 revoked() {
-  local chain status
+  local judging=${run[judging]} chain status
   rm -f "$judging/asked"
   tracked >"$judging/all" || return 1
-  awk 'FILENAME == ARGV[1] { older[$1]; next } !($7 in older)' "$older" "$judging/all" >"$judging/asked" || return 1
+  awk 'FILENAME == ARGV[1] { older[$1]; next } !($7 in older)' "${run[older]}" "$judging/all" >"$judging/asked" || return 1
   if [ "$2" = unknown ]; then sed -n '/^unknown /p' "$judging/asked" || return 1; fi
   for chain in FORWARD INPUT OUTPUT; do
     status=0
@@ -81,11 +86,11 @@ revoked() {
 # Prints the connections in parts whose first packet is dropped. Each packet is traced alone: what it begins is forgotten
 # before the next one. Fails unless there is one verdict for each.
 judge_parts() {
-  local each
+  local judging=${run[judging]} each
   for each in "$judging"/part.*; do
     awk '{ ends = $2 " " $3 " " $4 " " $5 " " $6; print "packet " ends "\nforget " ends }' "$each" \
       >"$judging/events" || return 1
-    "$program" trace iptables "$judging/rules" "$judging/events" 2>/dev/null |
+    "${option[program]}" trace iptables "$judging/rules" "$judging/events" 2>/dev/null |
       sed -n '/forgotten/!p' >"$judging/verdicts" || return 1
     if [ "$(wc -l <"$judging/verdicts")" != "$(wc -l <"$each")" ]; then return 1; fi
     cut -d ' ' -f 2 "$judging/verdicts" | paste -d ' ' - "$each" | sed -n 's/^drop //p' || return 1
@@ -110,46 +115,47 @@ deletions() {
     }' "$1" "$2" "$2"
 }
 
-# Deletes the connections that the rules of a text do not let begin. `count` is their number, and the file `dropped` has
-# them. If that is impossible, `reason` says why. Those of the firewall itself, and those in `older`, stay.
+# Deletes the connections that the rules of a text do not let begin. run[count] is their number, and the file `dropped` has
+# them. If that is impossible, run[reason] says why. Those of the firewall itself, and those in run[older], stay.
 drop_revoked() {
-  local left=5 too=$2
+  local judging=${run[judging]} left=5 too=$2
   local -a words
-  count=0
+  run[count]=0
   while [ "$left" -gt 0 ]; do
     left=$((left - 1))
-    reason='cannot determine which of them the rules accept'
+    run[reason]='cannot determine which of them the rules accept'
     revoked "$1" "$too" >"$judging/revoked" || return 1
     too='' # what comes now came about under these rules
     if [ ! -s "$judging/revoked" ]; then return 0; fi
-    count=$((count + $(wc -l <"$judging/revoked")))
+    run[count]=$((run[count] + $(wc -l <"$judging/revoked")))
     cat "$judging/revoked" >>"$judging/dropped" || return 1
-    if [ -n "$dry_run" ]; then return 0; fi
+    if [ -n "${option[dry_run]}" ]; then return 0; fi
     deletions "$judging/all" "$judging/revoked" >"$judging/words" || return 1
-    reason='too many deletions are needed'
+    run[reason]='too many deletions are needed'
     if [ "$(wc -l <"$judging/words")" -gt 2000 ]; then return 1; fi
-    reason='the rules are rolled back'
+    run[reason]='the rules are rolled back'
     while read -ra words; do
       if is_undone; then return 1; fi
       conntrack -D -f ipv4 "${words[@]}" >/dev/null 2>&1
     done <"$judging/words"
   done
-  reason='some deleted connections reappear'
+  run[reason]='some deleted connections reappear'
   return 1
 }
 
 # Whether this process makes a change that is rolled back meanwhile: then it deletes no more connections.
-is_undone() { [ -n "$changing" ] && is_decided; }
+is_undone() { [ -n "${run[changing]}" ] && is_decided; }
 
 # Creates a folder for judging, for this process alone. It is not in /run, where other daemons need the space.
 begin_judging() {
-  judging=$(mktemp -d -p /var/tmp topos-load.XXXXXX 2>/dev/null) || judging=$(mktemp -d -p "$state" judging.XXXXXX)
+  run[judging]=$(mktemp -d -p /var/tmp topos-load.XXXXXX 2>/dev/null) ||
+    run[judging]=$(mktemp -d -p "${run[state]}" judging.XXXXXX)
 }
 
 # Prints the connections of a list by flows, the most frequent first: a line `SENDER -> RECEIVER SERVICE: NUMBER` each.
 by_flows() {
   awk '{ print $2, $3, ($4 == 6 ? "tcp" : $4 == 17 ? "udp" : $4 == 1 ? "icmp" : "protocol " $4) ($6 > 0 ? "/" $6 : "") }' |
-    if [ -s "${wanted:-/dev/null}" ] && [ -s "$wanted.policy" ]; then named; else cat; fi |
+    if [ -s "${run[wanted]:-/dev/null}" ] && [ -s "${run[wanted]}.policy" ]; then named; else cat; fi |
     awk '
       { flow = $1 " -> " $2; for (word = 3; word <= NF; word++) flow = flow " " $word; number[flow]++ }
       END { for (each in number) print number[each], each }' | sort -k1,1nr -k2 |
@@ -162,7 +168,7 @@ by_flows_briefly() {
   list=$(cat)
   if [ -z "$list" ]; then return; fi
   flows=$(by_flows <<<"$list")
-  if [ "$(wc -l <<<"$flows")" -gt 20 ] && [ -z "$verbose" ]; then
+  if [ "$(wc -l <<<"$flows")" -gt 20 ] && [ -z "${option[verbose]}" ]; then
     flows=$(awk '{ $6 = 0; print }' <<<"$list" | by_flows)
   fi
   printf '%s\n' "$flows"
@@ -170,42 +176,48 @@ by_flows_briefly() {
 
 # Deletes, after a load, the connections that the rules of a text do not let begin, or all if these are not known.
 drop_connections() {
-  local stay='old connections remain, and their answers are accepted until they end' reason judging='' count=0 older=/dev/null
-  if ! : >"$state/staying"; then note "cannot write $state: the remaining connections are not recorded"; fi
-  if [ -n "$keep" ]; then note "$stay"
+  local stay='old connections remain, and their answers are accepted until they end'
+  begin_connections /dev/null
+  if ! : >"${run[state]}/staying"; then note "cannot write ${run[state]}: the remaining connections are not recorded"; fi
+  if [ -n "${option[keep]}" ]; then note "$stay"
   elif ! command -v conntrack >/dev/null; then note "$stay: conntrack is not installed (apt install conntrack)"
-  elif is_program_there && reason='cannot create a directory' && begin_judging && drop_revoked "$1" unknown; then
+  elif is_program_there && run[reason]='cannot create a directory' && begin_judging && drop_revoked "$1" unknown; then
     tell_dropped
-    rm -f "$state/staying"
+    rm -f "${run[state]}/staying"
   elif is_undone; then :
   elif is_nothing_old; then
-    say "these rules were loaded before: no connection is deleted ($reason)"
-    rm -f "$state/staying"
+    say "these rules were loaded before: no connection is deleted (${run[reason]})"
+    rm -f "${run[state]}/staying"
   elif conntrack -F >/dev/null 2>&1; then
-    say "all old connections are deleted: $reason"
-    rm -f "$state/staying"
+    say "all old connections are deleted: ${run[reason]}"
+    rm -f "${run[state]}/staying"
   else note "$stay: conntrack -F failed"
   fi
-  if [ -n "$judging" ]; then rm -rf "$judging"; fi
+  if [ -n "${run[judging]}" ]; then rm -rf "${run[judging]}"; fi
 }
+
+# Begins a question about connections, of which those in a file of numbers stay.
+begin_connections() { run[older]=$1 run[judging]='' run[count]=0; }
 
 # Prints which connections are deleted.
 tell_dropped() {
-  if [ "$count" = 0 ]; then
+  if [ "${run[count]}" = 0 ]; then
     say 'no old connection is deleted: the rules accept the first packet of each'
     return
   fi
-  say "$count old connections are deleted, whose first packet the rules drop:"
-  by_flows_briefly <"$judging/dropped" | some_lines >&2
+  say "${run[count]} old connections are deleted, whose first packet the rules drop:"
+  by_flows_briefly <"${run[judging]}/dropped" | some_lines >&2
 }
 
 # Whether all connections began under the rules that are loaded again. This counts only if they cannot be judged.
-is_nothing_old() { is_alike "$state/before" "$state/rules" && is_known "$state/before" && [ ! -e "$stayed" ]; }
+is_nothing_old() {
+  is_alike "${run[state]}/before" "${run[state]}/rules" && is_known "${run[state]}/before" && [ ! -e "${run[stayed]}" ]
+}
 
 # Saves the numbers of the connections before the change: a rollback deletes none of them, and neither does a removal.
 remember_connections() {
   local older
-  older=$(older_of "$state/before")
+  older=$(older_of "${run[state]}/before")
   rm -f "$older"
   if command -v conntrack >/dev/null; then
     conntrack -L -f ipv4 -o id 2>/dev/null | sed -n 's/.* id=\([0-9]*\)$/\1/p' >"$older" || rm -f "$older"
@@ -214,53 +226,56 @@ remember_connections() {
 
 # Deletes, after a rollback or a removal, the connections that began since the load and that the restored rules, the first
 # argument, do not let begin, if both are known. Those in the second argument, a file of numbers, are older than the load.
-# `reason` becomes a sentence with numbers, in which the third argument names the rules of the load.
+# run[reason] becomes a sentence with numbers, in which the third argument names the rules of the load.
 drop_begun() {
-  local judging='' count=0 older=$2 under=$3 stay='all connections remain'
-  if [ -n "$keep" ] || ! command -v conntrack >/dev/null; then reason=$stay
-  elif ! [ -e "$older" ]; then reason="$stay, since those from before the load are unknown"
-  elif ! is_program_there; then reason="$stay: $reason"
-  elif ! begin_judging; then reason="$stay: cannot create a directory"
+  local under=$3 stay='all connections remain'
+  begin_connections "$2"
+  if [ -n "${option[keep]}" ] || ! command -v conntrack >/dev/null; then run[reason]=$stay
+  elif ! [ -e "${run[older]}" ]; then run[reason]="$stay, since those from before the load are unknown"
+  elif ! is_program_there; then run[reason]="$stay: ${run[reason]}"
+  elif ! begin_judging; then run[reason]="$stay: cannot create a directory"
   elif drop_revoked "$1" ''; then
-    reason="$(number_of_older) connections from before the load remain, $count that began under $under are deleted"
-  elif [ -e "$judging/asked" ]; then
-    reason="that began under $under: $(why_unjudged)"
-    reason="$(number_of_older) connections from before the load remain, and so do $(wc -l <"$judging/asked") $reason"
-  else reason="$stay: conntrack cannot list them"
+    run[reason]="$(number_of_older) connections from before the load remain, ${run[count]} that began under $under are deleted"
+  elif [ -e "${run[judging]}/asked" ]; then
+    run[reason]="that began under $under: $(why_unjudged)"
+    run[reason]="and so do $(wc -l <"${run[judging]}/asked") ${run[reason]}"
+    run[reason]="$(number_of_older) connections from before the load remain, ${run[reason]}"
+  else run[reason]="$stay: conntrack cannot list them"
   fi
-  if [ -n "$judging" ]; then rm -rf "$judging"; fi
+  if [ -n "${run[judging]}" ]; then rm -rf "${run[judging]}"; fi
 }
 
-# Prints how many of the tracked connections are in `older`.
+# Prints how many of the tracked connections are in run[older].
 number_of_older() {
-  awk 'FILENAME == ARGV[1] { older[$1]; next } $7 in older { count++ } END { print count + 0 }' "$older" "$judging/all"
+  awk 'FILENAME == ARGV[1] { older[$1]; next } $7 in older { count++ } END { print count + 0 }' \
+    "${run[older]}" "${run[judging]}/all"
 }
 
-# Prints why connections are not judged: `reason`, or the first of the rules that topos trace cannot read.
+# Prints why connections are not judged: run[reason], or the first of the rules that topos trace cannot read.
 why_unjudged() {
-  if "$program" trace iptables "$judging/rules" /dev/null >/dev/null 2>"$judging/refused"; then echo "$reason"
+  local judging=${run[judging]}
+  if "${option[program]}" trace iptables "$judging/rules" /dev/null >/dev/null 2>"$judging/refused"; then echo "${run[reason]}"
   else echo "topos trace cannot read the restored rules, such as $(refused_line "$judging/refused" "$judging/rules")"
   fi
 }
 
 # Deletes, after a removal, the connections that began under the rules of topos and that the restored rules do not let begin.
 drop_after_removal() {
-  local reason
-  drop_begun "$loaded" "$older_saved" 'the rules of topos'
-  if ! is_undone; then say "$reason"; fi
+  drop_begun "${run[loaded]}" "${run[older_saved]}" 'the rules of topos'
+  if ! is_undone; then say "${run[reason]}"; fi
 }
 
 # Prints the connections that a load would delete.
 tell_dry_run() {
-  local reason judging='' count=0 older=/dev/null
   need conntrack
-  if ! is_program_there; then refuse "$reason: cannot determine which connections a load would delete"; fi
-  if begin_judging && drop_revoked "$(cat "$state/rules")" unknown; then
-    say "a load would delete $count connections; $(($(wc -l <"$judging/all") - count)) remain"
-    if [ -s "$judging/dropped" ]; then by_flows_briefly <"$judging/dropped" | sed 's/^ */would be deleted: /'; fi
-    rm -rf "$judging"
+  begin_connections /dev/null
+  if ! is_program_there; then refuse "${run[reason]}: cannot determine which connections a load would delete"; fi
+  if begin_judging && drop_revoked "$(cat "${run[state]}/rules")" unknown; then
+    say "a load would delete ${run[count]} connections; $(($(wc -l <"${run[judging]}/all") - run[count])) remain"
+    if [ -s "${run[judging]}/dropped" ]; then by_flows_briefly <"${run[judging]}/dropped" | sed 's/^ */would be deleted: /'; fi
+    rm -rf "${run[judging]}"
   else
-    rm -rf "$judging"
+    rm -rf "${run[judging]}"
     refuse "cannot determine which connections a load would delete"
   fi
   clear_state

@@ -1,22 +1,25 @@
 # shellcheck shell=bash disable=SC2034,SC2154
-# What surrounds the rules: forwarding, interfaces, routes, other tables and chains, flows without answers.
+# What surrounds the rules: forwarding, interfaces, routes, other tables and chains, flows without answers. Reads option[..],
+# form[..], and `state`, `wanted` and `query` of run[..]; writes none of them.
 
 # Prints the notes on everything that is not in the rules.
 note_surroundings() {
-  if [ -n "$local" ]; then note_machine; else note_forwarding; fi
+  if [ -n "${option[machine]}" ]; then note_machine; else note_forwarding; fi
   note_senders
   note_unused
   note_tables
   note_nft
-  if [ -z "$local" ]; then note_networks "$state/rules"; fi
+  if [ -z "${option[machine]}" ]; then note_networks "${run[state]}/rules"; fi
   note_flows
-  if [ -z "$dry_run" ]; then { unused_others "$state/before"; others_that_drop; } >"$state/${remembered}listed"; fi
+  if [ -z "${option[dry_run]}" ]; then
+    { unused_others "${run[state]}/before"; others_that_drop; } >"${run[state]}/${form[remembered]}listed"
+  fi
 }
 
 # Notes what is off or open for a firewall.
 note_forwarding() {
   local root=/proc/sys/net found
-  if grep -qE '^-A INPUT -d [0-9./]+ -j IN$' "$state/before"; then
+  if grep -qE '^-A INPUT -d [0-9./]+ -j IN$' "${run[state]}/before"; then
     note 'INPUT and OUTPUT have the rules of a host, which are unchanged; --local is refused while FORWARD has rules of a firewall'
   fi
   if [ "$(cat $root/ipv4/ip_forward)" = 0 ]; then
@@ -83,7 +86,7 @@ note_senders() {
 # Notes the chains of other tools that are unused after the load.
 note_unused() {
   local found
-  found=$(unused_others "$state/before")
+  found=$(unused_others "${run[state]}/before")
   if [ -z "$found" ]; then return; fi
   note_lines 'after the load these chains of other tools are unused (iptables -F and -X remove them):' \
     'chains of other tools are unused' "$found"
@@ -109,17 +112,17 @@ tables_with() {
 }
 
 # Prints the back end that is not loaded.
-other_back_end() { if [ "$backend" = legacy ]; then echo nft; else echo legacy; fi; }
+other_back_end() { if [ "${option[backend]}" = legacy ]; then echo nft; else echo legacy; fi; }
 
 # Notes the rules and policies of the other back end, and other tables of iptables.
 note_tables() {
   local other each found both='a packet must pass both'
   other=$(other_back_end)
   found=$(table_of "$other" filter)
-  if grep -qE "^-A ($entries) " <<<"$found"; then
-    note "$changed: rules exist in the back end $other too: $both"
+  if grep -qE "^-A (${form[entries]}) " <<<"$found"; then
+    note "${form[changed]}: rules exist in the back end $other too: $both"
   fi
-  for each in ${entries//|/ }; do
+  for each in ${form[entries]//|/ }; do
     if ! grep -q "^:$each DROP " <<<"$found"; then continue; fi
     note "the policy of $each in the back end $other is DROP: $both (iptables-$other -P $each ACCEPT changes it)"
   done
@@ -137,7 +140,7 @@ note_tables() {
 nft_chains() {
   local family table chain
   if ! command -v nft >/dev/null; then return; fi
-  nft list chains 2>/dev/null | awk -v hook="hook ($hooks|prerouting|postrouting|ingress|egress) " '
+  nft list chains 2>/dev/null | awk -v hook="hook (${form[hooks]}|prerouting|postrouting|ingress|egress) " '
     $1 == "table" { table = $2 " " $3 }
     $1 == "chain" { chain = $2 }
     $0 ~ hook && table !~ /^(ip6|arp) / { print table, chain }' |
@@ -151,23 +154,23 @@ nft_chains() {
 is_shown() {
   local chain='^ip (filter|mangle|raw|nat|security) (INPUT|FORWARD|OUTPUT|PREROUTING|POSTROUTING)$' saved
   if ! [[ $1 =~ $chain ]]; then return 1; fi
-  if [ "$backend ${BASH_REMATCH[1]}" = 'nft filter' ]; then return; fi # save_filter has read it
+  if [ "${option[backend]} ${BASH_REMATCH[1]}" = 'nft filter' ]; then return; fi # save_filter has read it
   saved=$(table_of nft "${BASH_REMATCH[1]}") && [[ $saved == *$'\n'COMMIT* && $saved != *'# Table '* ]]
 }
 
 # Notes flow tables and chains of nft.
 note_nft() {
   local found
-  if [ -z "$local" ] && prints flowtable nft list flowtables; then
+  if [ -z "${option[machine]}" ] && prints flowtable nft list flowtables; then
     note 'a flow table exists: packets that it forwards bypass FORWARD'
   fi
   found=$(nft_chains | sed 's/^/ /; s/$/;/' | tr -d '\n')
-  if [ -n "$found" ]; then note "other nft chains process $packets packets and may drop them:${found%;}"; fi
+  if [ -n "$found" ]; then note "other nft chains process ${form[packets]} packets and may drop them:${found%;}"; fi
 }
 
 # Prints whether a chain of a table of nft drops packets: it, or a chain, map or set that it leads to.
 drops_in() {
-  awk -v chain="$1" "$closure"'
+  awk -v chain="$1" "${form[closure]}"'
     $1 ~ /^(chain|map|set)$/ { here = ($1 == "chain" ? "" : "@") $2; next }
     {
       text[here] = text[here] " " $0
@@ -192,7 +195,7 @@ others_that_drop() {
   other=$(other_back_end)
   nft_chains | grep ')$'
   found=$(table_of "$other" filter)
-  for each in ${entries//|/ }; do
+  for each in ${form[entries]//|/ }; do
     if grep -q "^:$each DROP " <<<"$found"; then echo "$each in the back end $other (policy drop)"
     elif grep -q "^-A $each " <<<"$found"; then echo "$each in the back end $other (has rules)"; fi
   done
@@ -203,7 +206,7 @@ others_that_drop() {
 # Prints why the rules of the table `filter` have no effect, or not where those of iptables have; else nothing.
 out_of_force() {
   local each chains_of_nft
-  if [ "$backend" = legacy ] || ! command -v nft >/dev/null; then return; fi
+  if [ "${option[backend]}" = legacy ] || ! command -v nft >/dev/null; then return; fi
   if { prints '"name": "filter", "handle": [0-9]*, "flags"' nft -j list tables ip || ! nft -j list tables ip >/dev/null 2>&1; } &&
     prints '^[[:space:]]*flags .*dormant' nft -t list table ip filter; then
     echo 'the table filter is dormant, so its rules have no effect (nft add table ip filter activates it)'
@@ -213,7 +216,7 @@ out_of_force() {
     $1 == "table" { table = $3 }
     $1 == "chain" { chain = $2 }
     table == "filter" && $1 == "type" { print chain, $2, $4, $6, $7 }')
-  for each in ${entries//|/ }; do
+  for each in ${form[entries]//|/ }; do
     if grep -q "^$each " <<<"$chains_of_nft" &&
       ! grep -qE "^$each filter ${each,,} (filter|0);" <<<"$chains_of_nft"; then
       echo "the chain $each of the table filter has a hook or priority other than that of iptables"
@@ -230,7 +233,7 @@ refuse_out_of_force() {
 
 # Prints the routes to networks, except that to everybody, with addresses of no specific host: up to three ranges each.
 unlisted_networks() {
-  ip -4 route show table all | awk "$ranges"'
+  ip -4 route show table all | awk "${form[ranges]}"'
     function dotted(number) {
       return int(number / 16777216) "." int(number / 65536) % 256 "." int(number / 256) % 256 "." number % 256
     }
@@ -267,7 +270,7 @@ unlisted_networks() {
 # Notes these networks.
 note_networks() {
   local found whose='packets with these addresses are dropped'
-  if [ "$from" != description ] || ! command -v ip >/dev/null; then return; fi
+  if [ "${option[from]}" != description ] || ! command -v ip >/dev/null; then return; fi
   if grep -q '^-A FORWARD -j H' "$1"; then whose="the rest host has them"; fi
   found=$(unlisted_networks "$1")
   if [ -z "$found" ]; then return; fi
@@ -277,9 +280,9 @@ note_networks() {
 
 # Prints the flows without answers, first those that TCP could use, with their services of TCP. topos-query knows them.
 silent_flows() {
-  "$query" network "$wanted.description" | sed 's/},{/}\n{/g' | sed -nE '
+  "${run[query]}" network "${run[wanted]}.description" | sed 's/},{/}\n{/g' | sed -nE '
     s/.*\{"flow":\["([^"]*)","([^"]*)"\],"asked":[a-z]*,"permitted":true,"answered":false,"services":\[([^]]*)\].*/\1 \2 \3/p' |
-    tr -d '"' | awk -v host="$host" '
+    tr -d '"' | awk -v host="${option[host]}" '
       host != "" && $1 != host && $2 != host { next }
       {
         count = split($3, service, ","); words = count ? "" : " everything"
@@ -290,9 +293,9 @@ silent_flows() {
 
 # Notes the flows without answers.
 note_silent() {
-  local silent found query
+  local silent found
   if ! find_query; then
-    note "$(grep -c ' allowed$' "$wanted.policy") flows allow no answers; cannot find topos-query, which has their services"
+    note "$(grep -c ' allowed$' "${run[wanted]}.policy") flows allow no answers; cannot find topos-query, which has their services"
     return
   fi
   silent=$(silent_flows)
@@ -310,11 +313,11 @@ note_silent() {
 # Notes the flows without answers, and with --repair those that are omitted.
 note_flows() {
   local found
-  if [ "$from" != description ]; then return; fi
-  if grep -q ' allowed$' "$wanted.policy"; then note_silent; fi
-  found=$(grep ' denied by ' "$wanted.policy")
-  if [ -n "$repair" ] && [ -n "$found" ]; then
-    note_lines "these flows are omitted (all of them: topos policy $file | grep ' denied by '):" \
+  if [ "${option[from]}" != description ]; then return; fi
+  if grep -q ' allowed$' "${run[wanted]}.policy"; then note_silent; fi
+  found=$(grep ' denied by ' "${run[wanted]}.policy")
+  if [ -n "${option[repair]}" ] && [ -n "$found" ]; then
+    note_lines "these flows are omitted (all of them: topos policy ${option[file]} | grep ' denied by '):" \
       'flows are omitted' "$found"
   fi
 }

@@ -1,42 +1,57 @@
 # shellcheck shell=bash disable=SC2034,SC2154
 # Texts of rules, as iptables-save prints them and iptables-restore reads them: their form, and changes from one to another.
+# Declares and writes form[..]; reads option[backend] and run[save].
 
-# The form of the rules that topos writes. A service is a protocol, or ports of one.
-prefix='[0-9./]+' ports='[0-9]+(:[0-9]+)?'
+# What is changed, and the form of the rules that topos writes. The parts of all forms are an address (`prefix`), what a rule
+# that passes has behind it (`passes`), and what --log puts before a rule that drops (`limited` and `label`): it names the
+# host, and logs at most ten packets a minute. change_box and change_machine add the others.
+declare -gA form=(
+  [prefix]='[0-9./]+'
+  [limited]='-m limit --limit 10/min -j LOG --log-prefix'
+  [label]='"topos [A-Za-z0-9_-]+: "'
+)
 
-# Prints the pattern of a service: ports are destinations in flows (dport), and sources in answers (sport).
-service() { echo "( -p (icmp|tcp( -m tcp --$1 $ports)?|udp( -m udp --$1 $ports)?))?"; }
-passes="($(service dport)|$(service sport) -m conntrack --ctstate ESTABLISHED) -j ACCEPT"
-
-# What --log puts before a rule that drops: it names the host, and logs at most ten packets a minute.
-limited='-m limit --limit 10/min -j LOG --log-prefix'
-label='"topos [A-Za-z0-9_-]+: "'
+# Prints the pattern of a service: a protocol, or ports of one, which are destinations in flows (dport), and sources in
+# answers (sport).
+service() {
+  local ports='[0-9]+(:[0-9]+)?'
+  echo "( -p (icmp|tcp( -m tcp --$1 $ports)?|udp( -m udp --$1 $ports)?))?"
+}
+form[passes]="($(service dport)|$(service sport) -m conntrack --ctstate ESTABLISHED) -j ACCEPT"
 
 # Selects what is changed on a firewall: the built-in chains `entries`, and the chains of topos, `chains`. `entry` is a
 # rule of the first and `rule` one of the second; a `jump` exists where rules of topos are loaded; --log adds a `log`.
 change_box() {
-  wall=firewall remembered='' hooks=forward packets=forwarded
-  entries=FORWARD chains='H[0-9]+' named='the chains H0, H1 ..'
-  changed=FORWARD as_before='FORWARD is restored' whose='of topos' replacing=--replace-forward
-  jump="^-A FORWARD( -s $prefix)? -j H[0-9]+$" entry=$jump
-  rule="^-A H[0-9]+( -d $prefix)?($passes| -j DROP)$"
-  log="^-A (FORWARD|H[0-9]+( -d $prefix)?) $limited $label$"
+  local prefix=${form[prefix]}
+  form+=(
+    [wall]=firewall [remembered]='' [hooks]=forward [packets]=forwarded
+    [entries]=FORWARD [chains]='H[0-9]+' [named]='the chains H0, H1 ..'
+    [changed]=FORWARD [as_before]='FORWARD is restored' [whose]='of topos' [replacing]=--replace-forward
+    [jump]="^-A FORWARD( -s $prefix)? -j H[0-9]+$"
+    [entry]="^-A FORWARD( -s $prefix)? -j H[0-9]+$"
+    [rule]="^-A H[0-9]+( -d $prefix)?(${form[passes]}| -j DROP)$"
+    [log]="^-A (FORWARD|H[0-9]+( -d $prefix)?) ${form[limited]} ${form[label]}$"
+  )
 }
 
 # Selects the same on the machine of a host.
 change_machine() {
-  wall=machine remembered=local- hooks='(input|forward|output)' packets="this machine's"
-  entries='INPUT|FORWARD|OUTPUT' chains='IN|OUT' named='the chains IN and OUT'
-  changed='INPUT, FORWARD and OUTPUT' as_before='INPUT, FORWARD and OUTPUT are restored'
-  whose='of a host' replacing=--replace-rules
-  jump="^-A (INPUT -d $prefix -j IN|OUTPUT -s $prefix -j OUT)$"
-  entry="$jump|^-A (INPUT|OUTPUT) -s 127[.]0[.]0[.]0/8 -d 127[.]0[.]0[.]0/8 -j ACCEPT$"
-  rule="^-A (IN( -s $prefix)?|OUT( -d $prefix)?)($passes| -j DROP)$"
-  log="^-A (IN( -s $prefix)?|OUT( -d $prefix)?) $limited $label$"
+  local prefix=${form[prefix]} own='127[.]0[.]0[.]0/8'
+  local jump="^-A (INPUT -d $prefix -j IN|OUTPUT -s $prefix -j OUT)$"
+  form+=(
+    [wall]=machine [remembered]=local- [hooks]='(input|forward|output)' [packets]="this machine's"
+    [entries]='INPUT|FORWARD|OUTPUT' [chains]='IN|OUT' [named]='the chains IN and OUT'
+    [changed]='INPUT, FORWARD and OUTPUT' [as_before]='INPUT, FORWARD and OUTPUT are restored'
+    [whose]='of a host' [replacing]=--replace-rules
+    [jump]=$jump
+    [entry]="$jump|^-A (INPUT|OUTPUT) -s $own -d $own -j ACCEPT$"
+    [rule]="^-A (IN( -s $prefix)?|OUT( -d $prefix)?)(${form[passes]}| -j DROP)$"
+    [log]="^-A (IN( -s $prefix)?|OUT( -d $prefix)?) ${form[limited]} ${form[label]}$"
+  )
 }
 
 # The least and the greatest address of a prefix as numbers, for awk.
-ranges='
+form[ranges]='
   function lowest(prefix, part) {
     split(prefix, part, "[./]")
     return ((part[1] * 256 + part[2]) * 256 + part[3]) * 256 + part[4]
@@ -47,7 +62,7 @@ ranges='
 
 # The chains that rules lead to from those in `reached`, for awk. `leads` takes a jump, and `take_jumps` those of a rule.
 # shellcheck disable=SC2016
-closure='
+form[closure]='
   function leads(chain, target) { from[++jumps] = chain; to[jumps] = target }
   function take_jumps(word) { for (word = 3; word < NF; word++) if ($word ~ /^-[jg]$/) leads($2, $(word + 1)) }
   function reach(each, more) {
@@ -63,7 +78,7 @@ closure='
 # note_tables reports.
 filter_now() {
   local saved each
-  saved=$("$save" -t filter 2> >(grep -v '^# Warning: iptables-legacy tables present' >&2)) || return 1
+  saved=$("${run[save]}" -t filter 2> >(grep -v '^# Warning: iptables-legacy tables present' >&2)) || return 1
   if [ "$(printf '%s\n' "$saved" | grep '^[^#]' | tail -n 1)" != COMMIT ]; then return 1; fi
   printf '%s\n' "$saved" || return 1
   for each in INPUT FORWARD OUTPUT; do
@@ -77,10 +92,10 @@ read_filter() { filter_now | cat >"$1"; }
 # Writes the table `filter` into a file, and refuses if iptables cannot read it.
 save_filter() {
   local found
-  read_filter "$1" || refuse "$save cannot read the table filter, or not all nft rules in it: nothing is changed"
-  found=$(misread_rules "$entries|$chains")
+  read_filter "$1" || refuse "${run[save]} cannot read the table filter, or not all nft rules in it: nothing is changed"
+  found=$(misread_rules "${form[entries]}|${form[chains]}")
   if [ -z "$found" ]; then return; fi
-  say "$save prints some nft rules as different rules: nothing is changed. These commands remove them:"
+  say "${run[save]} prints some nft rules as different rules: nothing is changed. These commands remove them:"
   printf '%s\n' "$found" >&2
   exit 69
 }
@@ -88,7 +103,7 @@ save_filter() {
 # Prints a command for each nft rule in some chains that iptables prints as a different rule: it omits sets, prints a range
 # of addresses as its last address, and only the last of two matches on an address.
 misread_rules() {
-  if [ "$backend" = legacy ] || ! command -v nft >/dev/null; then return; fi
+  if [ "${option[backend]}" = legacy ] || ! command -v nft >/dev/null; then return; fi
   nft -t --debug=netlink list table ip filter 2>/dev/null | awk -v ours="^($1)$" '
     /^ip filter / { rule = $3 ~ ours ? $3 " handle " $4 : ""; split("", loaded); next }
     rule == "" || !/^  \[ / { next }
@@ -98,14 +113,14 @@ misread_rules() {
 }
 
 # Prints the chains of topos in a text.
-our_chains() { printf '%s\n' "$1" | sed -nE "s/^:($chains) .*/\1/p" | sort; }
+our_chains() { printf '%s\n' "$1" | sed -nE "s/^:(${form[chains]}) .*/\1/p" | sort; }
 
 # Prints the rules of a text that a load replaces.
-our_rules() { printf '%s\n' "$1" | sed -nE "/^-A ($entries|$chains) /p"; }
+our_rules() { printf '%s\n' "$1" | sed -nE "/^-A (${form[entries]}|${form[chains]}) /p"; }
 
 # Prints what a load replaces in a text: the policies, the rules chain by chain, and the chains of topos.
 essence() {
-  awk -v entries="^:($entries)$" -v chains="^:($chains)$" -v ours="^($entries|$chains)$" '
+  awk -v entries="^:(${form[entries]})$" -v chains="^:(${form[chains]})$" -v ours="^(${form[entries]}|${form[chains]})$" '
     $1 ~ entries { print 1, $1, "policy of " substr($1, 2) ": " $2 }
     $1 == "-A" && $2 ~ ours { print 2, $2, $0 }
     $1 ~ chains { print 3, $1, "chain " substr($1, 2) }' "${1:--}" | sort -s -k1,2 | cut -d ' ' -f 3-
@@ -121,7 +136,7 @@ is_same() { [ "$(essence "$1")" = "$(essence "$2")" ]; }
 is_alike() { [ "$(without_logs "$1" | essence)" = "$(without_logs "$2" | essence)" ]; }
 
 # Prints a file without what --log adds.
-without_logs() { grep -Ev "$log" "$1"; }
+without_logs() { grep -Ev "${form[log]}" "$1"; }
 
 # Whether a text has all policies, rules and chains of a second one, in this order. Other tools may have added rules.
 has_all() {
@@ -130,14 +145,14 @@ has_all() {
 }
 
 # Prints the rules of a file that topos writes, without those of other tools in the same chains.
-written() { grep -E -e "$entry" -e "$rule" "$1" | sort -s -k2,2; }
+written() { grep -E -e "${form[entry]}" -e "${form[rule]}" "$1" | sort -s -k2,2; }
 
 # Whether a file has rules that lead to a chain of topos.
-is_loaded() { grep -qE "$jump" "$1"; }
+is_loaded() { grep -qE "${form[jump]}" "$1"; }
 
 # Whether a file is a complete rules file in the form of topos.
 is_written() {
-  awk -v entries="$entries" -v chains="$chains" -v entry="$entry" -v rule="$rule" '
+  awk -v entries="${form[entries]}" -v chains="${form[chains]}" -v entry="${form[entry]}" -v rule="${form[rule]}" '
     $0 == "*filter" && NR == 1 { next }
     ended { bad = 1 }
     $0 ~ "^:(" entries ") DROP \\[0:0\\]$" { closed[$1]; next }
@@ -154,7 +169,7 @@ is_written() {
 # Prints a file with a logging rule before each rule that drops, and one at the end of FORWARD if packets reach it. A name
 # that is too long for the kernel is replaced by the chain.
 with_logs() {
-  awk -v limited="$limited" -v wall="$wall" '
+  awk -v limited="${form[limited]}" -v wall="${form[wall]}" '
     function logged(line, label) {
       if (label == "" || length(label) > 21) label = chain
       return line limited " \"topos " label ": \""
@@ -168,33 +183,34 @@ with_logs() {
 }
 
 # Prints the text that changes the entries and the chains of topos from those of the first text, which the table has, to
-# those of the second one. On the way back, the third argument, chains of other tools that are gone are created empty. If a
-# step fails, COMMIT is missing, and nothing is loaded.
+# those of the second one. The other arguments name the way: with `back` chains of other tools that are gone are created
+# empty; `flush` is that of `removals`. If a step fails, COMMIT is missing, and nothing is loaded.
 change() {
-  local stale each
+  local stale each way=" ${*:3} "
   stale=$(comm -23 <(our_chains "$1") <(our_chains "$2")) || return 1
   echo '*filter'
-  printf '%s\n' "$2" | sed -nE "s/^:(($entries) [A-Z]+).*/:\1 [0:0]/p; s/^:($chains) .*/:\1 - [0:0]/p" || return 1
-  if [ "${3:-}" = back ]; then gone_chains "$1" "$2" | sed 's/.*/:& - [0:0]/'; fi
-  removals "$1" || return 1
+  printf '%s\n' "$2" | sed -nE "s/^:((${form[entries]}) [A-Z]+).*/:\1 [0:0]/p; s/^:(${form[chains]}) .*/:\1 - [0:0]/p" || return 1
+  if [[ $way == *' back '* ]]; then gone_chains "$1" "$2" | sed 's/.*/:& - [0:0]/'; fi
+  removals "$1" "$way" || return 1
   for each in $stale; do echo "-F $each"; done
   for each in $stale; do echo "-X $each"; done
   our_rules "$2" && echo COMMIT
 }
 
 # Prints what removes the rules of a text from the entries: each alone, so that a rule that another tool adds meanwhile stays.
-# iptables finds some rules of other tools only with `flush`, which removes all.
+# iptables finds some rules of other tools only with `flush` in the second argument, which removes all.
 removals() {
   local each
-  if [ -z "$flush" ]; then printf '%s\n' "$1" | sed -nE "s/^-A (($entries) )/-D \1/p"
-  else for each in ${entries//|/ }; do echo "-F $each"; done
+  if [[ $2 != *' flush '* ]]; then printf '%s\n' "$1" | sed -nE "s/^-A ((${form[entries]}) )/-D \1/p"
+  else for each in ${form[entries]//|/ }; do echo "-F $each"; done
   fi
 }
 
 # Prints the chains of other tools that rules of the second text lead to, and that the first text does not have.
 gone_chains() {
+  local each
   our_rules "$2" | sed -nE 's/.* -[jg] ([^ ]+)( .*)?$/\1/p' | sort -u | while read -r each; do
-    if [[ $each =~ ^($chains)$ ]] || [[ $'\n'$1 == *$'\n':"$each "* ]]; then continue; fi
+    if [[ $each =~ ^(${form[chains]})$ ]] || [[ $'\n'$1 == *$'\n':"$each "* ]]; then continue; fi
     if [[ $'\n'$2 == *$'\n':"$each -"* ]]; then echo "$each"; fi
   done
 }
@@ -203,7 +219,7 @@ gone_chains() {
 write_open() {
   local each
   echo '*filter'
-  for each in ${entries//|/ }; do printf ':%s ACCEPT [0:0]\n-F %s\n' "$each" "$each"; done
+  for each in ${form[entries]//|/ }; do printf ':%s ACCEPT [0:0]\n-F %s\n' "$each" "$each"; done
   echo COMMIT
 }
 
@@ -211,7 +227,7 @@ write_open() {
 forwarding_rules() {
   echo '*filter'
   grep '^:' "$1"
-  awk "$closure"'
+  awk "${form[closure]}"'
     /^-A / { rule[++count] = $0; chain[count] = $2; take_jumps() }
     END {
       reached["FORWARD"]
@@ -223,7 +239,7 @@ forwarding_rules() {
 
 # Prints the user chains of a file that no rule leads to from the built-in chains, except those in the first argument.
 unused_chains() {
-  awk -v replaced="^($1)$" "$closure"'
+  awk -v replaced="^($1)$" "${form[closure]}"'
     /^:/ && $2 == "-" { name[++chains] = substr($1, 2); next }
     /^:/ { if (substr($1, 2) !~ replaced) reached[substr($1, 2)]; next }
     $1 == "-A" { take_jumps() }
@@ -234,12 +250,12 @@ unused_chains() {
 }
 
 # Prints the chains of other tools that no rule leads to after a load.
-unused_others() { unused_chains "$entries" "$1" | grep -Evx -e "$chains"; }
+unused_others() { unused_chains "${form[entries]}" "$1" | grep -Evx -e "${form[chains]}"; }
 
 # Prints the chains of topos that no rule leads to and that have only rules in the form of topos, and the chain in which
 # rules are tried.
 idle_chains() {
-  awk -v ours="^($chains|topos-try)$" -v rule="$rule" -v logs="$log" '
+  awk -v ours="^(${form[chains]}|topos-try)$" -v rule="${form[rule]}" -v logs="${form[log]}" '
     /^:/ && $2 == "-" && substr($1, 2) ~ ours { chain[substr($1, 2)]; next }
     $1 == "-A" && $2 != "topos-try" {
       if ($2 in chain && $0 !~ rule && $0 !~ logs) delete chain[$2]

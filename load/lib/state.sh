@@ -1,35 +1,50 @@
 # shellcheck shell=bash disable=SC2034,SC2154
 # Saved states: the load that is waiting, its end, and the rules before the first load. The first `decision` counts; it is
 # made atomically. It and the result are symbolic links, for which a full disk has space.
+#
+# Declares run[..], and writes `was`, `loaded`, `kept_as` and `older_saved` of it; reads the folder of the saved states
+# (`state`), the files in it (`first`, `last`, `stayed`), `save`, the words of form[..] and the options of a removal.
+
+# What a run has found, read and begun, and no option gives. find_namespace, find_tools, find_pending and find_query write
+# the first two lines; the others name the file that writes them.
+declare -gA run=(
+  [namespace]='' [save]='' [restore]='' [query]=''  # an inode, and the names of tools
+  [state]='' [first]='' [last]='' [stayed]=''       # the folder of the saved states, and files in it
+  [was]='' [loaded]='' [changing]=''                # change.sh: the text before and that of the load; this process makes it
+  [guard]='' [refused]='' [end_told]=''             # back.sh: its process, and rules that the kernel rejects; change.sh
+  [wanted]='' [folder]=''                           # wanted.sh: the rules file; check.sh: a folder for the comparison
+  [kept_as]='' [older_saved]=''                     # a saved state, and the connections that are older than a restored one
+  [judging]='' [older]='' [count]=0 [reason]=''     # connections.sh: folder, older ones, number; why not, also tools.sh
+)
 
 # Decides how the load ends, unless somebody has decided before.
-decide() { ln -s "$1" "$state/decision" 2>/dev/null; }
+decide() { ln -s "$1" "${run[state]}/decision" 2>/dev/null; }
 
 # Whether it is decided how the load ends.
-is_decided() { [ -L "$state/decision" ]; }
+is_decided() { [ -L "${run[state]}/decision" ]; }
 
 # Prints how the load ends.
-decision() { readlink "$state/decision"; }
+decision() { readlink "${run[state]}/decision"; }
 
 # Takes the lock of a load, and ends one that was interrupted.
 take_lock() {
-  mkdir -p "$state" || refuse "cannot create $state: nothing is changed"
-  exec 9>"$state/lock" || refuse "cannot write $state: nothing is changed"
+  mkdir -p "${run[state]}" || refuse "cannot create ${run[state]}: nothing is changed"
+  exec 9>"${run[state]}/lock" || refuse "cannot write ${run[state]}: nothing is changed"
   if ! flock -n 9; then
-    if [ -e "$state/asked" ]; then refuse 'another load is awaiting confirmation (--confirm, --back)'; fi
+    if [ -e "${run[state]}/asked" ]; then refuse 'another load is awaiting confirmation (--confirm, --back)'; fi
     refuse 'another load is in progress: nothing is changed'
   fi
-  open_changing || refuse "cannot write $state: nothing is changed"
+  open_changing || refuse "cannot write ${run[state]}: nothing is changed"
   end_broken_load
-  if [ -e "$state/armed" ]; then keep_old "$state/before"; fi # of a load that could not go back
+  if [ -e "${run[state]}/armed" ]; then keep_old "${run[state]}/before"; fi # of a load that could not go back
   clear_state
 }
 
 # Removes what a load leaves, except saved states.
 clear_state() {
-  rm -rf "$state"/judging.*
-  rm -f "$state"/{decision,armed,asked,made,connections,result,before,rules,rules.others,rules.policy,rules.description}
-  rm -f "$state"/{log,settle,staying,older.before,logging,loaded,local}
+  rm -rf "${run[state]}"/judging.*
+  rm -f "${run[state]}"/{decision,armed,asked,made,connections,result,before,rules,rules.others,rules.policy,rules.description}
+  rm -f "${run[state]}"/{log,settle,staying,older.before,logging,loaded,local}
 }
 
 # Whether a load can change the table, or has changed it, and has not ended.
@@ -41,21 +56,22 @@ is_held() { ! flock -n "$1/lock" true; }
 # Ends a load whose processes are gone, as it was decided. If its rules are not there, as in a namespace that has the number
 # of an earlier one, nothing is changed, and what was before it is saved.
 end_broken_load() {
-  local was now
-  if ! is_pending "$state"; then return; fi
-  if [ -n "$dry_run" ] || [ "$action" = clean ]; then # neither changes a verdict
+  local now
+  if ! is_pending "${run[state]}"; then return; fi
+  if [ -n "${option[dry_run]}" ] || [ "${option[action]}" = clean ]; then # neither changes a verdict
     refuse 'a load was interrupted before its confirmation: topos-load --back ends it'
   fi
-  if [ "$(cat "$state/local" 2>/dev/null)" != "$local" ]; then
-    refuse "a load ${local:+without --local }was interrupted: topos-load --back ends it"
+  if [ "$(cat "${run[state]}/local" 2>/dev/null)" != "${option[machine]}" ]; then
+    refuse "a load ${option[machine]:+without --local }was interrupted: topos-load --back ends it"
   fi
-  was=$(cat "$state/before") loaded=$(cat "$state/rules")
+  run[was]=$(cat "${run[state]}/before") run[loaded]=$(cat "${run[state]}/rules")
   await_changes
-  now=$(filter_now) || refuse "$save cannot read the table filter: nothing is changed"
-  if ! has_all "$now" "$loaded" || [ -z "$was" ]; then
-    keep_old "$state/before"
-    say "a load was interrupted, and its rules are no longer present: the rules from before it are saved as $kept_as"
-    rm -f "$state/armed"
+  now=$(filter_now) || refuse "${run[save]} cannot read the table filter: nothing is changed"
+  if ! has_all "$now" "${run[loaded]}" || [ -z "${run[was]}" ]; then
+    keep_old "${run[state]}/before"
+    say "a load was interrupted, and its rules are no longer present:" \
+      "the rules from before it are saved as ${run[kept_as]}"
+    rm -f "${run[state]}/armed"
   else
     if [ "$(decision)" != kept ]; then say 'a load was interrupted before its confirmation: rolling back'; fi
     end_as_decided
@@ -65,13 +81,13 @@ end_broken_load() {
 }
 
 # Whether the state before the first load is known for the rules in a file.
-is_known() { [ -e "$first" ] && is_last "$1"; }
+is_known() { [ -e "${run[first]}" ] && is_last "$1"; }
 
 # Whether the rules in a file are those of the last load.
-is_last() { [ -e "$last" ] && [ "$(written "$1")" = "$(written "$last")" ]; }
+is_last() { [ -e "${run[last]}" ] && [ "$(written "$1")" = "$(written "${run[last]}")" ]; }
 
 # Prints the name of the file with the numbers of the connections that are older than the load over a saved state.
-older_of() { echo "$state/older.${1##*/}"; }
+older_of() { echo "${run[state]}/older.${1##*/}"; }
 
 # Renames a saved state, and the file with the numbers of its connections.
 rename_state() {
@@ -84,92 +100,94 @@ rename_state() {
 keep_old() {
   local number=1
   if [ ! -s "$1" ]; then return; fi
-  while [ -e "$first.old.$number" ]; do number=$((number + 1)); done
-  rename_state "$1" "$first.old.$number" && kept_as=$first.old.$number
+  while [ -e "${run[first]}.old.$number" ]; do number=$((number + 1)); done
+  rename_state "$1" "${run[first]}.old.$number" && run[kept_as]=${run[first]}.old.$number
 }
 
 # Saves what a change leaves, once it is kept.
 settle() {
   local digests now words=kept
   digests=$(digests_now)
-  if [ -e "$state/asked" ] && ! { now=$(filter_now) && is_same_text "$now" "$loaded"; }; then
-    words="kept, but another tool has changed $changed since the load"
+  if [ -e "${run[state]}/asked" ] && ! { now=$(filter_now) && is_same_text "$now" "${run[loaded]}"; }; then
+    words="kept, but another tool has changed ${form[changed]} since the load"
   fi
-  if [ -e "$state/staying" ]; then mv "$state/staying" "$stayed"; else rm -f "$stayed"; fi
-  case $(cat "$state/settle") in
-    first) keep_old "$first"; rename_state "$state/before" "$first" && mv "$state/rules" "$last" ;;
-    again) mv "$state/rules" "$last" ;;
-    unknown) keep_old "$first"; mv "$state/rules" "$last" ;;
-    nothing) rm -f "$first" "$(older_of "$first")" "$last" "$stayed" ;;
+  if [ -e "${run[state]}/staying" ]; then mv "${run[state]}/staying" "${run[stayed]}"; else rm -f "${run[stayed]}"; fi
+  case $(cat "${run[state]}/settle") in
+    first) keep_old "${run[first]}"; rename_state "${run[state]}/before" "${run[first]}" && mv "${run[state]}/rules" "${run[last]}" ;;
+    again) mv "${run[state]}/rules" "${run[last]}" ;;
+    unknown) keep_old "${run[first]}"; mv "${run[state]}/rules" "${run[last]}" ;;
+    nothing) rm -f "${run[first]}" "$(older_of "${run[first]}")" "${run[last]}" "${run[stayed]}" ;;
   esac
-  finish 0 "$words"
+  finish 0 "$words" "$digests"
 }
 
 # Lists the saved states: the time, the size in bytes and the name of each file.
 list_remembered() {
   local each
-  for each in "$first" "$first".old.*; do
-    if [ -e "$each" ]; then stat -c '%.19y %8s %n' "$each" | sed "s|$state/||"; fi
+  for each in "${run[first]}" "${run[first]}".old.*; do
+    if [ -e "$each" ]; then stat -c '%.19y %8s %n' "$each" | sed "s|${run[state]}/||"; fi
   done
 }
 
 # Prints where the saved states are listed, if there are any.
 says_old() {
   local each
-  for each in "$first" "$first".old.*; do
-    if [ -e "$each" ]; then echo " (topos-load ${local:+--local }--remove --list lists saved states)"; return; fi
+  for each in "${run[first]}" "${run[first]}".old.*; do
+    if [ -e "$each" ]; then echo " (topos-load ${option[machine]:+--local }--remove --list lists saved states)"; return; fi
   done
 }
 
-# Writes the text to go back to: the saved state that is named, or that before the first load, or no rules. `older_saved`
+# Writes the text to go back to: the saved state that is named, or that before the first load, or no rules. run[older_saved]
 # is the file with the numbers of its connections.
 write_remembered() {
-  local source=$state/$file
-  older_saved=''
-  if [ -z "$file" ]; then source=$first; fi
-  if [ -n "$file" ] && { [[ $file != "${remembered}"first* || $file == */* ]] || ! [ -e "$source" ]; }; then
+  local file=${option[file]}
+  local source=${run[state]}/$file
+  run[older_saved]=''
+  if [ -z "$file" ]; then source=${run[first]}; fi
+  if [ -n "$file" ] && { [[ $file != "${form[remembered]}"first* || $file == */* ]] || ! [ -e "$source" ]; }; then
     refuse "$file: no saved state has this name (--remove --list)"
   fi
-  if [ -n "$file" ] || is_known "$state/before"; then
-    note "$changed will be restored from $source"
-    cat "$source" >"$state/rules" || refuse "cannot copy $source: nothing is changed"
-    older_saved=$(older_of "$source")
+  if [ -n "$file" ] || is_known "${run[state]}/before"; then
+    note "${form[changed]} will be restored from $source"
+    cat "$source" >"${run[state]}/rules" || refuse "cannot copy $source: nothing is changed"
+    run[older_saved]=$(older_of "$source")
   else
-    write_empty >"$state/rules" || refuse "cannot write $state: nothing is changed"
+    write_empty >"${run[state]}/rules" || refuse "cannot write ${run[state]}: nothing is changed"
   fi
 }
 
 # Writes a text without rules, for a state that is not known. An open firewall can be unwanted, and one that drops everything
 # as well, so a firewall is opened only on request. A machine that dropped everything could not be reached any more.
 write_empty() {
-  local unknown="the state of $changed before the first load is unknown"
+  local unknown="the state of ${form[changed]} before the first load is unknown"
   unknown+=$(says_old)
-  if [ -z "$local$open" ]; then
+  if [ -z "${option[machine]}${option[open]}" ]; then
     refuse "$unknown: nothing is changed; --remove --open removes all rules and accepts everything"
   fi
   note "$unknown: all rules are removed, and everything is accepted"
   write_open
 }
 
-# Writes the status and the words with which a load ends, also into the journal.
+# Writes the status and the words with which a load ends, also into the journal, with the digests in the third argument.
 finish() {
-  record "$2"
-  rm -f "$state"/{rules.others,rules.policy,rules.description,loaded,settle,asked,made,connections,staying}
-  ln -sfn "$1 $2" "$state/result" 2>/dev/null || ln -sfn "$1 -" "$state/result"
-  if [ "$1" != 71 ]; then rm -f "$state"/{armed,before,older.before,rules,log}; fi
+  record "$2" "${3:-}"
+  rm -f "${run[state]}"/{rules.others,rules.policy,rules.description,loaded,settle,asked,made,connections,staying}
+  ln -sfn "$1 $2" "${run[state]}/result" 2>/dev/null || ln -sfn "$1 -" "${run[state]}/result"
+  if [ "$1" != 71 ]; then rm -f "${run[state]}"/{armed,before,older.before,rules,log}; fi
 }
 
 # Prints the words with which the load ended.
-result_words() { readlink "$state/result" | sed 's/^[0-9]* //'; }
+result_words() { readlink "${run[state]}/result" | sed 's/^[0-9]* //'; }
 
 # Prints the status with which the load ended.
-result_status() { readlink "$state/result" | sed 's/ .*//'; }
+result_status() { readlink "${run[state]}/result" | sed 's/ .*//'; }
 
-# Writes a line into the journal: what happened, who asked for it, and the digests of the texts and of the description.
+# Writes a line into the journal: what happened, who asked for it, and the digests of the texts and of the description, which
+# are those of now unless the second argument has them.
 record() {
   local who=${SUDO_USER:-$(id -un)} line
   if ! command -v logger >/dev/null; then return; fi
-  line="$1 (by $who, loginuid $(login_of); $backend${digests:-$(digests_now)}; $words_given)"
+  line="$1 (by $who, loginuid $(login_of); ${option[backend]}${2:-$(digests_now)}; ${option[words]})"
   timeout 5 logger -t topos-load -- "${line//[[:cntrl:]]/?}" 2>/dev/null
 }
 
@@ -177,7 +195,7 @@ record() {
 digests_now() {
   local each
   for each in before rules rules.description; do
-    if [ -s "$state/$each" ]; then printf ' %s=%s' "${each#rules.}" "$(digest_of "$state/$each")"; fi
+    if [ -s "${run[state]}/$each" ]; then printf ' %s=%s' "${each#rules.}" "$(digest_of "${run[state]}/$each")"; fi
   done
 }
 

@@ -1,5 +1,6 @@
 # shellcheck shell=bash disable=SC2034,SC2154
-# The tools and programs that topos-load runs.
+# The tools and programs that topos-load runs. Reads `machine` and `unproved`, and reads and writes `backend` and `program`, of
+# option[..]; writes `namespace`, `save`, `restore`, `query`, `reason`, and the folder and files of saved states of run[..].
 
 # Refuses if a tool is missing, and names its package.
 need() {
@@ -31,40 +32,41 @@ need_descriptors() {
 
 # Finds the network namespace, by its inode.
 find_namespace() {
-  namespace=$(stat -Lc %i /proc/self/ns/net) || refuse 'cannot determine the network namespace: is /proc mounted?'
+  run[namespace]=$(stat -Lc %i /proc/self/ns/net) || refuse 'cannot determine the network namespace: is /proc mounted?'
 }
 
 # Prints the folder of the saved states for a back end.
-folder_of() { echo "/run/topos-load/$1-$namespace"; }
+folder_of() { echo "/run/topos-load/$1-${run[namespace]}"; }
 
 # Finds the tools of the back end, and the files of its saved states.
 find_tools() {
-  local middle=${backend:+-$backend}
-  save=iptables$middle-save restore=iptables$middle-restore
-  need awk flock setsid "$save" "$restore"
-  if [ -n "$local" ]; then need ip ss; fi
-  if [ -z "$backend" ]; then
-    case $("$restore" --version) in
-      *nf_tables*) backend=nft ;;
-      *) backend=legacy ;;
+  local middle=${option[backend]:+-${option[backend]}} saved
+  run[save]=iptables$middle-save run[restore]=iptables$middle-restore
+  need awk flock setsid "${run[save]}" "${run[restore]}"
+  if [ -n "${option[machine]}" ]; then need ip ss; fi
+  if [ -z "${option[backend]}" ]; then
+    case $("${run[restore]}" --version) in
+      *nf_tables*) option[backend]=nft ;;
+      *) option[backend]=legacy ;;
     esac
   fi
-  state=$(folder_of "$backend")
-  first=$state/${remembered}first last=$state/${remembered}last stayed=$state/${remembered}stayed
+  run[state]=$(folder_of "${option[backend]}")
+  saved=${run[state]}/${form[remembered]}
+  run[first]=${saved}first run[last]=${saved}last run[stayed]=${saved}stayed
 }
 
-# Whether the program may be run: it exists, and a list beside it says that it was proved. If not, `reason` says why.
+# Whether the program may be run: it exists, and a list beside it says that it was proved. If not, run[reason] says why.
 is_program_there() {
   local built=${self%/*/*}/out/topos beside=${self%/*}/topos
-  if [ -n "$program" ]; then :
-  elif [ -x "$built" ]; then program=$built
-  elif [ -n "${TOPOS:-}" ]; then program=$TOPOS
-  elif [ -f "$beside" ] && [ -x "$beside" ]; then program=$beside # cron does not search /usr/local/bin
-  else program=topos; fi
-  reason="cannot find $program"
-  command -v "$program" >/dev/null || return 1
-  reason="no proof found for $program"
-  [ -n "$unproved" ] || is_proved "$program" program
+  if [ -n "${option[program]}" ]; then :
+  elif [ -x "$built" ]; then option[program]=$built
+  elif [ -n "${TOPOS:-}" ]; then option[program]=$TOPOS
+  elif [ -f "$beside" ] && [ -x "$beside" ]; then option[program]=$beside # cron does not search /usr/local/bin
+  else option[program]=topos; fi
+  run[reason]="cannot find ${option[program]}"
+  command -v "${option[program]}" >/dev/null || return 1
+  run[reason]="no proof found for ${option[program]}"
+  [ -n "${option[unproved]}" ] || is_proved "${option[program]}" program
 }
 
 # Whether the list beside a program, which ./topos writes, has its digest, as the kind of the second argument.
@@ -84,21 +86,20 @@ digest_of() {
 
 # Refuses if the program may not be run.
 find_program() {
-  local reason
   if is_program_there; then return; fi
-  case $reason in
-    no*) refuse "$reason (topos.proved): nothing is changed; ./topos prove creates it, --unproved skips this check" ;;
-    *) refuse "$reason: specify the program with --program, or a rules file with --text" ;;
+  case ${run[reason]} in
+    no*) refuse "${run[reason]} (topos.proved): nothing is changed; ./topos prove creates it, --unproved skips this check" ;;
+    *) refuse "${run[reason]}: specify the program with --program, or a rules file with --text" ;;
   esac
 }
 
 # Finds `topos-query`: that of TOPOS_QUERY, else the one beside the program, else that of the path. Fails unless it is
 # proved.
 find_query() {
-  query=$(dirname "$(readlink -f "$(command -v "$program")")")/topos-query
-  if ! [ -x "$query" ]; then query=topos-query; fi
-  query=${TOPOS_QUERY:-$query}
-  command -v "$query" >/dev/null && { [ -n "$unproved" ] || is_proved "$query" query; }
+  run[query]=$(dirname "$(readlink -f "$(command -v "${option[program]}")")")/topos-query
+  if ! [ -x "${run[query]}" ]; then run[query]=topos-query; fi
+  run[query]=${TOPOS_QUERY:-${run[query]}}
+  command -v "${run[query]}" >/dev/null && { [ -n "${option[unproved]}" ] || is_proved "${run[query]}" query; }
 }
 
 # Whether a command prints a line that matches. The output is read whole first: a command that writes more after `grep -q`

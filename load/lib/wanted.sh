@@ -1,39 +1,40 @@
 # shellcheck shell=bash disable=SC2034,SC2154
-# The rules that are asked for: those of a description, or a rules file.
+# The rules that are asked for: those of a description, or a rules file. Writes run[wanted]; reads option[..], form[..] and
+# run[save].
 
-# Writes the rules into a file, which `wanted` names. Of a description the policy and a copy are beside it.
+# Writes the rules into a file, which run[wanted] names. Of a description the policy and a copy are beside it.
 write_rules() {
-  wanted=$1
+  run[wanted]=$1
   write_text "$1"
   if ! is_loaded "$1"; then refuse 'these rules name no host: nothing is changed'; fi
-  if [ -n "$local" ]; then look_at_addresses "$1"; fi
+  if [ -n "${option[machine]}" ]; then look_at_addresses "$1"; fi
 }
 
 # Copies a rules file, or lets topos write the rules of a description.
 write_text() {
-  if [ "$from" = text ]; then
-    cat -- "$file" >"$1" || refuse "cannot read $file: nothing is changed"
-    if ! is_written "$1"; then refuse "$file is not a complete rules file written by topos: nothing is changed"; fi
+  if [ "${option[from]}" = text ]; then
+    cat -- "${option[file]}" >"$1" || refuse "cannot read ${option[file]}: nothing is changed"
+    if ! is_written "$1"; then refuse "${option[file]} is not a complete rules file written by topos: nothing is changed"; fi
     : >"$1.policy" || refuse "cannot write $1.policy: nothing is changed"
     return
   fi
   find_program
   copy_description "$1.description"
-  if [ -z "$every_flow" ] && ! grep -qE "^[[:space:]]*[\"']?flow[\"']?[[:space:]]*=" "$1.description"; then
-    refuse "$file has no key flow, which requests every flow: add flow = [..], or use --every-flow"
+  if [ -z "${option[every_flow]}" ] && ! grep -qE "^[[:space:]]*[\"']?flow[\"']?[[:space:]]*=" "$1.description"; then
+    refuse "${option[file]} has no key flow, which requests every flow: add flow = [..], or use --every-flow"
   fi
-  if [ -n "$local" ]; then run_program "$1" local "$1.description" "$host"
-  elif [ -n "$repair" ]; then run_program "$1" repair iptables "$1.description"
+  if [ -n "${option[machine]}" ]; then run_program "$1" local "$1.description" "${option[host]}"
+  elif [ -n "${option[repair]}" ]; then run_program "$1" repair iptables "$1.description"
   else run_program "$1" rules iptables "$1.description"
   fi
-  if ! is_written "$1"; then refuse "$program did not write valid rules: nothing is changed"; fi
-  "$program" policy "$1.description" >"$1.policy" || refuse 'cannot determine the policy: nothing is changed'
+  if ! is_written "$1"; then refuse "${option[program]} did not write valid rules: nothing is changed"; fi
+  "${option[program]}" policy "$1.description" >"$1.policy" || refuse 'cannot determine the policy: nothing is changed'
 }
 
 # Runs the program with its output in a file, the first argument. If it fails, ends with its status.
 run_program() {
   local status=0
-  "$program" "${@:2}" >"$1" || status=$?
+  "${option[program]}" "${@:2}" >"$1" || status=$?
   if [ "$status" = 0 ]; then return; fi
   say 'topos wrote no rules: nothing is changed'
   exit "$status"
@@ -41,6 +42,7 @@ run_program() {
 
 # Copies the description once, so that the rules, the policy and the notes are of one text, even if the file changes.
 copy_description() {
+  local file=${option[file]}
   if [ -e "$file" ] && [ ! -f "$file" ]; then refuse "$file is not a regular file: nothing is changed"; fi
   if [ ! -r "$file" ]; then run_program /dev/stdout check "$file"; fi
   head -c 100000000 -- "$file" >"$1" || refuse "cannot copy $file to $1: nothing is changed"
@@ -70,14 +72,14 @@ path_to() {
 }
 
 # Prints the chains and their hosts, a line `H0 web` each; only a description has names.
-host_names() { awk '!seen[$1]++ { print "H" count++, $1 }' "$wanted.policy"; }
+host_names() { awk '!seen[$1]++ { print "H" count++, $1 }' "${run[wanted]}.policy"; }
 
 # Prints the file with the rules of a firewall for the description, also on the machine of a host.
-of_box() { if [ -n "$local" ]; then echo "$wanted.others"; else echo "$wanted"; fi; }
+of_box() { if [ -n "${option[machine]}" ]; then echo "${run[wanted]}.others"; else echo "${run[wanted]}"; fi; }
 
 # Replaces the first two words of each line, which are addresses, by the names of their hosts.
 named() {
-  awk "$ranges"'
+  awk "${form[ranges]}"'
     BEGIN { rest = "everybody-else" }
     FNR == 1 { input++ }
     input == 1 { called[$1] = $2; next }
@@ -100,7 +102,7 @@ named() {
 # WHO is `own` by the first file, the rules of a host; by the second one, the rules of a firewall for the same network,
 # `other` or, if the rest host has the address, `rest`; else `nobody`.
 place_addresses() {
-  ip -4 -o address show | awk "$ranges"'
+  ip -4 -o address show | awk "${form[ranges]}"'
     function is_among(from, to, count, address, each) {
       for (each = 1; each <= count; each++) if (from[each] <= address && address <= to[each]) return 1
       return 0
@@ -121,20 +123,21 @@ place_addresses() {
 # Refuses if no address of this machine is the host's, or if one is another host's.
 look_at_addresses() {
   local placed found others=/dev/null
-  if [ "$from" = description ]; then
+  if [ "${option[from]}" = description ]; then
     others=$1.others
-    "$program" repair iptables "$1.description" >"$others" || refuse 'cannot determine the addresses of the other hosts: nothing is changed'
+    "${option[program]}" repair iptables "$1.description" >"$others" ||
+      refuse 'cannot determine the addresses of the other hosts: nothing is changed'
   fi
   placed=$(place_addresses "$1" "$others")
   if ! grep -q '^own ' <<<"$placed"; then
-    say "this machine has no address of ${host:-the host of these rules}: nothing is changed"
+    say "this machine has no address of ${option[host]:-the host of these rules}: nothing is changed"
     exit 72
   fi
   found=$(those_of 'other|rest' "$placed")
   if [ -n "$found" ]; then refuse "these addresses of this machine belong to another host:$found: nothing is changed"; fi
   found=$(those_of nobody "$placed")
   if [ -z "$found" ]; then :
-  elif [ "$from" = text ]; then
+  elif [ "${option[from]}" = text ]; then
     note "packets from and to these addresses are dropped; they belong to another host or to none:$found"
   else note "packets from and to these addresses, which belong to no host, are dropped:$found"
   fi
@@ -147,23 +150,24 @@ those_of() { sed -nE "s/^($1) (.*)/ \2/p" <<<"$2" | tr -d '\n'; }
 refuse_foreign() {
   local others
   others=$(
-    grep -E "^-A ($chains) " "$1" | grep -Ev -e "$rule" -e "$log"
-    grep -E "^-A .* -[jg] ($chains)( |$)" "$1" | grep -Ev "$entry"
+    grep -E "^-A (${form[chains]}) " "$1" | grep -Ev -e "${form[rule]}" -e "${form[log]}"
+    grep -E "^-A .* -[jg] (${form[chains]})( |$)" "$1" | grep -Ev "${form[entry]}"
   )
   if [ -n "$others" ]; then
-    say "$named have rules, or jumps to them, that topos does not write: nothing is changed. These commands remove the rules:"
-    printf '%s\n' "$others" | sed "s/^-A /${save%-save} -D /" >&2
+    say "${form[named]} have rules, or jumps to them, that topos does not write: nothing is changed." \
+      'These commands remove the rules:'
+    printf '%s\n' "$others" | sed "s/^-A /${run[save]%-save} -D /" >&2
     if grep -q ' -j LOG' <<<"$others"; then say 'use --log to log dropped packets'; fi
     exit 69
   fi
-  others=$(grep -E "^-A ($entries) " "$1" | grep -Ev -e "$entry" -e "$log")
-  if [ -n "$others" ] && [ -z "$replace" ]; then
+  others=$(grep -E "^-A (${form[entries]}) " "$1" | grep -Ev -e "${form[entry]}" -e "${form[log]}")
+  if [ -n "$others" ] && [ -z "${option[replace]}" ]; then
     some_lines <<<"$others" >&2
-    if [ -n "$local" ] && grep -qE '^-A FORWARD .*-j H[0-9]+$' <<<"$others"; then
+    if [ -n "${option[machine]}" ] && grep -qE '^-A FORWARD .*-j H[0-9]+$' <<<"$others"; then
       say 'these are the rules of a firewall: topos-load --remove removes them'
     fi
-    say "these rules of $changed are not rules $whose, so the proof does not cover this $wall:"
-    refuse "nothing is changed; $replacing removes them"
+    say "these rules of ${form[changed]} are not rules ${form[whose]}, so the proof does not cover this ${form[wall]}:"
+    refuse "nothing is changed; ${form[replacing]} removes them"
   fi
 }
 

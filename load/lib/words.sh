@@ -1,9 +1,13 @@
 # shellcheck shell=bash disable=SC2034,SC2154
-# The command line of topos-load, and what it prints.
+# The command line of topos-load, and what it prints. Declares and writes option[..]; reads run[state].
 
-from=description seconds=60 guard='' digests='' was='' loaded='' flush='' changing=''
-repair='' every_flow='' backend='' replace='' keep='' program='' file='' host='' local='' log_drops='' open=''
-dry_run='' verbose='' unproved='' list=''
+# What the command line gives; `words` is the whole. find_pending and find_tools set the back end, is_program_there the
+# program, and end_in_place `machine` to that of the load that it ends.
+declare -gA option=(
+  [action]=load [from]=description [file]='' [host]='' [machine]='' [words]=''
+  [seconds]=60 [backend]='' [program]='' [unproved]='' [repair]='' [every_flow]='' [replace]='' [keep]='' [open]=''
+  [log]='' [dry_run]='' [verbose]='' [list]=''
+)
 
 # Prints how topos-load is called.
 usage() {
@@ -58,52 +62,54 @@ refuse() { say "$*"; exit 69; }
 wrong_words() { say "$1"; usage >&2; exit 64; }
 
 # Prints a note, except for --check, which prints nothing if it finds nothing.
-note() { if [ "$action" != check ]; then say "note: $*"; fi; }
+note() { if [ "${option[action]}" != check ]; then say "note: $*"; fi; }
 
 # Prints a note, the first argument, with the lines in the third one. If an earlier load printed the same lines, prints
 # their number and the second argument instead.
 note_lines() {
   local digest
   digest=$(printf '%s\n' "$1" "$3" | sha256sum)
-  if [ -z "$verbose" ] && grep -qsxF "$digest" "$state/noted"; then
+  if [ -z "${option[verbose]}" ] && grep -qsxF "$digest" "${run[state]}/noted"; then
     note "$(wc -l <<<"$3") $2, as in an earlier load (--verbose lists them)"
     return
   fi
   note "$1"
   some_lines <<<"$3" >&2
-  if [ -n "$dry_run" ] || grep -qsxF "$digest" "$state/noted"; then return; fi
-  printf '%s\n' "$digest" >>"$state/noted" || true # it is only printed again
+  if [ -n "${option[dry_run]}" ] || grep -qsxF "$digest" "${run[state]}/noted"; then return; fi
+  printf '%s\n' "$digest" >>"${run[state]}/noted" || true # it is only printed again
 }
 
 # Prints at most 20 lines and the number of the others; with --verbose all lines.
-some_lines() { awk -v all="$verbose" 'NR <= 20 || all { print } END { if (NR > 20 && !all) print "and " NR - 20 " more" }'; }
+some_lines() {
+  awk -v all="${option[verbose]}" 'NR <= 20 || all { print } END { if (NR > 20 && !all) print "and " NR - 20 " more" }'
+}
 
 # Takes an action from the command line: there is only one.
 only_action() {
-  if [ "$action" != load ]; then wrong_words "$1: only one action is allowed"; fi
-  action=${1#--}
+  if [ "${option[action]}" != load ]; then wrong_words "$1: only one action is allowed"; fi
+  option[action]=${1#--}
 }
 
 # Reads the command line.
 read_words() {
   local -a words=()
-  words_given=$*
+  option[words]=$*
   while [ $# -gt 0 ]; do
     case $1 in
       --help) usage; exit 0 ;;
-      --local) local=yes ;;
-      --text) from=text ;;
+      --local) option[machine]=yes ;;
+      --text) option[from]=text ;;
       --check | --remove | --clean | --confirm | --back | --guard) only_action "$1" ;;
-      --repair) repair=yes ;;
-      --every-flow) every_flow=yes ;;
-      --replace-forward | --replace-rules) replace=$1 ;;
-      --keep-connections) keep=yes ;;
-      --log) log_drops=yes ;;
-      --dry-run) dry_run=yes ;;
-      --verbose) verbose=yes ;;
-      --unproved) unproved=--unproved ;;
-      --list) list=yes ;;
-      --open) open=yes ;;
+      --repair) option[repair]=yes ;;
+      --every-flow) option[every_flow]=yes ;;
+      --replace-forward | --replace-rules) option[replace]=$1 ;;
+      --keep-connections) option[keep]=yes ;;
+      --log) option[log]=yes ;;
+      --dry-run) option[dry_run]=yes ;;
+      --verbose) option[verbose]=yes ;;
+      --unproved) option[unproved]=--unproved ;;
+      --list) option[list]=yes ;;
+      --open) option[open]=yes ;;
       --wait | --backend | --program)
         if [ $# -lt 2 ]; then wrong_words "$1: requires a value"; fi
         read_value "$1" "$2"
@@ -121,31 +127,35 @@ read_words() {
 # Takes the arguments that are no options: a file, and with --local a host.
 name_words() {
   local wanted=0 spare
-  case $action in load | check) wanted=1 ;; esac
-  if [ "$wanted:$from:$local" = 1:description:yes ]; then wanted=2; fi
+  case ${option[action]} in load | check) wanted=1 ;; esac
+  if [ "$wanted:${option[from]}:${option[machine]}" = 1:description:yes ]; then wanted=2; fi
   if [ $# -lt "$wanted" ]; then
     if [ $# = 1 ]; then wrong_words 'missing argument: host'; else wrong_words 'missing argument: file'; fi
   fi
-  if [ "$action" = remove ]; then wanted=1; fi
+  if [ "${option[action]}" = remove ]; then wanted=1; fi
   spare=$((wanted + 1))
   if [ $# -gt "$wanted" ]; then wrong_words "${!spare}: unexpected argument"; fi
-  file=${1:-} host=${2:-}
+  option[file]=${1:-} option[host]=${2:-}
 }
 
 # Refuses options that do not go together, and selects what is changed.
 fit_options() {
-  if [ "$action" != load ]; then
-    if [ -n "$log_drops" ]; then wrong_words '--log: only valid for a load'; fi
-    if [ -n "$dry_run" ]; then wrong_words '--dry-run: only valid for a load'; fi
+  if [ "${option[action]}" != load ]; then
+    if [ -n "${option[log]}" ]; then wrong_words '--log: only valid for a load'; fi
+    if [ -n "${option[dry_run]}" ]; then wrong_words '--dry-run: only valid for a load'; fi
   fi
-  if [ -n "$open" ] && [ "$action" != remove ]; then wrong_words '--open: only valid with --remove'; fi
-  if [ -n "$list" ] && [ "$action:$open$file" != remove: ]; then wrong_words '--list: only valid with --remove'; fi
-  if [ -n "$local" ]; then
-    if [ -n "$repair" ]; then wrong_words '--repair: not valid with --local'; fi
-    if [ "$replace" = --replace-forward ]; then wrong_words '--replace-forward: not valid with --local, use --replace-rules'; fi
+  if [ -n "${option[open]}" ] && [ "${option[action]}" != remove ]; then wrong_words '--open: only valid with --remove'; fi
+  if [ -n "${option[list]}" ] && [ "${option[action]}:${option[open]}${option[file]}" != remove: ]; then
+    wrong_words '--list: only valid with --remove'
+  fi
+  if [ -n "${option[machine]}" ]; then
+    if [ -n "${option[repair]}" ]; then wrong_words '--repair: not valid with --local'; fi
+    if [ "${option[replace]}" = --replace-forward ]; then
+      wrong_words '--replace-forward: not valid with --local, use --replace-rules'
+    fi
     change_machine
   else
-    if [ "$replace" = --replace-rules ]; then wrong_words '--replace-rules: only valid with --local'; fi
+    if [ "${option[replace]}" = --replace-rules ]; then wrong_words '--replace-rules: only valid with --local'; fi
     change_box
   fi
 }
@@ -154,10 +164,10 @@ fit_options() {
 read_value() {
   case $1:$2 in
     --wait:*[!0-9]* | --wait: | --wait:??????*) wrong_words '--wait: expected a number of seconds, at most 99999' ;;
-    --wait:*) seconds=$((10#$2)) ;; # not octal
-    --backend:nft | --backend:legacy) backend=$2 ;;
+    --wait:*) option[seconds]=$((10#$2)) ;; # not octal
+    --backend:nft | --backend:legacy) option[backend]=$2 ;;
     --backend:*) wrong_words '--backend: expected nft or legacy' ;;
-    --program:*) program=$2 ;;
+    --program:*) option[program]=$2 ;;
   esac
 }
 
