@@ -1,5 +1,5 @@
 -- Laws of lists of changes: how they result from lists of pairs, and which packets change if a list has a change.
-use Rattle.std.proofs.Common.{◌≡◌, ◌⊎◌, ◌↔◌, inl, inr, ℕ, zero, suc, ◌<◌, Bool, true, false, List, [], ◌∷◌, ◌++◌, length, map, refl, sym, ap, subst, ◌∙◌, arith, append_assoc, append-nil}
+use Rattle.std.proofs.Common.{◌≡◌, ◌↔◌, inl, inr, ℕ, ◌<◌, Bool, true, false, List, [], ◌∷◌, ◌++◌, length, map, refl, sym, ap, subst, ◌∙◌, arith, append_assoc, append-nil}
 use Rattle.std.specs.List.{All, Contains}
 use Rattle.std.proofs.lemmas.List.{map-append}
 use Rattle.std.proofs.lemmas.List.Elements.{All-head, All-tail, Contains-append_left, Contains-append_right}
@@ -20,6 +20,7 @@ use Rattle.change_core.specs.Changes.{AreChanges, AreChangesBy, AreListedFor, Ch
 use Rattle.change_core.specs.Names.{IsOfNames, named_owner}
 use Rattle.change_core.specs.inner.Changing.{IsAdded, change_of}
 use Rattle.change_core.specs.inner.Naming.{AreNamed, IsNamed, name_in, name_of}
+use Rattle.change_core.proofs.ListLaws.{contains_cases, contains_none}
 use Rattle.change_core.proofs.NamingLaws.{between_named, name_among}
 
 -- 1. A list of pairs becomes a list of changes of one kind.
@@ -112,13 +113,6 @@ four_added old new a b c d e empty first second third fourth = (
 
 -- 3. The list has the change of each packet that changes.
 
-nothing_in : {X : Type 0} (x : X) → Contains [] x → ⊥
-nothing_in x (k, within, is) = omega (arith, within)
-
-first_or_later : {X : Type 0} (x : X) (xs : List X) (y : X) → Contains (x ∷ xs) y → (x ≡ y) ⊎ Contains xs y
-first_or_later x xs y (zero, within, is) = inl is
-first_or_later x xs y (suc k, within, is) = inr (k, omega arith, is)
-
 -- A part of the list is the list for an element.
 pub record IsPartFor {A : Type 0} (Listed : A → List Change → Type 0) (x : A) (cs : List Change) : Type 0 where
   pub part : List Change
@@ -127,8 +121,8 @@ pub record IsPartFor {A : Type 0} (Listed : A → List Change → Type 0) (x : A
 
 part_for : {A : Type 0} (Listed : A → List Change → Type 0) (xs : List A) (cs : List Change) → AreListedFor Listed xs cs → (x : A) → Contains xs x
     → IsPartFor Listed x cs
-part_for Listed [] cs are x there = absurd (nothing_in x there)
-part_for {A = A} Listed (y ∷ xs) cs are x there = elim (first_or_later y xs x there) [
+part_for Listed [] cs are x there = absurd (contains_none x there)
+part_for {A = A} Listed (y ∷ xs) cs are x there = elim (contains_cases y xs x there) [
   | inl is ↦ record {
     part = are.0;
     listed = subst (λ (z : A). Listed z are.0) is are.3;
@@ -216,7 +210,7 @@ module _ (old new : Policy) where
 
   none_changes : (cs : List Change) → AreChanges old new cs → cs ≡ [] → (kind : ChangeKind) (p : Packet) → IsPacket p → ChangesBy old new kind p → ⊥
   none_changes cs are empty kind p is changes =
-      let has = complete_where old new cs are kind p is changes in nothing_in has.0 (subst (λ (l : List Change). Contains l has.0) empty has.1)
+      let has = complete_where old new cs are kind p is changes in contains_none has.0 (subst (λ (l : List Change). Contains l has.0) empty has.1)
 
   alike_where : (cs : List Change) → AreChanges old new cs → cs ≡ [] → TreatAlike old new
   alike_where cs are empty p is = (

@@ -1,11 +1,23 @@
 -- Laws of lists: elements of joined and filtered lists, and properties of all pairs of elements.
-use Rattle.std.proofs.Common.{◌≡◌, inl, inr, suc, Bool, true, false, cond, List, [], ◌∷◌, ◌++◌, get_or, refl, sym, ap, subst, ◌∙◌, arith}
+use Rattle.std.proofs.Common.{◌≡◌, ◌⊎◌, inl, inr, zero, suc, Bool, true, false, cond, List, [], ◌∷◌, ◌++◌, get_or, refl, sym, ap, subst, ◌∙◌, arith}
 use Rattle.std.specs.List.{All, AllPairs, Contains, filter, flat_map}
 use Rattle.std.proofs.lemmas.List.Elements.{All-append, All-contains, Contains-append_cases, Contains-append_left, Contains-append_right, Contains-get_or}
 use Rattle.std.proofs.lemmas.List.Kept.{AllPairs-cons}
-use Rattle.audit_core.proofs.OrderLemmas.{contains_cases, contains_first, contains_later, contains_none}
 
 -- 1. Elements.
+
+pub contains_cases : {X : Type 0} (x : X) (xs : List X) (d : X) → Contains (x ∷ xs) d → (x ≡ d) ⊎ Contains xs d
+contains_cases x xs d (zero, within, is) = inl is
+contains_cases x xs d (suc k, within, is) = inr (k, omega arith, is)
+
+pub contains_later : {X : Type 0} (x : X) (xs : List X) (d : X) → Contains xs d → Contains (x ∷ xs) d
+contains_later x xs d (k, within, is) = (suc k, omega arith, is)
+
+pub contains_none : {X : Type 0} (d : X) → Contains [] d → ⊥
+contains_none d (k, within, is) = omega arith
+
+pub contains_first : {X : Type 0} (x : X) (xs : List X) (d : X) → x ≡ d → Contains (x ∷ xs) d
+contains_first x xs d is = (0, omega arith, is)
 
 -- An element of a joined list is an element of one of its parts.
 pub part_of : {X Y : Type 0} (f : X → List Y) (xs : List X) (y : Y) → Contains (flat_map f xs) y → (x : X) × Contains xs x × Contains (f x) y

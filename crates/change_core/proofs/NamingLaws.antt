@@ -13,8 +13,9 @@ use Rattle.header_space.proofs.OwnersLaws.{covered_left, covered_right}
 use Rattle.change_core.specs.declared.named_owner.NamedOwner.{NamedOwner}
 use Rattle.change_core.specs.declared.named_owner.NamedOwner.TheVariants.{New, Old, Nobody}
 use Rattle.change_core.specs.Names.{IsOfNames, all_names, name_from, named_owner, new_names_from, old_names_from}
-use Rattle.audit_core.proofs.SiteLemmas.{owner_below}
+use Rattle.policy_space.proofs.FlowLaws.{owner_below}
 use Rattle.change_core.specs.inner.Naming.{AreAscending, HaveNamed, IsNamed, IsRangeNamed, name_in, name_of}
+use Rattle.change_core.proofs.ListLaws.{contains_first, contains_later}
 
 -- 1. The ranges of an owner, one after another.
 
@@ -124,33 +125,27 @@ names_are new old owned is =
 
 -- 3. The list has the owner of each address.
 
-first_among : {X : Type 0} (x : X) (xs : List X) (y : X) → x ≡ y → Contains (x ∷ xs) y
-first_among x xs y is = (0, omega arith, is)
-
-later_among : {X : Type 0} (x : X) (xs : List X) (y : X) → Contains xs y → Contains (x ∷ xs) y
-later_among x xs y (k, within, is) = (suc k, omega arith, is)
-
 nobody_after : (j : ℕ) (old : List Host) → Contains (old_names_from j old) Nobody
-nobody_after j [] = first_among Nobody [] Nobody refl
-nobody_after j (h ∷ hs) = later_among (Old j) (old_names_from (j + 1) hs) Nobody (nobody_after (j + 1) hs)
+nobody_after j [] = contains_first Nobody [] Nobody refl
+nobody_after j (h ∷ hs) = contains_later (Old j) (old_names_from (j + 1) hs) Nobody (nobody_after (j + 1) hs)
 
 old_after : (j : ℕ) (old : List Host) (k n : ℕ) → k < length old → n ≡ j + k → Contains (old_names_from j old) (Old n)
 old_after j [] k n low is = absurd (omega (arith, low))
 old_after j (h ∷ hs) zero n low is =
-    first_among (Old j) (old_names_from (j + 1) hs) (Old n) (let same : j ≡ n = omega (arith, is) in ap (λ (x : ℕ). Old x) same)
+    contains_first (Old j) (old_names_from (j + 1) hs) (Old n) (let same : j ≡ n = omega (arith, is) in ap (λ (x : ℕ). Old x) same)
 old_after j (h ∷ hs) (suc k) n low is =
-    later_among (Old j) (old_names_from (j + 1) hs) (Old n) (old_after (j + 1) hs k n (omega (arith, low)) (omega (arith, is)))
+    contains_later (Old j) (old_names_from (j + 1) hs) (Old n) (old_after (j + 1) hs k n (omega (arith, low)) (omega (arith, is)))
 
 new_after : (i : ℕ) (new old : List Host) (k n : ℕ) → k < length new → n ≡ i + k → Contains (new_names_from i new old) (New n)
 new_after i [] old k n low is = absurd (omega (arith, low))
 new_after i (h ∷ hs) old zero n low is =
-    first_among (New i) (new_names_from (i + 1) hs old) (New n) (let same : i ≡ n = omega (arith, is) in ap (λ (x : ℕ). New x) same)
+    contains_first (New i) (new_names_from (i + 1) hs old) (New n) (let same : i ≡ n = omega (arith, is) in ap (λ (x : ℕ). New x) same)
 new_after i (h ∷ hs) old (suc k) n low is =
-    later_among (New i) (new_names_from (i + 1) hs old) (New n) (new_after (i + 1) hs old k n (omega (arith, low)) (omega (arith, is)))
+    contains_later (New i) (new_names_from (i + 1) hs old) (New n) (new_after (i + 1) hs old k n (omega (arith, low)) (omega (arith, is)))
 
 after_new : (i : ℕ) (new old : List Host) (x : NamedOwner) → Contains (old_names_from 0 old) x → Contains (new_names_from i new old) x
 after_new i [] old x there = there
-after_new i (h ∷ hs) old x there = later_among (New i) (new_names_from (i + 1) hs old) x (after_new (i + 1) hs old x there)
+after_new i (h ∷ hs) old x there = contains_later (New i) (new_names_from (i + 1) hs old) x (after_new (i + 1) hs old x there)
 
 pub name_among : (new old : List Host) (a : ℕ) → Contains (all_names new old) (named_owner new old a)
 name_among new old a = by_owners (owner_of new a) (owner_of old a) refl refl

@@ -19,9 +19,8 @@ use Rattle.flow_set.specs.laws.HostSetLaws.{contains-insert}
 use Rattle.header_space.specs.Owners.{owners_from, owners_of}
 use Rattle.change_core.specs.declared.sharing.Sharing.{Sharing}
 use Rattle.change_core.specs.inner.Sharing.{AreMarked, AreSharers, AreShared, OwnerBefore, SharesBelow, is_marked, row_at}
-use Rattle.audit_core.proofs.OrderLemmas.{contains_first, contains_later, contains_none}
-use Rattle.audit_core.proofs.SiteLemmas.{owner_below}
-use Rattle.change_core.proofs.ListLaws.{pairs_none, pairs_one, passing_among}
+use Rattle.policy_space.proofs.FlowLaws.{owner_below}
+use Rattle.change_core.proofs.ListLaws.{contains_first, contains_later, contains_none, pairs_none, pairs_one, passing_among}
 
 -- 1. The table.
 

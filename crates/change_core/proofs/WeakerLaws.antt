@@ -19,8 +19,7 @@ use Rattle.change_core.specs.declared.weaker.Weaker.{Weaker}
 use Rattle.change_core.specs.Weaker.{AreWeaker, ComesBefore, IsOfFlow, IsWeaker, SharePacket}
 use Rattle.change_core.specs.inner.Listing.{weaker_from, weaker_of, weaker_with}
 use Rattle.change_core.specs.inner.Sharing.{AreShared, OwnerBefore, Shares, flow_in, row_at}
-use Rattle.audit_core.proofs.OrderLemmas.{contains_cases, contains_first, contains_later, contains_none}
-use Rattle.change_core.proofs.ListLaws.{pairs_none, pairs_of_parts, pairs_one, part_among, part_of}
+use Rattle.change_core.proofs.ListLaws.{contains_cases, contains_first, contains_later, contains_none, pairs_none, pairs_of_parts, pairs_one, part_among, part_of}
 
 -- 1. Packets of two flows.
 

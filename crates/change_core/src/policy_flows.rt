@@ -5,10 +5,10 @@ ghost use Rattle.host_net.specs.declared.packet.Packet.{Packet};
 ghost use Rattle.header_space.specs.Boxes.{IsBox, IsIn, Narrows};
 ghost use Rattle.change_core.specs.inner.Gaining.{are_of, flows_with};
 
-use audit_core::is_of_within;
 use flow_set::FlowSet;
 use header_space::PacketBox;
 use pkt_core::FlowPolicy;
+use policy_space::is_of_within;
 use std::marker::Model;
 
 /// The permitted or the stateful flows of a policy.

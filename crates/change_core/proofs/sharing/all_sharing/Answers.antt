@@ -1,6 +1,6 @@
 use Rattle.std.proofs.Common.{◌<◌, length, arith, ◌∙◌}
 use Rattle.header_space.proofs.OwnersLaws.{next_small}
-use Rattle.audit_core.proofs.SiteLemmas.{owner_below}
+use Rattle.policy_space.proofs.FlowLaws.{owner_below}
 use Rattle.change_core.proofs.SharingLaws.{marked_all, marked_none, marked_step}
 use Rattle.change_core.proofs.sharing.all_sharing.Goals as goal
 
