@@ -3,7 +3,7 @@ use Rattle.std.proofs.Common.{◌≡◌, ◌<◌, ◌∙◌, ℕ, List, [], ◌�
 use Rattle.std.proofs.lemmas.List.Elements.{All-cons, All-nil}
 use Rattle.std.specs.Prelude.{All, codes}
 use Rattle.std.specs.Option.{ForSome}
-use Rattle.audit_core.proofs.SiteLemmas.{owner_below}
+use Rattle.policy_space.proofs.FlowLaws.{owner_below}
 use Rattle.audit_core.specs.Pairs.{AreDifferences, AreListedFor, Case, IsDifference, IsListedFor, all_cases}
 use Rattle.header_space.specs.Owners.{owners_of}
 use Rattle.audit_core.specs.Sides.{Sides}

@@ -3,7 +3,7 @@ use Rattle.std.proofs.Common.{◌≡◌, ◌<◌, ◌+◌, ℕ, suc, List, [], �
 use Rattle.std.proofs.lemmas.List.Elements.{All-append, All-cons, All-nil}
 use Rattle.std.specs.Prelude.{All}
 use Rattle.std.specs.Option.{ForSome}
-use Rattle.audit_core.specs.Rules.{Rules}
+use Rattle.rules_space.specs.Rules.{Rules}
 use Rattle.decide_core.specs.Flows.{AreFlows, AreFlowsOfEach}
 use Rattle.decide_core.specs.declared.flows.PairFlows.{PairFlows}
 use Rattle.header_space.specs.Owners.{IsOfPair, owners_from, owners_of}

@@ -2,7 +2,7 @@
 use Rattle.std.proofs.Common.{◌≡◌, ℕ, Bool, true, List, [], ◌∷◌, length, map, not, refl, sym, ◌∙◌, ap, ap₂, subst}
 use Rattle.std.specs.Prelude.{IsTrue, if◌then◌else◌}
 use Rattle.std.specs.List.{Contains}
-use Rattle.audit_core.proofs.OrderLemmas.{contains_first, contains_none}
+use Rattle.rules_space.proofs.ListLaws.{contains_first, contains_none}
 use Rattle.change_core.specs.Weaker.{AreWeaker}
 use Rattle.change_core.specs.declared.weaker.Weaker.{Weaker}
 use Rattle.explain_core.specs.Failing.{AreDenying}

@@ -1,7 +1,7 @@
 -- The answer of `flows` as JSON (docs/QUERIES.md).
 use Rattle.std.specs.Prelude.{ℕ, ◌==◌, ◌||◌, Bool, List, [], ◌∷◌, ◌++◌, codes, if◌then◌else◌}
 use Rattle.std.specs.List.{flat_map}
-use Rattle.audit_core.specs.Rules.{Rules, Chains, Entries}
+use Rattle.rules_space.specs.Rules.{Rules, Chains, Entries}
 use Rattle.decide_core.specs.declared.flows.FlowRange.{FlowRange}
 use Rattle.decide_core.specs.declared.flows.PairFlows.{PairFlows}
 use Rattle.host_net.specs.Host.{Host}

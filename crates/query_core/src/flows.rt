@@ -1,7 +1,7 @@
 //! The answer of `flows` as JSON.
 
 ghost use Rattle.std.specs.Prelude.{◌≡◌, ◌++◌, All, IfOk, OnOk};
-ghost use Rattle.audit_core.specs.RulesView.{rules_of};
+ghost use Rattle.rules_space.specs.RulesView.{rules_of};
 ghost use Rattle.query_core.specs.FlowsJson.{entry_json, flow_range_json, flows_json, pair_flows_json, place_json, rule_json};
 ghost use Rattle.query_core.specs.inner.Fitting.{FitsFlows};
 
@@ -9,16 +9,16 @@ use crate::array::{ItemWriter, push_array};
 use crate::compare::push_owner;
 use crate::push::{push, push_bool, push_escaped, push_rule_number};
 use crate::ranges::{push_header, push_header_or_null, push_range};
-use audit_core::Text;
 use decide_core::{FlowRange, PairFlows};
 use host_net::Hosts;
 use ipt_rules::{Place, Ruleset};
+use rules_space::RulesRef;
 use std::alloc::{AllocError, Global};
 
 /// Returns the flows that the rules let pass and the dead rules as one object on one line.
 pub fn flows_json(
     alloc: Global,
-    rules: &Text<'_>,
+    rules: &RulesRef<'_>,
     hosts: &Hosts,
     flows: &[PairFlows],
     dead: &[Place],
@@ -33,7 +33,7 @@ pub fn flows_json(
 
 fn push_answer(
     text: &mut Vec<u8>,
-    rules: &Text<'_>,
+    rules: &RulesRef<'_>,
     hosts: &Hosts,
     flows: &[PairFlows],
     dead: &[Place],
@@ -51,12 +51,12 @@ fn push_answer(
 // The writer of pairs of owners.
 #[derive(Drop)]
 struct PairWriter<'a, 'b> {
-    rules: &'a Text<'a>,
+    rules: &'a RulesRef<'a>,
     hosts: &'b Hosts,
 }
 
 impl<'a, 'b> ItemWriter<PairFlows> for PairWriter<'a, 'b> {
-    ghost use Rattle.audit_core.specs.RulesView.{rules_of};
+    ghost use Rattle.rules_space.specs.RulesView.{rules_of};
     ghost use Rattle.query_core.specs.FlowsJson.{pair_flows_json};
     ghost use Rattle.query_core.specs.inner.Fitting.{FitsFlows};
 
@@ -71,7 +71,7 @@ impl<'a, 'b> ItemWriter<PairFlows> for PairWriter<'a, 'b> {
 
 fn push_pair(
     text: &mut Vec<u8>,
-    rules: &Text<'_>,
+    rules: &RulesRef<'_>,
     hosts: &Hosts,
     flows: &PairFlows,
 ) -> Result<(), AllocError>
@@ -90,11 +90,11 @@ fn push_pair(
 // The writer of ranges of services.
 #[derive(Drop)]
 struct FlowRangeWriter<'a> {
-    rules: &'a Text<'a>,
+    rules: &'a RulesRef<'a>,
 }
 
 impl<'a> ItemWriter<FlowRange> for FlowRangeWriter<'a> {
-    ghost use Rattle.audit_core.specs.RulesView.{rules_of};
+    ghost use Rattle.rules_space.specs.RulesView.{rules_of};
     ghost use Rattle.query_core.specs.FlowsJson.{flow_range_json};
 
     ghost fits = { λ _ _. Unit {0} };
@@ -108,7 +108,7 @@ impl<'a> ItemWriter<FlowRange> for FlowRangeWriter<'a> {
 
 fn push_flow_range(
     text: &mut Vec<u8>,
-    rules: &Text<'_>,
+    rules: &RulesRef<'_>,
     flows: &FlowRange,
 ) -> Result<(), AllocError>
     ensures { OnOk result (text.new.items ≡ text.old.items ++ flow_range_json (rules_of rules.now) flows.now) }
@@ -128,11 +128,11 @@ fn push_flow_range(
 // The writer of places of rules.
 #[derive(Drop)]
 struct PlaceWriter<'a> {
-    rules: &'a Text<'a>,
+    rules: &'a RulesRef<'a>,
 }
 
 impl<'a> ItemWriter<Place> for PlaceWriter<'a> {
-    ghost use Rattle.audit_core.specs.RulesView.{rules_of};
+    ghost use Rattle.rules_space.specs.RulesView.{rules_of};
     ghost use Rattle.query_core.specs.FlowsJson.{place_json};
 
     ghost fits = { λ _ _. Unit {0} };
@@ -144,12 +144,12 @@ impl<'a> ItemWriter<Place> for PlaceWriter<'a> {
     }
 }
 
-fn push_place(text: &mut Vec<u8>, rules: &Text<'_>, place: Place) -> Result<(), AllocError>
+fn push_place(text: &mut Vec<u8>, rules: &RulesRef<'_>, place: Place) -> Result<(), AllocError>
     ensures { OnOk result (text.new.items ≡ text.old.items ++ place_json (rules_of rules.now) place) }
 {
     match rules {
-        Text::Ipt(rules) => push_rule(text, rules, place),
-        Text::Ofp(_) => push_entry(text, place),
+        RulesRef::Ipt(rules) => push_rule(text, rules, place),
+        RulesRef::Ofp(_) => push_entry(text, place),
     }
 }
 

@@ -6,9 +6,9 @@ use Rattle.audit_core.proofs.PairLaws.{first_is, one_list_of_differences}
 use Rattle.audit_core.specs.Findings.{DifferSomewhere}
 use Rattle.audit_core.specs.Pairs.{AreDifferences, Case, IsComplete, IsDifference, all_cases}
 use Rattle.header_space.specs.Owners.{owners_of}
-use Rattle.audit_core.specs.Rules.{Rules, filter_of}
+use Rattle.rules_space.specs.Rules.{Rules, filter_of}
 use Rattle.audit_core.specs.Sides.{AreEquivalent, Sides, sides_of}
-use Rattle.audit_core.specs.Verdicts.{GivesOne}
+use Rattle.rules_space.specs.Verdicts.{GivesOne}
 use Rattle.audit_core.specs.declared.difference.Difference.{Difference}
 use Rattle.net_core.proofs.PolicyLaws.{IsSubset-stateful}
 use Rattle.net_core.specs.Network.{Network}

@@ -2,7 +2,7 @@
 use Rattle.std.specs.Prelude.{◌≡◌, ℕ, List, [], ◌∷◌, codes}
 use Rattle.audit_core.specs.Findings.{DifferSomewhere}
 use Rattle.audit_core.specs.Pairs.{AreDifferences, IsComplete}
-use Rattle.audit_core.specs.Rules.{Rules}
+use Rattle.rules_space.specs.Rules.{Rules}
 use Rattle.audit_core.specs.Sides.{AreEquivalent, Sides}
 use Rattle.audit_core.specs.declared.difference.Difference.{Difference}
 use Rattle.net_core.specs.Network.{Network}

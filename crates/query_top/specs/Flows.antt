@@ -1,6 +1,6 @@
 -- `flows DIALECT FILE RULES`: what rules let pass between the hosts of a network.
 use Rattle.std.specs.Prelude.{◌≡◌, ℕ, List}
-use Rattle.audit_core.specs.Rules.{Rules}
+use Rattle.rules_space.specs.Rules.{Rules}
 use Rattle.decide_core.specs.DeadPlaces.{AreDeadPlaces}
 use Rattle.decide_core.specs.Flows.{AreFlows}
 use Rattle.decide_core.specs.declared.flows.PairFlows.{PairFlows}

@@ -11,8 +11,8 @@ use Rattle.audit_core.specs.FindingText.{trace_text}
 use Rattle.audit_core.specs.inner.FindingText.{finding_text}
 use Rattle.audit_core.specs.Lists.{front_of}
 use Rattle.audit_core.specs.Places.{representatives_of}
-use Rattle.audit_core.specs.Rules.{Rules, filter_of}
-use Rattle.audit_core.specs.Verdicts.{GivesOne}
+use Rattle.rules_space.specs.Rules.{Rules, filter_of}
+use Rattle.rules_space.specs.Verdicts.{GivesOne}
 use Rattle.pkt_core.proofs.AnyTrackingLaws.{forwards_only_expected}
 use Rattle.audit_core.specs.Sides.{AreSafe, AreEquivalent, Sides, sides_of}
 use Rattle.audit_core.specs.declared.finding.Finding.{Finding}

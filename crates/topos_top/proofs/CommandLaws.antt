@@ -1,7 +1,7 @@
 -- The obligations of each command's outcomes after its files were read.
 use Rattle.std.proofs.Common.{◌≡◌, ℕ, List, true, refl, sym, ◌∙◌}
 use Rattle.audit_core.specs.Findings.{DifferSomewhere}
-use Rattle.audit_core.specs.Rules.{Rules as AuditedRules}
+use Rattle.rules_space.specs.Rules.{Rules as AuditedRules}
 use Rattle.audit_core.specs.Sides.{AreEquivalent}
 use Rattle.host_net.specs.Packet.{IsPacket}
 use Rattle.net_core.specs.inner.Fitting.{IsNetwork}

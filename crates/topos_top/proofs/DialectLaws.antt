@@ -1,6 +1,6 @@
 -- The laws of each dialect: by them rules are parsed in one way, and the rules of a policy have their guarantee.
 use Rattle.std.proofs.Common.{◌≡◌, ◌<◌, ℕ, List, length, ◌++◌, Some, codes, refl, ap, sym, ◌∙◌, arith}
-use Rattle.audit_core.specs.Rules.{filter_of}
+use Rattle.rules_space.specs.Rules.{filter_of}
 use Rattle.emit_core.specs.FlowTable.{flow_entries}
 use Rattle.emit_core.proofs.ForwardingLaws.{layout_enforces}
 use Rattle.emit_core.proofs.LayoutRulesLaws.{layout_no_other_state}

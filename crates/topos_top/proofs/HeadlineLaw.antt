@@ -1,6 +1,6 @@
 -- The headline, from the results of the commands that write rules and descriptions, and of the command that compares rules.
 use Rattle.std.proofs.Common.{◌≡◌, inl, inr, ℕ, List, Option, Some, subst}
-use Rattle.audit_core.specs.Rules.{Rules as AuditedRules}
+use Rattle.rules_space.specs.Rules.{Rules as AuditedRules}
 use Rattle.audit_core.specs.Sides.{AreEquivalent, AreSafe}
 use Rattle.edge_io.specs.Observable.{Files}
 use Rattle.net_core.specs.Network.{Network}

@@ -1,6 +1,6 @@
 -- The dialects of rules: their texts, their parsers, the packets that rules forward, and the rules of a policy.
 use Rattle.std.specs.Prelude.{◌≡◌, ◌≤◌, ◌<◌, ℕ, List, [], ◌∷◌, ◌++◌, length, codes, decimal}
-use Rattle.audit_core.specs.Rules.{Rules as AuditedRules, Chains, Entries}
+use Rattle.rules_space.specs.Rules.{Rules as AuditedRules, Chains, Entries}
 use Rattle.emit_core.specs.FlowTable.{flow_entries}
 use Rattle.emit_core.specs.EmitRefusals.{rule_limit}
 use Rattle.emit_core.specs.FlowTableEvents.{AnswersAreCovered, IsFirstUncovered}

@@ -2,8 +2,8 @@
 //! in the usage text.
 
 ghost use Rattle.std.specs.Prelude.{◌≡◌, ◌<◌, ◌≤◌, ◌^◌, IfOk, Some, length, slice_get, take};
-ghost use Rattle.audit_core.specs.Rules.{filter_of};
-ghost use Rattle.audit_core.specs.RulesView.{rules_of};
+ghost use Rattle.rules_space.specs.Rules.{filter_of};
+ghost use Rattle.rules_space.specs.RulesView.{rules_of};
 ghost use Rattle.report_core.specs.Trace.{IsTrace};
 ghost use Rattle.topos_top.specs.Dialects.{rule_dialect_of};
 ghost use Rattle.topos_top.specs.inner.DialectCalls.{IsLayout, IsRead};
@@ -13,11 +13,11 @@ ghost use Rattle.topos_top.specs.inner.Views.{rules_lines, rules_view};
 mod chains;
 mod flows;
 
-use audit_core::Text;
 use ipt_rules::Ruleset;
 use ofp_rules::Table;
 use pkt_core::{Event, FlowPolicy};
 use report_core::{trace_rules, trace_table};
+use rules_space::RulesRef;
 use std::alloc::{AllocError, Global};
 
 /// A dialect of rules.
@@ -88,12 +88,12 @@ pub enum Rules {
 
 impl Rules {
     /// Returns the rules in the form of an audit.
-    pub fn audited(&self) -> Text<'_>
+    pub fn audited(&self) -> RulesRef<'_>
         ensures { rules_of result ≡ rules_view self.now }
     {
         match self {
-            Rules::Chains(chains) => Text::Ipt(chains),
-            Rules::Table(table) => Text::Ofp(table),
+            Rules::Chains(chains) => RulesRef::Ipt(chains),
+            Rules::Table(table) => RulesRef::Ofp(table),
         }
     }
 

@@ -1,7 +1,7 @@
 //! `trace DIALECT RULES EVENTS`: the result of each event.
 
 ghost use Rattle.std.specs.Prelude.{IfOk, false};
-ghost use Rattle.audit_core.specs.Rules.{filter_of};
+ghost use Rattle.rules_space.specs.Rules.{filter_of};
 ghost use Rattle.topos_top.specs.Command.{Trace};
 ghost use Rattle.topos_top.specs.Commands.{plan_of};
 ghost use Rattle.topos_top.specs.CommandPlan.{reads, ends};

@@ -1,6 +1,6 @@
 -- The contract of the code that reads a file. No promise of `run` depends on it.
 use Rattle.std.specs.Prelude.{◌≡◌, ℕ, List, Result, Ok, Err, Some}
-use Rattle.audit_core.specs.Rules.{Rules as AuditedRules}
+use Rattle.rules_space.specs.Rules.{Rules as AuditedRules}
 use Rattle.topos_top.specs.Dialects.{rule_dialect_of}
 use Rattle.topos_top.specs.FileFormats.{format_of}
 use Rattle.topos_top.specs.Replies.{StopsRunAt}

@@ -4,7 +4,7 @@ use Rattle.std.specs.List.{concat}
 use Rattle.std.specs.Result.{result_map_both}
 use Rattle.std.specs.Global.{Global}
 use Rattle.std.specs.declared.vec.Vec.{Vec}
-use Rattle.audit_core.specs.Rules.{Rules as AuditedRules, Chains, Entries}
+use Rattle.rules_space.specs.Rules.{Rules as AuditedRules, Chains, Entries}
 use Rattle.desc_core.specs.declared.fault.DescFault.{DescFault}
 use Rattle.desc_core.specs.declared.fault.DescFault.TheVariants as desc
 use Rattle.edit_core.specs.inner.Kept.{table_of}

@@ -1,5 +1,5 @@
 use Rattle.std.proofs.Common.{◌++◌, ◌∙◌, List, ℕ, ap}
-use Rattle.audit_core.specs.RulesView.{rules_of}
+use Rattle.rules_space.specs.RulesView.{rules_of}
 use Rattle.query_core.specs.FlowsJson.{flows_json}
 use Rattle.query_core.proofs.flows.flows_json.Goals as goal
 

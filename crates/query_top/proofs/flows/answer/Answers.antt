@@ -1,5 +1,5 @@
 use Rattle.std.proofs.Common.{◌≡◌, ℕ, List, inl, refl, subst, sym, true}
-use Rattle.audit_core.specs.Rules.{Rules}
+use Rattle.rules_space.specs.Rules.{Rules}
 use Rattle.host_net.specs.Host.{Host}
 use Rattle.query_core.proofs.FlowsLaws.{flows_fit}
 use Rattle.query_top.specs.Flows.{IsFlowsAnswer, flows_outcomes}

@@ -1,7 +1,7 @@
 use Rattle.std.proofs.Common.{inl, subst, true}
 use Rattle.std.proofs.lemmas.Result.{err_from_is_err_and}
 use Rattle.std.specs.Prelude.{IfOk}
-use Rattle.audit_core.specs.Rules.{Rules as AuditedRules}
+use Rattle.rules_space.specs.Rules.{Rules as AuditedRules}
 use Rattle.topos_top.specs.Dialects.{rule_dialect_of}
 use Rattle.query_top.specs.Flows.{flows_outcomes}
 use Rattle.topos_top.specs.Outcomes.{Answers}

@@ -1,6 +1,6 @@
 use Rattle.std.proofs.Common.{◌≡◌, ℕ, List, ap, inl, subst, false, ◌∙◌}
 use Rattle.std.proofs.lemmas.Result.{err_from_is_err_and}
-use Rattle.audit_core.specs.Rules.{filter_of}
+use Rattle.rules_space.specs.Rules.{filter_of}
 use Rattle.pkt_core.specs.Firewall.{Filter}
 use Rattle.topos_top.specs.CommandPlan.{reads, ends}
 use Rattle.topos_top.specs.Dialects.{rule_dialect_of}

@@ -1,6 +1,6 @@
 use Rattle.std.proofs.Common.{inl, false}
 use Rattle.std.proofs.lemmas.Result.{err_from_is_err_and}
-use Rattle.audit_core.specs.Rules.{filter_of}
+use Rattle.rules_space.specs.Rules.{filter_of}
 use Rattle.topos_top.specs.Trace.{trace_outcomes}
 use Rattle.topos_top.specs.inner.Views.{reply_in, rules_view}
 use Rattle.topos_top.specs.declared.kind.Kind.TheVariants.{Events}
