@@ -15,12 +15,10 @@ use Rattle.host_net.specs.Host.{Host, covers_any, prefix_owner_of, owner_of, res
 use Rattle.host_net.specs.inner.Hosts.{IsHosts}
 use Rattle.host_net.proofs.OwnerLaws.{owner_of_covered}
 use Rattle.host_net.specs.Packet.{IsPacket}
-use Rattle.host_net.specs.Site.{Site}
 use Rattle.host_net.specs.Verdict.{verdict_if}
 use Rattle.host_net.proofs.VerdictLaws.{verdict_if-injective}
-use Rattle.flow_set.specs.declared.flow.Flow.{Flow}
 use Rattle.pkt_core.specs.Firewall.{is_established}
-use Rattle.pkt_core.specs.FlowPolicy.{lets_pass}
+use Rattle.pkt_core.specs.FlowPolicy.{FlowPolicy, lets_pass}
 use Rattle.ipt_rules.specs.declared.rule.Rule.{Rule}
 use Rattle.ipt_rules.specs.declared.rule.Target.TheVariants.{Jump}
 use Rattle.ipt_rules.specs.declared.rule.Policy.TheVariants.{Drop as Dropping}
@@ -92,61 +90,61 @@ covered_owned hosts a h known covered = by_host (slice_get hosts h) refl covered
 
 -- 2. The verdicts of the chains of a machine.
 
-module _ (site : Site) (p s : List Flow) (h : ℕ) (known : IsHosts site.hosts) where
+module _ (policy : FlowPolicy) (h : ℕ) (known : IsHosts policy.site.hosts) where
   -- The verdict of the host's chain is that of the policy for a packet of the host.
-  own_part : (side : Direction) (state : CtState) (packet : Packet) → is_own side site.hosts h packet ≡ true
-      → may_link_owner side site p s packet (is_established state) h (owner_of site.hosts (other_address side packet)) ≡ lets_pass site p s packet state
+  own_part : (side : Direction) (state : CtState) (packet : Packet) → is_own side policy.site.hosts h packet ≡ true
+      → may_link_owner side policy packet (is_established state) h (owner_of policy.site.hosts (other_address side packet)) ≡ lets_pass policy packet state
   own_part Outbound state packet own =
-      sym (ap (λ (o : Option ℕ). option_map_or (λ i. may_link_owner Outbound site p s packet (is_established state) i (owner_of site.hosts packet.dst)) o false)
-      (covered_owned site.hosts packet.src h known own))
-      ∙ owners_send site p s packet (is_established state) (owner_of site.hosts packet.src) (owner_of site.hosts packet.dst)
+      sym (ap (λ (o : Option ℕ). option_map_or (λ i. may_link_owner Outbound policy packet (is_established state) i (owner_of policy.site.hosts packet.dst)) o false)
+      (covered_owned policy.site.hosts packet.src h known own))
+      ∙ owners_send policy packet (is_established state) (owner_of policy.site.hosts packet.src) (owner_of policy.site.hosts packet.dst)
   own_part Inbound state packet own =
-      sym (ap (λ (o : Option ℕ). option_map_or (λ j. may_link_owner Inbound site p s packet (is_established state) j (owner_of site.hosts packet.src)) o false)
-      (covered_owned site.hosts packet.dst h known own))
-      ∙ owners_receive site p s packet (is_established state) (owner_of site.hosts packet.src) (owner_of site.hosts packet.dst)
+      sym (ap (λ (o : Option ℕ). option_map_or (λ j. may_link_owner Inbound policy packet (is_established state) j (owner_of policy.site.hosts packet.src)) o false)
+      (covered_owned policy.site.hosts packet.dst h known own))
+      ∙ owners_receive policy packet (is_established state) (owner_of policy.site.hosts packet.src) (owner_of policy.site.hosts packet.dst)
 
-  user_rules : (side : Direction) → rules_of (local_layout site p s h) (chain_for side) ≡ host_rules side site p s h
+  user_rules : (side : Direction) → rules_of (local_layout policy h) (chain_for side) ≡ host_rules side policy h
   user_rules Outbound = refl
   user_rules Inbound = refl
 
-  entry_there : (side : Direction) → rules_of (local_layout site p s h) (entry_of side) ≡ entry_rules side (prefixes_of site.hosts h)
+  entry_there : (side : Direction) → rules_of (local_layout policy h) (entry_of side) ≡ entry_rules side (prefixes_of policy.site.hosts h)
   entry_there Outbound = refl
   entry_there Inbound = refl
 
-  entry_policy : (side : Direction) → policy_of (local_layout site p s h) (entry_of side) ≡ Some Dropping
+  entry_policy : (side : Direction) → policy_of (local_layout policy h) (entry_of side) ≡ Some Dropping
   entry_policy Outbound = refl
   entry_policy Inbound = refl
 
   jump_says : (side : Direction) (state : CtState) (packet : Packet) → IsPacket packet → (q : Prefix)
-      → Says (matches packet state) (local_layout site p s h) (own_jump side q)
-      (if covers q (other_address (other_direction side) packet) then Some (said_by side site p s packet state h) else None)
+      → Says (matches packet state) (local_layout policy h) (own_jump side q)
+      (if covers q (other_address (other_direction side) packet) then Some (said_by side policy packet state h) else None)
   jump_says side state packet is q =
       let fits = matches packet state in
-      let chains = local_layout site p s h in
-      let v = said_by side site p s packet state h in
+      let chains = local_layout policy h in
+      let v = said_by side policy packet state h in
       subst (λ (x : Bool). Says fits chains (own_jump side q) (if x then Some v else None))
       (whole_fits (other_direction side) (Some q) (Jump (chain_for side)) packet state)
       (says_jump fits chains (match_peer (other_direction side) (Some q) None (Jump (chain_for side))) (chain_for side) (Some v) refl
       (subst (λ (x : List Rule). Gives fits chains x (Some v)) (sym (user_rules side))
-      (gives_said fits chains (host_rules side site p s h) (Some v)
-      (host_says side chains site p s packet state h is (hosts_hold_once site.hosts known (other_address side packet))))))
+      (gives_said fits chains (host_rules side policy h) (Some v)
+      (host_says side chains policy packet state h is (hosts_hold_once policy.site.hosts known (other_address side packet))))))
 
   loopback_says : (state : CtState) (packet : Packet)
-      → Says (matches packet state) (local_layout site p s h) (loopback_rule ∷ []) (if is_internal packet then Some Forwarded else None)
+      → Says (matches packet state) (local_layout policy h) (loopback_rule ∷ []) (if is_internal packet then Some Forwarded else None)
   loopback_says state packet =
-      subst (λ (x : Bool). Says (matches packet state) (local_layout site p s h) (loopback_rule ∷ []) (if x then Some Forwarded else None))
+      subst (λ (x : Bool). Says (matches packet state) (local_layout policy h) (loopback_rule ∷ []) (if x then Some Forwarded else None))
       (ap (λ (b : Bool). covers loopback packet.src && b) (and-true (covers loopback packet.dst)))
-      (says_one (matches packet state) (local_layout site p s h) loopback_rule Forwarded refl)
+      (says_one (matches packet state) (local_layout policy h) loopback_rule Forwarded refl)
 
   entry_says : (side : Direction) (state : CtState) (packet : Packet) → IsPacket packet
-      → Says (matches packet state) (local_layout site p s h) (entry_rules side (prefixes_of site.hosts h))
-      (option_or (if is_internal packet then Some Forwarded else None) (if is_own side site.hosts h packet then Some (said_by side site p s packet state h) else None))
+      → Says (matches packet state) (local_layout policy h) (entry_rules side (prefixes_of policy.site.hosts h))
+      (option_or (if is_internal packet then Some Forwarded else None) (if is_own side policy.site.hosts h packet then Some (said_by side policy packet state h) else None))
   entry_says side state packet is =
       let fits = matches packet state in
-      let chains = local_layout site p s h in
-      let own = prefixes_of site.hosts h in
+      let chains = local_layout policy h in
+      let own = prefixes_of policy.site.hosts h in
       let a = other_address (other_direction side) packet in
-      let v = said_by side site p s packet state h in
+      let v = said_by side policy packet state h in
       says_append fits chains (loopback_rule ∷ []) (flat_map (own_jump side) own) _ _ (loopback_says state packet)
       (subst (λ (o : Option Verdict). Says fits chains (flat_map (own_jump side) own) o)
       (said_by_any a (Some v) own)
@@ -160,25 +158,25 @@ module _ (site : Site) (p s : List Flow) (h : ℕ) (known : IsHosts site.hosts) 
   entry_verdict false false lets v is = refl
 
   passes_on : (side : Direction) (state : CtState) (packet : Packet) → IsPacket packet
-      → PassesOn (local_layout site p s h) side state packet (is_internal packet || (is_own side site.hosts h packet && lets_pass site p s packet state))
+      → PassesOn (local_layout policy h) side state packet (is_internal packet || (is_own side policy.site.hosts h packet && lets_pass policy packet state))
   passes_on side state packet is =
-      let chains = local_layout site p s h in
-      let v = said_by side site p s packet state h in
-      let said = option_or (if is_internal packet then Some Forwarded else None) (if is_own side site.hosts h packet then Some v else None) in
+      let chains = local_layout policy h in
+      let v = said_by side policy packet state h in
+      let said = option_or (if is_internal packet then Some Forwarded else None) (if is_own side policy.site.hosts h packet then Some v else None) in
       subst (HasVerdictIn chains (entry_of side) packet state)
       (ap (λ policy. verdict_by policy said) (entry_policy side)
-      ∙ entry_verdict (is_internal packet) (is_own side site.hosts h packet) (lets_pass site p s packet state) v (λ own. ap verdict_if (own_part side state packet own)))
+      ∙ entry_verdict (is_internal packet) (is_own side policy.site.hosts h packet) (lets_pass policy packet state) v (λ own. ap verdict_if (own_part side state packet own)))
       (verdict_said chains (entry_of side) packet state said
       (subst (λ (rs : List Rule). Says (matches packet state) chains rs said) (sym (entry_there side)) (entry_says side state packet is)))
 
   at_internal : (side : Direction) (state : CtState) (packet : Packet) (b : Bool) → IsPacket packet → is_internal packet ≡ b
-      → PassesOn (local_layout site p s h) side state packet (b || (is_own side site.hosts h packet && lets_pass site p s packet state))
+      → PassesOn (local_layout policy h) side state packet (b || (is_own side policy.site.hosts h packet && lets_pass policy packet state))
   at_internal side state packet b is internal =
-      subst (λ (x : Bool). PassesOn (local_layout site p s h) side state packet (x || (is_own side site.hosts h packet && lets_pass site p s packet state)))
+      subst (λ (x : Bool). PassesOn (local_layout policy h) side state packet (x || (is_own side policy.site.hosts h packet && lets_pass policy packet state)))
       internal (passes_on side state packet is)
 
   -- The layout enforces the policy on the machines of its host.
-  pub layout_guards : EnforcesAtHost (local_layout site p s h) site p s h
+  pub layout_guards : EnforcesAtHost (local_layout policy h) policy h
   layout_guards = record {
     given = λ side state packet is. at_internal side state packet false is.0 is.1;
     only = λ side state packet passes is has. verdict_if-injective passes _ (verdict_once has (at_internal side state packet false is.0 is.1));

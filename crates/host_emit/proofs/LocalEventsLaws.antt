@@ -19,7 +19,7 @@ use Rattle.pkt_core.specs.Expected.{AreExpected, Expected}
 use Rattle.pkt_core.proofs.ExpectedLaws.{expected_once}
 use Rattle.pkt_core.specs.Filter.{RunsFromNoConnections}
 use Rattle.pkt_core.proofs.FilterLaws.{is_of-within}
-use Rattle.pkt_core.specs.FlowPolicy.{flow_of, flow_of_owners, is_of, lets_pass}
+use Rattle.pkt_core.specs.FlowPolicy.{FlowPolicy, flow_of, flow_of_owners, lets_pass, permits, permits_reply_to}
 use Rattle.emit_core.specs.declared.direction.Direction.{Direction}
 use Rattle.emit_core.specs.declared.direction.Direction.TheVariants.{Outbound, Inbound}
 use Rattle.emit_core.proofs.ForwardingLaws.{layout_expected}
@@ -68,73 +68,73 @@ own_decides : (hosts : List Host) (side : Direction) (packet : Packet) (f : Flow
 own_decides hosts side packet f is specific b =
     ap (λ (own : Bool). own && b) (owned_covered hosts (other_address (other_direction side) packet) (host_on side f) specific (own_end hosts packet f side is))
 
-module _ (chains : ℕ → List Chain) (site : Site) (p s : List Flow) (subset : IsSubset s p)
-    (guarded : (h : ℕ) → is_specific site.hosts h ≡ true → EnforcesAtHost (chains h) site p s h) where
+module _ (chains : ℕ → List Chain) (policy : FlowPolicy) (subset : IsSubset policy.stateful policy.permitted)
+    (guarded : (h : ℕ) → is_specific policy.site.hosts h ≡ true → EnforcesAtHost (chains h) policy h) where
   -- A host that enforces the policy decides as the policy does at its end of a flow.
-  guards_are_firewalls : (enforces : ℕ → Bool) → AreSpecific site.hosts enforces
-      → AreFirewallsFor site.hosts enforces (λ h. PassesOn (chains h)) IsExternal (is_of site p) (is_of site s)
+  guards_are_firewalls : (enforces : ℕ → Bool) → AreSpecific policy.site.hosts enforces
+      → AreFirewallsFor policy.site.hosts enforces (λ h. PassesOn (chains h)) IsExternal (permits policy) (permits_reply_to policy)
   guards_are_firewalls enforces are_specific = record {
     given = λ side state packet f known is enforcing.
         let specific = are_specific (host_on side f) enforcing in
-        subst (PassesOn (chains (host_on side f)) side state packet) (own_decides site.hosts side packet f is specific (lets_pass site p s packet state))
+        subst (PassesOn (chains (host_on side f)) side state packet) (own_decides policy.site.hosts side packet f is specific (lets_pass policy packet state))
         ((guarded (host_on side f) specific).given side state packet known);
     only = λ side state packet f passes known is enforcing has.
         let specific = are_specific (host_on side f) enforcing in
-        (guarded (host_on side f) specific).only side state packet passes known has ∙ own_decides site.hosts side packet f is specific (lets_pass site p s packet state);
-    policy = λ packet known stateful. is_of-within site s p packet subset stateful;
-    flows = λ packet permitted. of_some site packet p (flow_of site.hosts packet) permitted;
+        (guarded (host_on side f) specific).only side state packet passes known has ∙ own_decides policy.site.hosts side packet f is specific (lets_pass policy packet state);
+    policy = λ packet known stateful. is_of-within policy.site policy.stateful policy.permitted packet subset stateful;
+    flows = λ packet permitted. of_some policy.site packet policy.permitted (flow_of policy.site.hosts packet) permitted;
   }
 
-  partly_expected : (enforces : ℕ → Bool) → AreSpecific site.hosts enforces → (events : List Event) (answers : List (Option Bool)) → AreExternal events
-      → RunsWith enforces chains site.hosts events answers → AreExpected (or_unenforced site.hosts enforces (is_of site p)) (is_of site s) events answers
+  partly_expected : (enforces : ℕ → Bool) → AreSpecific policy.site.hosts enforces → (events : List Event) (answers : List (Option Bool)) → AreExternal events
+      → RunsWith enforces chains policy.site.hosts events answers → AreExpected (or_unenforced policy.site.hosts enforces (permits policy)) (permits_reply_to policy) events answers
   partly_expected enforces are_specific events answers known run =
-      pass_as_expected site.hosts enforces (λ h. PassesOn (chains h)) IsExternal (is_of site p) (is_of site s) (guards_are_firewalls enforces are_specific) events known answers run
+      pass_as_expected policy.site.hosts enforces (λ h. PassesOn (chains h)) IsExternal (permits policy) (permits_reply_to policy) (guards_are_firewalls enforces are_specific) events known answers run
 
-  partly_soundly : (enforces : ℕ → Bool) → AreSpecific site.hosts enforces → (past : List Event) (packet : Packet) → IsExternal packet
-      → PassesSoundly enforces chains site.hosts past packet → Expected (or_unenforced site.hosts enforces (is_of site p)) (is_of site s) past packet
+  partly_soundly : (enforces : ℕ → Bool) → AreSpecific policy.site.hosts enforces → (past : List Event) (packet : Packet) → IsExternal packet
+      → PassesSoundly enforces chains policy.site.hosts past packet → Expected (or_unenforced policy.site.hosts enforces (permits policy)) (permits_reply_to policy) past packet
   partly_soundly enforces are_specific past packet known soundly =
-      goes_soundly site.hosts enforces (λ h. PassesOn (chains h)) IsExternal (is_of site p) (is_of site s) (guards_are_firewalls enforces are_specific)
+      goes_soundly policy.site.hosts enforces (λ h. PassesOn (chains h)) IsExternal (permits policy) (permits_reply_to policy) (guards_are_firewalls enforces are_specific)
       past soundly.tables packet known soundly.sound true soundly.behind soundly.passes refl
 
-  all_are_specific : AreSpecific site.hosts (is_specific site.hosts)
+  all_are_specific : AreSpecific policy.site.hosts (is_specific policy.site.hosts)
   all_are_specific h specific = specific
 
-  all_expected : (events : List Event) (answers : List (Option Bool)) → AreExternal events → LocalRuns chains site.hosts events answers
-      → AreExpected (is_of site p) (is_of site s) events answers
+  all_expected : (events : List Event) (answers : List (Option Bool)) → AreExternal events → LocalRuns chains policy.site.hosts events answers
+      → AreExpected (permits policy) (permits_reply_to policy) events answers
   all_expected events answers known run =
-      subst (λ (permitted : Packet → Bool). AreExpected permitted (is_of site s) events answers) (λ i packet. all_guarded site.hosts (is_of site p) packet i)
-      (partly_expected (is_specific site.hosts) all_are_specific events answers known run)
+      subst (λ (permitted : Packet → Bool). AreExpected permitted (permits_reply_to policy) events answers) (λ i packet. all_guarded policy.site.hosts (permits policy) packet i)
+      (partly_expected (is_specific policy.site.hosts) all_are_specific events answers known run)
 
-  firewalls : AreFirewallsFor site.hosts (is_specific site.hosts) (λ h. PassesOn (chains h)) IsExternal (is_of site p) (is_of site s)
-  firewalls = guards_are_firewalls (is_specific site.hosts) all_are_specific
+  firewalls : AreFirewallsFor policy.site.hosts (is_specific policy.site.hosts) (λ h. PassesOn (chains h)) IsExternal (permits policy) (permits_reply_to policy)
+  firewalls = guards_are_firewalls (is_specific policy.site.hosts) all_are_specific
 
   -- Exactly the expected packets pass.
-  pub guards_expected : DeliversAsExpected chains site p s
+  pub guards_expected : DeliversAsExpected chains policy
   guards_expected = record {
     expected = all_expected;
     partial_deployment = partly_expected;
     first = λ events answers behind known run.
-        pass_keeps_first site.hosts (is_specific site.hosts) (λ h. PassesOn (chains h)) IsExternal (is_of site p) (is_of site s) firewalls events known answers behind run;
-    some = λ events known. some_pass_run site.hosts (is_specific site.hosts) (λ h. PassesOn (chains h)) IsExternal (is_of site p) (is_of site s) firewalls empty_tables events known;
+        pass_keeps_first policy.site.hosts (is_specific policy.site.hosts) (λ h. PassesOn (chains h)) IsExternal (permits policy) (permits_reply_to policy) firewalls events known answers behind run;
+    some = λ events known. some_pass_run policy.site.hosts (is_specific policy.site.hosts) (λ h. PassesOn (chains h)) IsExternal (permits policy) (permits_reply_to policy) firewalls empty_tables events known;
     one = λ events answers others known run other.
-        expected_once (is_of site p) (is_of site s) events answers others (all_expected events answers known run) (all_expected events others known other);
+        expected_once (permits policy) (permits_reply_to policy) events answers others (all_expected events answers known run) (all_expected events others known other);
     only_expected = λ past packet known soundly.
-        subst (λ (b : Bool). IsTrue b ⊎ (IsTrue (is_of site s (swap_of packet)) × WasSeen past (swap_of packet))) (all_guarded site.hosts (is_of site p) packet)
-        (partly_soundly (is_specific site.hosts) all_are_specific past packet known soundly);
+        subst (λ (b : Bool). IsTrue b ⊎ (IsTrue (permits_reply_to policy (swap_of packet)) × WasSeen past (swap_of packet))) (all_guarded policy.site.hosts (permits policy) packet)
+        (partly_soundly (is_specific policy.site.hosts) all_are_specific past packet known soundly);
     partial_only_expected = partly_soundly;
     all_permitted = λ enforces are_specific tables behind packet passes known allowed goes.
-        goes_permitted site.hosts enforces (λ h. PassesOn (chains h)) IsExternal (is_of site p) (is_of site s) (guards_are_firewalls enforces are_specific) tables packet known allowed passes behind goes;
+        goes_permitted policy.site.hosts enforces (λ h. PassesOn (chains h)) IsExternal (permits policy) (permits_reply_to policy) (guards_are_firewalls enforces are_specific) tables packet known allowed passes behind goes;
   }
 
 -- With the layouts of all hosts exactly the expected packets pass.
-pub layouts_expected : (site : Site) (p s : List Flow) → IsHosts site.hosts → IsSubset s p → DeliversAsExpected (local_layout site p s) site p s
-layouts_expected site p s known subset = guards_expected (local_layout site p s) site p s subset (λ h specific. layout_guards site p s h known)
+pub layouts_expected : (policy : FlowPolicy) → IsHosts policy.site.hosts → IsSubset policy.stateful policy.permitted → DeliversAsExpected (local_layout policy) policy
+layouts_expected policy known subset = guards_expected (local_layout policy) policy subset (λ h specific. layout_guards policy h known)
 
 -- A packet passes between the hosts if and only if the chains of a firewall for the whole network forward it.
-pub passes_as_forwarded : (site : Site) (p s : List Flow) → IsHosts site.hosts → IsSubset s p → (events : List Event) → AreExternal events
-    → (passes forwards : List (Option Bool)) → LocalRuns (local_layout site p s) site.hosts events passes
-    → RunsFromNoConnections (Passes (layout site p s)) events forwards → passes ≡ forwards
-passes_as_forwarded site p s known subset events external passes forwards local whole =
-    expected_once (is_of site p) (is_of site s) events passes forwards
-    ((layouts_expected site p s known subset).expected events passes external local)
-    ((layout_expected site p s known subset).expected events forwards (λ k packet there. (external k packet there).0) whole)
+pub passes_as_forwarded : (policy : FlowPolicy) → IsHosts policy.site.hosts → IsSubset policy.stateful policy.permitted → (events : List Event) → AreExternal events
+    → (passes forwards : List (Option Bool)) → LocalRuns (local_layout policy) policy.site.hosts events passes
+    → RunsFromNoConnections (Passes (layout policy)) events forwards → passes ≡ forwards
+passes_as_forwarded policy known subset events external passes forwards local whole =
+    expected_once (permits policy) (permits_reply_to policy) events passes forwards
+    ((layouts_expected policy known subset).expected events passes external local)
+    ((layout_expected policy known subset).expected events forwards (λ k packet there. (external k packet there).0) whole)

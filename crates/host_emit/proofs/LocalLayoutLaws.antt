@@ -9,9 +9,8 @@ use Rattle.std.proofs.lemmas.List.Sums.{sum_by-cons}
 use Rattle.host_net.specs.declared.prefix.Prefix.{Prefix}
 use Rattle.host_net.specs.Host.{Host}
 use Rattle.host_net.specs.inner.Hosts.{prefix_count}
-use Rattle.host_net.specs.Site.{Site}
 use Rattle.host_net.specs.inner.Site.{IsSite}
-use Rattle.flow_set.specs.declared.flow.Flow.{Flow}
+use Rattle.pkt_core.specs.FlowPolicy.{FlowPolicy}
 use Rattle.ipt_rules.specs.declared.rule.Rule.{Rule}
 use Rattle.ipt_rules.specs.declared.rule.Policy.TheVariants.{Drop as Dropping}
 use Rattle.ipt_rules.specs.inner.Build.{refusal_of}
@@ -99,16 +98,16 @@ prefixes_read hosts h qs read = by_host (slice_get hosts h) read
     by_host (Some x) is = cc
 
 -- The number of rules is far below the limit of a rule set, for all hosts and services.
-pub few_local_rules : (site : Site) (p s : List Flow) (h : ℕ) → IsSite site → rule_count (local_layout site p s h) ≤ 69700
-few_local_rules site p s h is =
+pub few_local_rules : (policy : FlowPolicy) (h : ℕ) → IsSite policy.site → rule_count (local_layout policy h) ≤ 69700
+few_local_rules policy h is =
     let few = is.hosts.few_prefixes in
     omega (
       arith,
-      machine_rule_count (entry_rules Inbound (prefixes_of site.hosts h)) (entry_rules Outbound (prefixes_of site.hosts h)) (host_rules Inbound site p s h) (host_rules Outbound site p s h),
-      few_entry_rules Inbound site.hosts h few,
-      few_entry_rules Outbound site.hosts h few,
-      few_host_rules Inbound site p s h is,
-      few_host_rules Outbound site p s h is,
+      machine_rule_count (entry_rules Inbound (prefixes_of policy.site.hosts h)) (entry_rules Outbound (prefixes_of policy.site.hosts h)) (host_rules Inbound policy h) (host_rules Outbound policy h),
+      few_entry_rules Inbound policy.site.hosts h few,
+      few_entry_rules Outbound policy.site.hosts h few,
+      few_host_rules Inbound policy h is,
+      few_host_rules Outbound policy h is,
     )
 
 -- 3. They form a rule set.
@@ -123,25 +122,25 @@ entries_enter : (side : Direction) (qs : List Prefix) → list_all (λ r. jumps_
 entries_enter side qs = jumps_enter side qs
 
 -- Jumps lead from INPUT and OUTPUT to the user chains, and these have no jumps.
-pub local_no_loop : (site : Site) (p s : List Flow) (h : ℕ) → IsSite site → IsAcyclic (local_layout site p s h)
-local_no_loop site p s h is =
-    let own = prefixes_of site.hosts h in
-    no_loop_upward (local_layout site p s h)
+pub local_no_loop : (policy : FlowPolicy) (h : ℕ) → IsSite policy.site → IsAcyclic (local_layout policy h)
+local_no_loop policy h is =
+    let own = prefixes_of policy.site.hosts h in
+    no_loop_upward (local_layout policy h)
     (and_from _ _ (all_upward 3 5 0 (omega arith) (entry_rules Inbound own) (entries_enter Inbound own))
     (and_from _ _ (all_upward 3 5 2 (omega arith) (entry_rules Outbound own) (entries_enter Outbound own))
-    (and_from _ _ (all_upward 4 0 3 (omega arith) (host_rules Inbound site p s h) (host_rules_stay 4 Inbound site p s h is.services))
-    (and_from _ _ (all_upward 5 0 4 (omega arith) (host_rules Outbound site p s h) (host_rules_stay 5 Outbound site p s h is.services)) refl))))
+    (and_from _ _ (all_upward 4 0 3 (omega arith) (host_rules Inbound policy h) (host_rules_stay 4 Inbound policy h is.services))
+    (and_from _ _ (all_upward 5 0 4 (omega arith) (host_rules Outbound policy h) (host_rules_stay 5 Outbound policy h is.services)) refl))))
 
 -- There is no cause to refuse them.
-pub local_accepted : (site : Site) (p s : List Flow) (h : ℕ) → IsSite site → refusal_of (local_layout site p s h) ≡ None
+pub local_accepted : (policy : FlowPolicy) (h : ℕ) → IsSite policy.site → refusal_of (local_layout policy h) ≡ None
 unfolding refusal_of
-local_accepted site p s h is =
-    let own = prefixes_of site.hosts h in
-    let rules : nat_lt 1000000 (rule_count (local_layout site p s h)) ≡ false = grind (arith, nat_tests, few_local_rules site p s h is) in
+local_accepted policy h is =
+    let own = prefixes_of policy.site.hosts h in
+    let rules : nat_lt 1000000 (rule_count (local_layout policy h)) ≡ false = grind (arith, nat_tests, few_local_rules policy h is) in
     rw (
       rules,
       none_nowhere 3 5 5 (omega arith) (omega arith) 0 (entry_rules Inbound own) (entries_enter Inbound own),
       none_nowhere 3 5 5 (omega arith) (omega arith) 0 (entry_rules Outbound own) (entries_enter Outbound own),
-      none_nowhere 3 0 5 (omega arith) (omega arith) 0 (host_rules Inbound site p s h) (host_rules_stay 3 Inbound site p s h is.services),
-      none_nowhere 3 0 5 (omega arith) (omega arith) 0 (host_rules Outbound site p s h) (host_rules_stay 3 Outbound site p s h is.services),
+      none_nowhere 3 0 5 (omega arith) (omega arith) 0 (host_rules Inbound policy h) (host_rules_stay 3 Inbound policy h is.services),
+      none_nowhere 3 0 5 (omega arith) (omega arith) 0 (host_rules Outbound policy h) (host_rules_stay 3 Outbound policy h is.services),
     ) refl

@@ -10,7 +10,7 @@ use Rattle.host_net.specs.Host.{Host}
 use Rattle.host_net.specs.Hosts.{all_prefixes}
 use Rattle.host_net.specs.Site.{Site}
 use Rattle.host_net.specs.inner.Site.{IsSite}
-use Rattle.flow_set.specs.declared.flow.Flow.{Flow}
+use Rattle.pkt_core.specs.FlowPolicy.{FlowPolicy}
 use Rattle.ipt_rules.specs.declared.rule.Rule.{Rule}
 use Rattle.ipt_rules.specs.inner.Addresses.{addresses_fit, AddressesFit}
 use Rattle.ipt_rules.specs.Chain.{name_of, number_of, policy_of}
@@ -90,26 +90,26 @@ entries_few side site h is =
     let few = few_entry_rules side site.hosts h is.hosts.few_prefixes in
     record { few = omega (arith, few); parts = entries_are side (prefixes_of site.hosts h) }
 
-pub users_few : (side : Direction) (site : Site) (p s : List Flow) (h : ℕ) → IsSite site → AreChainRules (host_rules side site p s h)
-users_few side site p s h is = record { few = few_host_rules side site p s h is; parts = host_rules_are side site p s h is.services }
+pub users_few : (side : Direction) (policy : FlowPolicy) (h : ℕ) → IsSite policy.site → AreChainRules (host_rules side policy h)
+users_few side policy h is = record { few = few_host_rules side policy h is; parts = host_rules_are side policy h is.services }
 
-pub local_rules_are : (site : Site) (p s : List Flow) (h : ℕ) → IsSite site → AreRules (local_layout site p s h)
-local_rules_are site p s h is =
-    let own = prefixes_of site.hosts h in
-    machine_passes is_rule (entry_rules Inbound own) (entry_rules Outbound own) (host_rules Inbound site p s h) (host_rules Outbound site p s h)
-    (entries_are Inbound own) (entries_are Outbound own) (host_rules_are Inbound site p s h is.services) (host_rules_are Outbound site p s h is.services)
+pub local_rules_are : (policy : FlowPolicy) (h : ℕ) → IsSite policy.site → AreRules (local_layout policy h)
+local_rules_are policy h is =
+    let own = prefixes_of policy.site.hosts h in
+    machine_passes is_rule (entry_rules Inbound own) (entry_rules Outbound own) (host_rules Inbound policy h) (host_rules Outbound policy h)
+    (entries_are Inbound own) (entries_are Outbound own) (host_rules_are Inbound policy h is.services) (host_rules_are Outbound policy h is.services)
 
 -- They match no state besides ESTABLISHED.
 jumps_no_other_state : (side : Direction) (qs : List Prefix) → list_all has_no_other_state (flat_map (own_jump side) qs) ≡ true
 jumps_no_other_state side [] = refl
 jumps_no_other_state side (q ∷ qs) = jumps_no_other_state side qs
 
-pub local_no_other_state : (site : Site) (p s : List Flow) (h : ℕ) → IsSite site → HaveNoOtherState (local_layout site p s h)
-local_no_other_state site p s h is =
-    let own = prefixes_of site.hosts h in
-    machine_passes has_no_other_state (entry_rules Inbound own) (entry_rules Outbound own) (host_rules Inbound site p s h) (host_rules Outbound site p s h)
+pub local_no_other_state : (policy : FlowPolicy) (h : ℕ) → IsSite policy.site → HaveNoOtherState (local_layout policy h)
+local_no_other_state policy h is =
+    let own = prefixes_of policy.site.hosts h in
+    machine_passes has_no_other_state (entry_rules Inbound own) (entry_rules Outbound own) (host_rules Inbound policy h) (host_rules Outbound policy h)
     (jumps_no_other_state Inbound own) (jumps_no_other_state Outbound own)
-    (host_rules_no_other_state Inbound site p s h is.services) (host_rules_no_other_state Outbound site p s h is.services)
+    (host_rules_no_other_state Inbound policy h is.services) (host_rules_no_other_state Outbound policy h is.services)
 
 -- The addresses of a host have 32 bits, since they are among those of all hosts.
 own_fit : (hosts : List Host) (h : ℕ) → list_all prefix_fits (all_prefixes hosts) ≡ true → list_all prefix_fits (prefixes_of hosts h) ≡ true
@@ -129,29 +129,29 @@ jumps_fit Inbound (q ∷ qs) all =
 entries_fit : (side : Direction) (qs : List Prefix) → list_all prefix_fits qs ≡ true → list_all addresses_fit (entry_rules side qs) ≡ true
 entries_fit side qs all = jumps_fit side qs all
 
-local_addresses : (site : Site) (p s : List Flow) (h : ℕ) → IsSite site → AddressesFit (local_layout site p s h)
-local_addresses site p s h is =
-    let own = prefixes_of site.hosts h in
-    let all = own_fit site.hosts h (network_fits (all_prefixes site.hosts) is.hosts.networks) in
-    machine_passes addresses_fit (entry_rules Inbound own) (entry_rules Outbound own) (host_rules Inbound site p s h) (host_rules Outbound site p s h)
-    (entries_fit Inbound own all) (entries_fit Outbound own all) (host_rules_addresses Inbound site p s h is) (host_rules_addresses Outbound site p s h is)
+local_addresses : (policy : FlowPolicy) (h : ℕ) → IsSite policy.site → AddressesFit (local_layout policy h)
+local_addresses policy h is =
+    let own = prefixes_of policy.site.hosts h in
+    let all = own_fit policy.site.hosts h (network_fits (all_prefixes policy.site.hosts) is.hosts.networks) in
+    machine_passes addresses_fit (entry_rules Inbound own) (entry_rules Outbound own) (host_rules Inbound policy h) (host_rules Outbound policy h)
+    (entries_fit Inbound own all) (entries_fit Outbound own all) (host_rules_addresses Inbound policy h is) (host_rules_addresses Outbound policy h is)
 
 -- 3. Its text is parsed back, and it is within the size limit of the parser.
 
-local_table : (site : Site) (p s : List Flow) (h : ℕ) → IsTable (local_layout site p s h)
-local_table site p s h =
-    let own = prefixes_of site.hosts h in
-    machine_table (entry_rules Inbound own) (entry_rules Outbound own) (host_rules Inbound site p s h) (host_rules Outbound site p s h)
+local_table : (policy : FlowPolicy) (h : ℕ) → IsTable (local_layout policy h)
+local_table policy h =
+    let own = prefixes_of policy.site.hosts h in
+    machine_table (entry_rules Inbound own) (entry_rules Outbound own) (host_rules Inbound policy h) (host_rules Outbound policy h)
 
-pub local_writable : (site : Site) (p s : List Flow) (h : ℕ) → IsSite site → IsWritable (local_layout site p s h)
-local_writable site p s h is = record {
-  table = local_table site p s h;
-  accepted = local_accepted site p s h is;
-  acyclic = local_no_loop site p s h is;
-  addresses = local_addresses site p s h is;
-  parts = local_rules_are site p s h is;
+pub local_writable : (policy : FlowPolicy) (h : ℕ) → IsSite policy.site → IsWritable (local_layout policy h)
+local_writable policy h is = record {
+  table = local_table policy h;
+  accepted = local_accepted policy h is;
+  acyclic = local_no_loop policy h is;
+  addresses = local_addresses policy h is;
+  parts = local_rules_are policy h is;
 }
 
-pub local_short : (site : Site) (p s : List Flow) (h : ℕ) → IsSite site → length (text (local_layout site p s h)) ≤ 67108864
-local_short site p s h is =
-    omega (arith, text_short (local_layout site p s h) (local_table site p s h) (local_rules_are site p s h is), few_local_rules site p s h is)
+pub local_short : (policy : FlowPolicy) (h : ℕ) → IsSite policy.site → length (text (local_layout policy h)) ≤ 67108864
+local_short policy h is =
+    omega (arith, text_short (local_layout policy h) (local_table policy h) (local_rules_are policy h is), few_local_rules policy h is)

@@ -13,6 +13,7 @@ use Rattle.ipt_rules.specs.Chain.{Chain}
 use Rattle.ipt_rules.specs.Semantics.{goes_on, ends, decides}
 use Rattle.pkt_core.specs.declared.event.Event.{Event}
 use Rattle.pkt_core.specs.declared.event.Event.TheVariants.{Seen, Forget}
+use Rattle.pkt_core.specs.FlowPolicy.{policy_with}
 use Rattle.pkt_core.specs.Tracking.{after_forget}
 use Rattle.emit_core.specs.declared.direction.Direction.TheVariants.{Outbound, Inbound}
 use Rattle.host_emit.specs.HostEnforcement.{PassesOn}
@@ -33,7 +34,7 @@ flows = record { from = 0; to = 1 } ∷ []
 
 -- The chains for the machines of a host.
 abbrev chains : ℕ → List Chain
-chains = local_layout (site_with hosts []) flows flows
+chains = local_layout (policy_with (site_with hosts []) flows flows)
 
 -- A packet from host 0 to host 1, and its answer.
 abbrev request : Packet

@@ -5,13 +5,11 @@ use Rattle.host_net.specs.declared.packet.CtState.{CtState}
 use Rattle.host_net.specs.Host.{Host, covers_any}
 use Rattle.host_net.specs.Packet.{IsPacket}
 use Rattle.host_net.specs.Prefix.{covers}
-use Rattle.host_net.specs.Site.{Site}
 use Rattle.host_net.specs.Verdict.{verdict_if}
-use Rattle.flow_set.specs.declared.flow.Flow.{Flow}
 use Rattle.ipt_rules.specs.Chain.{Chain}
 use Rattle.ipt_rules.specs.Semantics.{HasVerdictIn}
 use Rattle.pkt_core.specs.Firewall.{Filter}
-use Rattle.pkt_core.specs.FlowPolicy.{lets_pass}
+use Rattle.pkt_core.specs.FlowPolicy.{FlowPolicy, lets_pass}
 use Rattle.emit_core.specs.declared.direction.Direction.{Direction}
 use Rattle.emit_core.specs.OtherAddress.{other_address}
 use Rattle.emit_core.specs.Directions.{other_direction}
@@ -35,9 +33,9 @@ IsExternal packet = IsPacket packet × IsFalse (is_internal packet)
 
 -- The chains enforce the policy for host h: in either direction they let exactly those packets of host h pass that the policy allows;
 -- packets internal to a machine pass.
-pub record EnforcesAtHost (chains : List Chain) (site : Site) (p s : List Flow) (h : ℕ) : Type 0 where
+pub record EnforcesAtHost (chains : List Chain) (policy : FlowPolicy) (h : ℕ) : Type 0 where
   pub given : (side : Direction) (state : CtState) (packet : Packet) → IsExternal packet
-      → PassesOn chains side state packet (is_own side site.hosts h packet && lets_pass site p s packet state)
+      → PassesOn chains side state packet (is_own side policy.site.hosts h packet && lets_pass policy packet state)
   pub only : (side : Direction) (state : CtState) (packet : Packet) (passes : Bool) → IsExternal packet → PassesOn chains side state packet passes
-      → passes ≡ (is_own side site.hosts h packet && lets_pass site p s packet state)
+      → passes ≡ (is_own side policy.site.hosts h packet && lets_pass policy packet state)
   pub internal : (side : Direction) (state : CtState) (packet : Packet) → IsPacket packet → IsTrue (is_internal packet) → PassesOn chains side state packet true

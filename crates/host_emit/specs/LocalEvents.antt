@@ -2,15 +2,13 @@
 use Rattle.std.specs.Prelude.{◌≡◌, ℕ, Bool, true, IsTrue, List, Option}
 use Rattle.host_net.specs.declared.packet.Packet.{Packet}
 use Rattle.host_net.specs.Host.{Host}
-use Rattle.host_net.specs.Site.{Site}
-use Rattle.flow_set.specs.declared.flow.Flow.{Flow}
 use Rattle.ipt_rules.specs.Chain.{Chain}
 use Rattle.pkt_core.specs.declared.event.Event.{Event}
 use Rattle.pkt_core.specs.Events.{SeenAt}
 use Rattle.pkt_core.specs.AnyTracking.{IsSound}
 use Rattle.pkt_core.specs.Expected.{AreExpected, Expected}
-use Rattle.pkt_core.specs.FlowPolicy.{is_of}
 use Rattle.pkt_core.specs.Tracking.{state_of}
+use Rattle.pkt_core.specs.FlowPolicy.{FlowPolicy, permits, permits_reply_to}
 use Rattle.host_emit.specs.HostEnforcement.{IsExternal, PassesOn}
 use Rattle.host_emit.specs.LocalLayout.{is_specific}
 use Rattle.host_emit.specs.Delivery.{AllKeepFirst, Goes, PassRuns, PassRunsTo, Tables, empty_tables, or_unenforced}
@@ -45,24 +43,24 @@ pub record PassesSoundly (enforces : ℕ → Bool) (chains : ℕ → List Chain)
 
 -- For every list of events with external packets a run exists and its results are unique: a packet passes if and only if the policy and its
 -- answers expect it.
-pub record DeliversAsExpected (chains : ℕ → List Chain) (site : Site) (p s : List Flow) : Type 0 where
-  pub expected : (events : List Event) (answers : List (Option Bool)) → AreExternal events → LocalRuns chains site.hosts events answers
-      → AreExpected (is_of site p) (is_of site s) events answers
+pub record DeliversAsExpected (chains : ℕ → List Chain) (policy : FlowPolicy) : Type 0 where
+  pub expected : (events : List Event) (answers : List (Option Bool)) → AreExternal events → LocalRuns chains policy.site.hosts events answers
+      → AreExpected (permits policy) (permits_reply_to policy) events answers
   -- If only some hosts enforce, the packets between two hosts that do not enforce pass as well, and nothing else changes: a packet with an
   -- enforcing end passes if and only if it is expected.
-  pub partial_deployment : (enforces : ℕ → Bool) → AreSpecific site.hosts enforces → (events : List Event) (answers : List (Option Bool)) → AreExternal events
-      → RunsWith enforces chains site.hosts events answers → AreExpected (or_unenforced site.hosts enforces (is_of site p)) (is_of site s) events answers
+  pub partial_deployment : (enforces : ℕ → Bool) → AreSpecific policy.site.hosts enforces → (events : List Event) (answers : List (Option Bool)) → AreExternal events
+      → RunsWith enforces chains policy.site.hosts events answers → AreExpected (or_unenforced policy.site.hosts enforces (permits policy)) (permits_reply_to policy) events answers
   -- Each specific host tracks exactly the first packets of the connections that it is an end of.
   pub first : (events : List Event) (answers : List (Option Bool)) (behind : Tables) → AreExternal events
-      → LocalRunsTo chains site.hosts events answers behind → AllKeepFirst site.hosts (is_specific site.hosts) (is_of site p) events behind
-  pub some : (events : List Event) → AreExternal events → (answers : List (Option Bool)) × LocalRuns chains site.hosts events answers
-  pub one : (events : List Event) (answers others : List (Option Bool)) → AreExternal events → LocalRuns chains site.hosts events answers
-      → LocalRuns chains site.hosts events others → answers ≡ others
+      → LocalRunsTo chains policy.site.hosts events answers behind → AllKeepFirst policy.site.hosts (is_specific policy.site.hosts) (permits policy) events behind
+  pub some : (events : List Event) → AreExternal events → (answers : List (Option Bool)) × LocalRuns chains policy.site.hosts events answers
+  pub one : (events : List Event) (answers others : List (Option Bool)) → AreExternal events → LocalRuns chains policy.site.hosts events answers
+      → LocalRuns chains policy.site.hosts events others → answers ≡ others
   -- With any connection tracking, after every list of events, whatever passed of them, only expected packets pass in sound states, and all
   -- permitted packets pass in all states.
-  pub only_expected : (past : List Event) (packet : Packet) → IsExternal packet → PassesSoundly (is_specific site.hosts) chains site.hosts past packet
-      → Expected (is_of site p) (is_of site s) past packet
-  pub partial_only_expected : (enforces : ℕ → Bool) → AreSpecific site.hosts enforces → (past : List Event) (packet : Packet) → IsExternal packet
-      → PassesSoundly enforces chains site.hosts past packet → Expected (or_unenforced site.hosts enforces (is_of site p)) (is_of site s) past packet
-  pub all_permitted : (enforces : ℕ → Bool) → AreSpecific site.hosts enforces → (tables behind : Tables) (packet : Packet) (passes : Bool) → IsExternal packet
-      → IsTrue (is_of site p packet) → Goes site.hosts enforces (λ h. PassesOn (chains h)) tables packet passes behind → IsTrue passes
+  pub only_expected : (past : List Event) (packet : Packet) → IsExternal packet → PassesSoundly (is_specific policy.site.hosts) chains policy.site.hosts past packet
+      → Expected (permits policy) (permits_reply_to policy) past packet
+  pub partial_only_expected : (enforces : ℕ → Bool) → AreSpecific policy.site.hosts enforces → (past : List Event) (packet : Packet) → IsExternal packet
+      → PassesSoundly enforces chains policy.site.hosts past packet → Expected (or_unenforced policy.site.hosts enforces (permits policy)) (permits_reply_to policy) past packet
+  pub all_permitted : (enforces : ℕ → Bool) → AreSpecific policy.site.hosts enforces → (tables behind : Tables) (packet : Packet) (passes : Bool) → IsExternal packet
+      → IsTrue (permits policy packet) → Goes policy.site.hosts enforces (λ h. PassesOn (chains h)) tables packet passes behind → IsTrue passes

@@ -1,14 +1,12 @@
--- The layout for the machines of one host as iptables chains (docs/TEXTS.md, the rules for the machines of one host). The policy is given
--- by its permitted flows p, each restricted to its services if it has any, and the stateful flows s among them, whose answers pass as well;
--- hosts are identified by their numbers.
+-- The layout for the machines of one host as iptables chains (docs/TEXTS.md, the rules for the machines of one host). Hosts are identified
+-- by their numbers.
 use Rattle.std.specs.Prelude.{ℕ, Bool, true, not, ◌==◌, List, [], ◌∷◌, Some, None, codes, slice_get}
 use Rattle.std.specs.List.{flat_map}
 use Rattle.std.specs.Option.{option_map_or}
 use Rattle.host_net.specs.declared.prefix.Prefix.{Prefix}
 use Rattle.host_net.specs.Host.{Host, rest_of}
 use Rattle.host_net.specs.Prefix.{prefix_with}
-use Rattle.host_net.specs.Site.{Site}
-use Rattle.flow_set.specs.declared.flow.Flow.{Flow}
+use Rattle.pkt_core.specs.FlowPolicy.{FlowPolicy}
 use Rattle.ipt_rules.specs.declared.rule.Rule.{Rule}
 use Rattle.ipt_rules.specs.declared.rule.Target.TheVariants.{Accept, Jump}
 use Rattle.ipt_rules.specs.declared.rule.Policy.TheVariants.{Drop as Dropping}
@@ -72,7 +70,7 @@ machine_chains input output incoming outgoing =
 
 -- The layout for host h: OUT has the rules of its chain on a firewall between the hosts, and IN has the rules for the
 -- reverse direction.
-abbrev pub local_layout : Site → List Flow → List Flow → ℕ → List Chain
-local_layout site p s h =
-    machine_chains (entry_rules Inbound (prefixes_of site.hosts h)) (entry_rules Outbound (prefixes_of site.hosts h))
-    (host_rules Inbound site p s h) (host_rules Outbound site p s h)
+abbrev pub local_layout : FlowPolicy → ℕ → List Chain
+local_layout policy h =
+    machine_chains (entry_rules Inbound (prefixes_of policy.site.hosts h)) (entry_rules Outbound (prefixes_of policy.site.hosts h))
+    (host_rules Inbound policy h) (host_rules Outbound policy h)

@@ -22,16 +22,15 @@ const LOOPBACK: u32 = 0x7f000000;
 pub fn local_rules(alloc: Global, policy: &FlowPolicy<'_>, host: u16) -> Result<Ruleset, AllocError>
     requires there { host < length policy.now.site.hosts }
     requires specific { IsTrue (is_specific policy.now.site.hosts host) }
-    ensures layout { IfOk result (λ rules. rules ≡ local_layout policy.now.site policy.now.permitted policy.now.stateful host) }
+    ensures layout { IfOk result (λ rules. rules ≡ local_layout policy.now host) }
 
     // In each direction a packet of the host passes if and only if the policy allows it. No other
     // packet passes, except loopback packets.
-    ensures enforces_at_host { IfOk result (λ rules. EnforcesAtHost rules policy.now.site policy.now.permitted policy.now.stateful host) }
+    ensures enforces_at_host { IfOk result (λ rules. EnforcesAtHost rules policy.now host) }
 
     // If the machines of every specific host have its rules, a packet passes if and only if the
     // policy and its answers expect it, for every list of events with external packets.
-    ensures passes { OnOk result (DeliversAsExpected (local_layout policy.now.site policy.now.permitted policy.now.stateful)
-        policy.now.site policy.now.permitted policy.now.stateful) }
+    ensures passes { OnOk result (DeliversAsExpected (local_layout policy.now) policy.now) }
 {
     let chains = local_chains(alloc, policy, host)?;
     build_accepted(alloc, chains)
@@ -49,7 +48,7 @@ pub fn is_specific(hosts: &Hosts, host: u16) -> bool
 
 fn local_chains(alloc: Global, policy: &FlowPolicy<'_>, host: u16) -> Result<Chains, AllocError>
     requires { host < length policy.now.site.hosts }
-    ensures layout { IfOk result (λ chains. chains ≡ local_layout policy.now.site policy.now.permitted policy.now.stateful host) }
+    ensures layout { IfOk result (λ chains. chains ≡ local_layout policy.now host) }
     ensures policy { IsFlowPolicy policy.now }
 {
     // The call establishes the invariants of policies.

@@ -21,9 +21,9 @@ filled-requires-clause-output c =
 pub filled-requires-clause-incoming : goal.filled-requires-clause-incoming
 filled-requires-clause-incoming c =
     subst AreChainRules (sym (c.deref-3.ensures.value ∙ c.in_ok-incoming.ensures))
-    (users_few Inbound c.args.policy.now.site c.args.policy.now.permitted c.args.policy.now.stateful c.args.host c.count-count.ensures.policy.site)
+    (users_few Inbound c.args.policy.now c.args.host c.count-count.ensures.policy.site)
 
 pub filled-requires-clause-outgoing : goal.filled-requires-clause-outgoing
 filled-requires-clause-outgoing c =
     subst AreChainRules (sym (c.deref-4.ensures.value ∙ c.in_ok-outgoing.ensures))
-    (users_few Outbound c.args.policy.now.site c.args.policy.now.permitted c.args.policy.now.stateful c.args.host c.count-count.ensures.policy.site)
+    (users_few Outbound c.args.policy.now c.args.host c.count-count.ensures.policy.site)

@@ -11,21 +11,21 @@ use Rattle.host_emit.proofs.local.local_rules.Goals as goal
 pub build_accepted-requires-clause-accepted : goal.build_accepted-requires-clause-accepted
 build_accepted-requires-clause-accepted c =
     ap refusal_of c.in_ok-chains.ensures.layout
-    ∙ local_accepted c.args.policy.now.site c.args.policy.now.permitted c.args.policy.now.stateful c.args.host c.in_ok-chains.ensures.policy.site
+    ∙ local_accepted c.args.policy.now c.args.host c.in_ok-chains.ensures.policy.site
 
 pub build_accepted-requires-clause-acyclic : goal.build_accepted-requires-clause-acyclic
 build_accepted-requires-clause-acyclic c =
-    subst IsAcyclic (sym c.in_ok-chains.ensures.layout) (local_no_loop c.args.policy.now.site c.args.policy.now.permitted c.args.policy.now.stateful c.args.host c.in_ok-chains.ensures.policy.site)
+    subst IsAcyclic (sym c.in_ok-chains.ensures.layout) (local_no_loop c.args.policy.now c.args.host c.in_ok-chains.ensures.policy.site)
 
 pub returns-clause-enforces_at_host : goal.returns-clause-enforces_at_host
 returns-clause-enforces_at_host c =
     let policy = c.args.policy.now in
     IfOk-weaker c.build_accepted.result _ _
-    (λ rules is. subst (λ chains. EnforcesAtHost chains policy.site policy.permitted policy.stateful c.args.host) (sym (is ∙ c.in_ok-chains.ensures.layout)) (layout_guards policy.site policy.permitted policy.stateful c.args.host c.in_ok-chains.ensures.policy.site.hosts))
+    (λ rules is. subst (λ chains. EnforcesAtHost chains policy c.args.host) (sym (is ∙ c.in_ok-chains.ensures.layout)) (layout_guards policy c.args.host c.in_ok-chains.ensures.policy.site.hosts))
     c.build_accepted.ensures
 
 pub returns-clause-passes : goal.returns-clause-passes
 returns-clause-passes c =
     IfOk-weaker c.build_accepted.result _ _
-    (λ rules is. layouts_expected c.args.policy.now.site c.args.policy.now.permitted c.args.policy.now.stateful c.in_ok-chains.ensures.policy.site.hosts c.in_ok-chains.ensures.policy.within)
+    (λ rules is. layouts_expected c.args.policy.now c.in_ok-chains.ensures.policy.site.hosts c.in_ok-chains.ensures.policy.within)
     c.build_accepted.ensures
