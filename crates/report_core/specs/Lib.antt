@@ -1,4 +1,5 @@
 pub mod CheckReport
+pub mod FlowPolicies
 pub mod Names
 pub mod PolicyReport
 pub mod RefusalLine
