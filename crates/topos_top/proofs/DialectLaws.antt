@@ -8,7 +8,6 @@ use Rattle.emit_core.proofs.TableLaws.{first_barred_once, first_range_once, flow
 use Rattle.emit_core.proofs.WritableLaws.{layout_short, layout_writable}
 use Rattle.flow_set.specs.declared.flow.Flow.{Flow}
 use Rattle.host_net.specs.Packet.{IsPacket}
-use Rattle.host_net.specs.Site.{Site}
 use Rattle.host_net.specs.inner.Site.{IsSite}
 use Rattle.ipt_read.proofs.AgainLaws.{text_read_again}
 use Rattle.ipt_read.proofs.FaultLaws.{one_reading, one_fault, no_reading_with_fault}
@@ -19,6 +18,7 @@ use Rattle.ofp_read.proofs.FaultLaws.{one_reading as one_reading_of_flows, readi
 use Rattle.ofp_read.specs.TextLines.{HasFault as HasFaultInFlows, name as flows_reason}
 use Rattle.ofp_read.specs.declared.fault.OfpWhy.TheVariants.{TooLong as FlowsTooLong}
 use Rattle.pkt_core.specs.Filter.{Enforces}
+use Rattle.pkt_core.specs.FlowPolicy.{FlowPolicy}
 use Rattle.report_core.proofs.TraceLaws.{AnswersOnce, chains_answer_once, table_answers_once}
 use Rattle.report_core.specs.Names.{flow_text}
 use Rattle.text_core.specs.LineFormat.{too_long}
@@ -40,14 +40,14 @@ pub record IsLawful (language : RuleDialect) : Type 1 where
   pub too_long : (bytes : List ℕ) → language.byte_limit < length bytes → language.Refuses bytes (fault_line (codes "rules") 0 (codes "TooLong"))
   pub answers_once : (bytes : List ℕ) (rules : language.Rules) → language.IsReading bytes rules → AnswersOnce IsPacket (language.filter rules)
   pub audited_filter : (rules : language.Rules) → filter_of (language.audited rules) ≡ language.filter rules
-  pub enforces : (site : Site) (p s : List Flow) → IsSite site → language.CanWrite site p s → Enforces (language.filter (language.layout site p s)) site p s
-  pub other_frames : (site : Site) (p s : List Flow) → IsSite site → language.CanWrite site p s → language.OtherFrames (language.layout site p s)
-  pub other_states : (site : Site) (p s : List Flow) → IsSite site → language.CanWrite site p s → language.OtherStates (language.layout site p s)
-  pub read_again : (site : Site) (p s : List Flow) → IsSite site → language.CanWrite site p s
-      → language.IsReading (language.text (language.layout site p s)) (language.layout site p s)
-  pub one_hindrance : (site : Site) (p s : List Flow) (line other : List ℕ) → language.CannotEmit line site p s
-      → language.CannotEmit other site p s → line ≡ other
-  pub apart : (site : Site) (p s : List Flow) (line : List ℕ) → language.CanWrite site p s → language.CannotEmit line site p s → ⊥
+  pub enforces : (policy : FlowPolicy) → IsSite policy.site → language.CanWrite policy → Enforces (language.filter (language.layout policy)) policy
+  pub other_frames : (policy : FlowPolicy) → IsSite policy.site → language.CanWrite policy → language.OtherFrames (language.layout policy)
+  pub other_states : (policy : FlowPolicy) → IsSite policy.site → language.CanWrite policy → language.OtherStates (language.layout policy)
+  pub read_again : (policy : FlowPolicy) → IsSite policy.site → language.CanWrite policy
+      → language.IsReading (language.text (language.layout policy)) (language.layout policy)
+  pub one_hindrance : (policy : FlowPolicy) (line other : List ℕ) → language.CannotEmit line policy
+      → language.CannotEmit other policy → line ≡ other
+  pub apart : (policy : FlowPolicy) (line : List ℕ) → language.CanWrite policy → language.CannotEmit line policy → ⊥
 
 iptables_laws : IsLawful iptables
 iptables_laws = record {
@@ -57,31 +57,31 @@ iptables_laws = record {
   too_long = λ bytes long. record { number = 0; why = RulesTooLong; fault = too_long long; told = refl };
   answers_once = λ bytes chains read state p a b known. chains_answer_once chains state p a b tt;
   audited_filter = λ chains. refl;
-  enforces = λ site p s known can. layout_enforces site p s known.hosts;
-  other_frames = λ site p s known can. tt;
-  other_states = λ site p s known can. layout_no_other_state site p s known.services;
-  read_again = λ site p s known can. text_read_again _ (layout_writable site p s known can) (layout_short site p s known can);
-  one_hindrance = λ site p s line other is also. is.1 ∙ sym also.1;
-  apart = λ site p s line fits bars. omega (arith, fits, bars.0);
+  enforces = λ policy known can. layout_enforces policy known.hosts;
+  other_frames = λ policy known can. tt;
+  other_states = λ policy known can. layout_no_other_state policy known.services;
+  read_again = λ policy known can. text_read_again _ (layout_writable policy known can) (layout_short policy known can);
+  one_hindrance = λ policy line other is also. is.1 ∙ sym also.1;
+  apart = λ policy line fits bars. omega (arith, fits, bars.0);
 }
 
-one_bar : (site : Site) (p s : List Flow) (a b : List ℕ) → CannotEmitTable a site p s → CannotEmitTable b site p s → a ≡ b
-one_bar site p s a b (NeedsState f bar is) (NeedsState g also same) =
-    is ∙ ap (λ (h : Flow). not_emittable (codes "answers of " ++ (flow_text site.hosts h ++ codes " need state\n"))) (first_barred_once site.services p s f g bar also) ∙ sym same
-one_bar site p s a b (NeedsState f bar is) (RangeOfPorts g covered also same) = absurd (none_barred site.services p s f covered bar)
-one_bar site p s a b (NeedsState f bar is) (TooManyFlows covered none many same) = absurd (none_barred site.services p s f covered bar)
-one_bar site p s a b (RangeOfPorts f covered range is) (NeedsState g also same) = absurd (none_barred site.services p s g covered also)
-one_bar site p s a b (RangeOfPorts f covered range is) (RangeOfPorts g both also same) =
-    is ∙ ap (λ (h : Flow). not_emittable (codes "ports of " ++ (flow_text site.hosts h ++ codes " are a range\n"))) (first_range_once site.services p f g range also) ∙ sym same
-one_bar site p s a b (RangeOfPorts f covered range is) (TooManyFlows both none many same) = absurd (none_ranging site.services p f none range)
-one_bar site p s a b (TooManyFlows covered none many is) (NeedsState f also same) = absurd (none_barred site.services p s f covered also)
-one_bar site p s a b (TooManyFlows covered none many is) (RangeOfPorts f both also same) = absurd (none_ranging site.services p f none also)
-one_bar site p s a b (TooManyFlows covered none many is) (TooManyFlows both also too same) = is ∙ sym same
+one_bar : (policy : FlowPolicy) (a b : List ℕ) → CannotEmitTable a policy → CannotEmitTable b policy → a ≡ b
+one_bar policy a b (NeedsState f bar is) (NeedsState g also same) =
+    is ∙ ap (λ (h : Flow). not_emittable (codes "answers of " ++ (flow_text policy.site.hosts h ++ codes " need state\n"))) (first_barred_once policy f g bar also) ∙ sym same
+one_bar policy a b (NeedsState f bar is) (RangeOfPorts g covered also same) = absurd (none_barred policy f covered bar)
+one_bar policy a b (NeedsState f bar is) (TooManyFlows covered none many same) = absurd (none_barred policy f covered bar)
+one_bar policy a b (RangeOfPorts f covered range is) (NeedsState g also same) = absurd (none_barred policy g covered also)
+one_bar policy a b (RangeOfPorts f covered range is) (RangeOfPorts g both also same) =
+    is ∙ ap (λ (h : Flow). not_emittable (codes "ports of " ++ (flow_text policy.site.hosts h ++ codes " are a range\n"))) (first_range_once policy.site.services policy.permitted f g range also) ∙ sym same
+one_bar policy a b (RangeOfPorts f covered range is) (TooManyFlows both none many same) = absurd (none_ranging policy.site.services policy.permitted f none range)
+one_bar policy a b (TooManyFlows covered none many is) (NeedsState f also same) = absurd (none_barred policy f covered also)
+one_bar policy a b (TooManyFlows covered none many is) (RangeOfPorts f both also same) = absurd (none_ranging policy.site.services policy.permitted f none also)
+one_bar policy a b (TooManyFlows covered none many is) (TooManyFlows both also too same) = is ∙ sym same
 
-not_both : (site : Site) (p s : List Flow) (line : List ℕ) → openflow.CanWrite site p s → CannotEmitTable line site p s → ⊥
-not_both site p s line fits (NeedsState f bar is) = none_barred site.services p s f fits.0 bar
-not_both site p s line fits (RangeOfPorts f covered range is) = none_ranging site.services p f fits.1 range
-not_both site p s line fits (TooManyFlows covered none many is) = omega (arith, fits.2, many)
+not_both : (policy : FlowPolicy) (line : List ℕ) → openflow.CanWrite policy → CannotEmitTable line policy → ⊥
+not_both policy line fits (NeedsState f bar is) = none_barred policy f fits.0 bar
+not_both policy line fits (RangeOfPorts f covered range is) = none_ranging policy.site.services policy.permitted f fits.1 range
+not_both policy line fits (TooManyFlows covered none many is) = omega (arith, fits.2, many)
 
 openflow_laws : IsLawful openflow
 openflow_laws = record {
@@ -91,10 +91,10 @@ openflow_laws = record {
   too_long = λ bytes long. record { number = 0; why = FlowsTooLong; fault = too_long long; told = refl };
   answers_once = λ bytes entries read. table_answers_once entries (reading_is_table bytes entries read);
   audited_filter = λ entries. refl;
-  enforces = λ site p s known can. flow_entries_enforce site p s known can.1 can.0;
-  other_frames = λ site p s known can. flow_entries_arp site p known can.1;
-  other_states = λ site p s known can. tt;
-  read_again = λ site p s known can. flows_read_again (flow_entries site p) (flow_entries_table site p known can.1 can.2);
+  enforces = λ policy known can. flow_entries_enforce policy known can.1 can.0;
+  other_frames = λ policy known can. flow_entries_arp policy.site policy.permitted known can.1;
+  other_states = λ policy known can. tt;
+  read_again = λ policy known can. flows_read_again (flow_entries policy.site policy.permitted) (flow_entries_table policy.site policy.permitted known can.1 can.2);
   one_hindrance = one_bar;
   apart = not_both;
 }

@@ -16,9 +16,11 @@ use Rattle.ipt_read.specs.TextLines.{IsReading}
 use Rattle.ipt_rules.specs.Chain.{Chain}
 use Rattle.ipt_rules.specs.Text.{text}
 use Rattle.net_core.specs.inner.Fitting.{IsNetwork}
-use Rattle.net_core.specs.Network.{Network, site_of}
+use Rattle.net_core.specs.Network.{Network}
 use Rattle.net_core.specs.Policies.{IsPolicyOf, Policy}
 use Rattle.net_core.proofs.PolicyLaws.{IsSubset-stateful, policy_is_one}
+use Rattle.pkt_core.specs.FlowPolicy.{FlowPolicy}
+use Rattle.report_core.specs.FlowPolicies.{flow_policy_of}
 use Rattle.topos_top.specs.Outcomes.{Answers}
 use Rattle.topos_top.specs.Local.{CannotEmitLocal, NoHost, RestHost, IsLocalText, IsSpecific, EnforcesPolicyLocally, local_outcomes, local_chains_for}
 use Rattle.topos_top.specs.inner.Local.{machines_outcomes}
@@ -78,23 +80,22 @@ module _ (d : Network) (host : List ℕ) where
 
   pub local_keeps : (rules : List ℕ) → IsNetwork d → IsSpecific d host → IsLocalText d host rules → EnforcesPolicyLocally d host rules
   local_keeps rules network found is =
-      let p = is.policy.permitted.flows in
-      let s = is.policy.stateful.flows in
-      let known : IsSite (site_of d) = record { hosts = network.hosts; services = network.services } in
+      let policy : FlowPolicy = flow_policy_of d is.policy in
+      let known : IsSite policy.site = record { hosts = network.hosts; services = network.services } in
       let number = one_number is.so.0 found in
       let own : List Chain = local_chains_for d is.policy found.number in
       let written : rules ≡ text own = is.so.1 ∙ ap (λ (h : ℕ). text (local_chains_for d is.policy h)) number in
       let read : IsReading rules own =
       subst (λ (bytes : List ℕ). IsReading bytes own) (sym written)
-      (text_read_again own (local_writable (site_of d) p s found.number known) (local_short (site_of d) p s found.number known)) in
+      (text_read_again own (local_writable policy found.number known) (local_short policy found.number known)) in
       record {
         policy = is.policy;
         invariants = policy_keeps d is.policy network is.is_policy;
         found = found;
         written = written;
-        enforces_at_host = layout_guards (site_of d) p s found.number network.hosts;
-        passes = layouts_expected (site_of d) p s network.hosts (IsSubset-stateful d p s is.is_policy.stateful);
-        other_states = local_no_other_state (site_of d) p s found.number known;
+        enforces_at_host = layout_guards policy found.number network.hosts;
+        passes = layouts_expected policy network.hosts (IsSubset-stateful d policy.permitted policy.stateful is.is_policy.stateful);
+        other_states = local_no_other_state policy found.number known;
         read = read;
         only_reading = λ others reading. one_reading rules others own reading read;
       }

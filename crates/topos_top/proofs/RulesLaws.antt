@@ -1,19 +1,19 @@
 -- The rules of a network are a unique text and have their guarantee; the same holds for the line with the reason why
 -- there are none.
 use Rattle.std.proofs.Common.{◌≡◌, ℕ, List, false, inl, refl, sym, subst, ◌∙◌, ap}
-use Rattle.host_net.specs.Site.{Site}
 use Rattle.host_net.specs.inner.Site.{IsSite}
 use Rattle.permit_core.proofs.FirstLaws.{first_with}
 use Rattle.flow_set.specs.FlowSet.{SetOfFlows}
-use Rattle.flow_set.specs.declared.flow.Flow.{Flow}
 use Rattle.net_core.proofs.HeadlineLaws.{IsGreatestPolicy-from_policy, CompliesWithAll-from_policy}
-use Rattle.net_core.specs.Network.{Network, site_of}
+use Rattle.net_core.specs.Network.{Network}
 use Rattle.net_core.specs.inner.Fitting.{IsNetwork}
 use Rattle.net_core.specs.Policies.{IsPolicyOf, MeetsAll, Policy}
 use Rattle.net_core.proofs.PolicyLaws.{policy_is_one, IsSubset-stateful, asked_is_permitted}
 use Rattle.pkt_core.specs.Filter.{Enforces, ForwardsAsExpected}
 use Rattle.pkt_core.proofs.AnyTrackingLaws.{enforced_in_any_state}
 use Rattle.pkt_core.proofs.FilterLaws.{enforced_expected}
+use Rattle.pkt_core.specs.FlowPolicy.{FlowPolicy}
+use Rattle.report_core.specs.FlowPolicies.{flow_policy_of}
 use Rattle.topos_top.specs.Dialects.{RuleDialect, rule_dialect_of}
 use Rattle.topos_top.specs.Outcomes.{Answers}
 use Rattle.topos_top.specs.Repair.{repair_outcomes}
@@ -35,10 +35,10 @@ policy_keeps d policy network is = record {
 }
 
 -- Properties of the policy of one hold for the policy of the other.
-pub moved : (d : Network) (P Q : Site → (p s : List Flow) → Type 0) (a : OfPolicy d P) (b : OfPolicy d Q)
-    → P (site_of d) b.policy.permitted.flows b.policy.stateful.flows
+pub moved : (d : Network) (P Q : FlowPolicy → Type 0) (a : OfPolicy d P) (b : OfPolicy d Q)
+    → P (flow_policy_of d b.policy)
 moved d P Q a b =
-    subst (λ (policy : Policy). P (site_of d) policy.permitted.flows policy.stateful.flows) (policy_is_one d a.policy b.policy a.is_policy b.is_policy) a.so
+    subst (λ (policy : Policy). P (flow_policy_of d policy)) (policy_is_one d a.policy b.policy a.is_policy b.is_policy) a.so
 
 -- The reply if the rules cannot be emitted.
 pub ends_hindered : (dialect : Dialect) (d : Network) (reply : Reply) (line : List ℕ) → reply ≡ error NotEmittable line
@@ -48,27 +48,26 @@ ends_hindered dialect d reply line is hindered = subst (λ (r : Reply). Answers 
 module _ (language : RuleDialect) (laws : IsLawful language) (d : Network) where
   pub rules_are_one : (a b : List ℕ) → IsRules language d a → IsRules language d b → a ≡ b
   rules_are_one a b p q =
-      moved d (λ site f s. a ≡ language.text (language.layout site f s)) (λ site f s. b ≡ language.text (language.layout site f s)) p q ∙ sym q.so
+      moved d (λ policy. a ≡ language.text (language.layout policy)) (λ policy. b ≡ language.text (language.layout policy)) p q ∙ sym q.so
 
   pub never_both : (line : List ℕ) → OfPolicy d (language.CannotEmit line) → OfPolicy d language.CanWrite → ⊥
   never_both line hindered can =
-      laws.apart (site_of d) hindered.policy.permitted.flows hindered.policy.stateful.flows line (moved d language.CanWrite (language.CannotEmit line) can hindered) hindered.so
+      laws.apart (flow_policy_of d hindered.policy) line (moved d language.CanWrite (language.CannotEmit line) can hindered) hindered.so
 
   pub hindrance_is_one : (a b : List ℕ) → OfPolicy d (language.CannotEmit a) → OfPolicy d (language.CannotEmit b) → a ≡ b
   hindrance_is_one a b p q =
-      laws.one_hindrance (site_of d) q.policy.permitted.flows q.policy.stateful.flows a b (moved d (language.CannotEmit a) (language.CannotEmit b) p q) q.so
+      laws.one_hindrance (flow_policy_of d q.policy) a b (moved d (language.CannotEmit a) (language.CannotEmit b) p q) q.so
 
   unfoldable pub rules_keep : (rules : List ℕ) → IsNetwork d → OfPolicy d language.CanWrite → IsRules language d rules → EnforcesPolicyText language d rules
   rules_keep rules network written is =
-      let p : List Flow = is.policy.permitted.flows in
-      let s : List Flow = is.policy.stateful.flows in
-      let known : IsSite (site_of d) = record { hosts = network.hosts; services = network.services } in
+      let policy : FlowPolicy = flow_policy_of d is.policy in
+      let known : IsSite policy.site = record { hosts = network.hosts; services = network.services } in
       let own : language.Rules = rules_for language d is.policy in
-      let can : language.CanWrite (site_of d) p s = moved d language.CanWrite (λ site f t. rules ≡ language.text (language.layout site f t)) written is in
-      let enforces : Enforces (language.filter own) (site_of d) p s = laws.enforces (site_of d) p s known can in
-      let expected : ForwardsAsExpected (language.filter own) (site_of d) p s =
-      enforced_expected (language.filter own) (site_of d) p s (IsSubset-stateful d p s is.is_policy.stateful) enforces in
-      let read : language.IsReading rules own = subst (λ (bytes : List ℕ). language.IsReading bytes own) (sym is.so) (laws.read_again (site_of d) p s known can) in
+      let can : language.CanWrite policy = moved d language.CanWrite (λ other. rules ≡ language.text (language.layout other)) written is in
+      let enforces : Enforces (language.filter own) policy = laws.enforces policy known can in
+      let expected : ForwardsAsExpected (language.filter own) policy =
+      enforced_expected (language.filter own) policy (IsSubset-stateful d policy.permitted policy.stateful is.is_policy.stateful) enforces in
+      let read : language.IsReading rules own = subst (λ (bytes : List ℕ). language.IsReading bytes own) (sym is.so) (laws.read_again policy known can) in
       record {
         policy = is.policy;
         invariants = policy_keeps d is.policy network is.is_policy;
@@ -77,7 +76,7 @@ module _ (language : RuleDialect) (laws : IsLawful language) (d : Network) where
         only_reading = λ others reading. laws.one_reading rules others own reading read;
         expected = expected;
         enforces = enforces;
-        in_any_state = enforced_in_any_state (language.filter own) (site_of d) p s enforces;
-        other_frames = laws.other_frames (site_of d) p s known can;
-        other_states = laws.other_states (site_of d) p s known can;
+        in_any_state = enforced_in_any_state (language.filter own) policy enforces;
+        other_frames = laws.other_frames policy known can;
+        other_states = laws.other_states policy known can;
       }

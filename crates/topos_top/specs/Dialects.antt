@@ -9,7 +9,6 @@ use Rattle.emit_core.specs.Layout.{layout}
 use Rattle.emit_core.specs.OtherStates.{HaveNoOtherState}
 use Rattle.emit_core.specs.PortRanges.{HasNoRange, IsFirstRange}
 use Rattle.flow_set.specs.declared.flow.Flow.{Flow}
-use Rattle.host_net.specs.Site.{Site}
 use Rattle.ipt_read.specs.TextLines.{IsReading as IsReadingOfRules, HasFault as HasFaultInRules, name as rules_reason, rules_text}
 use Rattle.ipt_rules.specs.Chain.{Chain}
 use Rattle.ipt_rules.specs.ChainTable.{rule_count}
@@ -21,6 +20,7 @@ use Rattle.ofp_rules.specs.Semantics.{Passes as PassesTable}
 use Rattle.ofp_rules.specs.Text.{text as table_text}
 use Rattle.ofp_rules.specs.declared.entry.Entry.{Entry}
 use Rattle.pkt_core.specs.Firewall.{Filter}
+use Rattle.pkt_core.specs.FlowPolicy.{FlowPolicy}
 use Rattle.report_core.specs.Names.{flow_text}
 use Rattle.topos_top.specs.Reply.{not_emittable}
 use Rattle.topos_top.specs.TextFault.{ReportsFault}
@@ -29,9 +29,8 @@ use Rattle.topos_top.specs.declared.dialect.Dialect.TheVariants.{Iptables, OpenF
 
 -- A dialect: its name on the command line, the type of its rules, their text, the size limit of the parser, the rules that a text parses
 -- to, the reasons to reject a text, the packets that rules forward in each state, the rules in the form of an audit, the treatment of
--- other frames, and of states besides NEW and ESTABLISHED; and, for a site with permitted flows p and stateful flows s, their rules, if they
--- can be emitted, and the line that gives
--- the reason otherwise (docs/TEXTS.md).
+-- other frames, and of states besides NEW and ESTABLISHED; and, for a policy, its rules, if they can be emitted, and the line that gives the
+-- reason otherwise (docs/TEXTS.md).
 pub record RuleDialect : Type 1 where
   pub word : List ℕ
   pub Rules : Type 0
@@ -43,14 +42,14 @@ pub record RuleDialect : Type 1 where
   pub audited : Rules → AuditedRules
   pub OtherFrames : Rules → Type 0
   pub OtherStates : Rules → Type 0
-  pub layout : Site → (p s : List Flow) → Rules
-  pub CanWrite : Site → (p s : List Flow) → Type 0
-  pub CannotEmit : (line : List ℕ) → Site → (p s : List Flow) → Type 0
+  pub layout : FlowPolicy → Rules
+  pub CanWrite : FlowPolicy → Type 0
+  pub CannotEmit : (line : List ℕ) → FlowPolicy → Type 0
 
 -- The chains have too many rules, and the line reports their number.
-abbrev pub CannotEmitChains : (line : List ℕ) → Site → (p s : List Flow) → Type 0
-CannotEmitChains line site p s =
-    (rule_limit < rule_count (layout site p s)) × (line ≡ not_emittable (decimal (rule_count (layout site p s)) ++ codes " rules exceed 600000\n"))
+abbrev pub CannotEmitChains : (line : List ℕ) → FlowPolicy → Type 0
+CannotEmitChains line policy =
+    (rule_limit < rule_count (layout policy)) × (line ≡ not_emittable (decimal (rule_count (layout policy)) ++ codes " rules exceed 600000\n"))
 
 -- Chains of iptables, which process only IPv4 packets.
 abbrev pub iptables : RuleDialect
@@ -66,19 +65,19 @@ iptables = record {
   OtherFrames = λ chains. Unit {0};
   OtherStates = HaveNoOtherState;
   layout = layout;
-  CanWrite = λ site p s. rule_count (layout site p s) ≤ rule_limit;
+  CanWrite = λ policy. rule_count (layout policy) ≤ rule_limit;
   CannotEmit = CannotEmitChains;
 }
 
--- The reason for no table, and the line that reports it: the first flow of s whose answers are not covered, since a table is stateless;
--- otherwise the first flow of p with a range of ports; otherwise too many entries.
-pub data CannotEmitTable (line : List ℕ) (site : Site) (p s : List Flow) : Type 0 where
-  NeedsState : (flow : Flow) → IsFirstUncovered site.services p s flow
-      → line ≡ not_emittable (codes "answers of " ++ (flow_text site.hosts flow ++ codes " need state\n")) → CannotEmitTable line site p s
-  RangeOfPorts : (flow : Flow) → AnswersAreCovered site.services p s → IsFirstRange site.services p flow
-      → line ≡ not_emittable (codes "ports of " ++ (flow_text site.hosts flow ++ codes " are a range\n")) → CannotEmitTable line site p s
-  TooManyFlows : AnswersAreCovered site.services p s → HasNoRange site.services p → most_entries < length (flow_entries site p)
-      → line ≡ not_emittable (decimal (length (flow_entries site p)) ++ codes " flows exceed 8192\n") → CannotEmitTable line site p s
+-- The reason for no table, and the line that reports it: the first stateful flow whose answers are not covered, since a table is stateless;
+-- otherwise the first permitted flow with a range of ports; otherwise too many entries.
+pub data CannotEmitTable (line : List ℕ) (policy : FlowPolicy) : Type 0 where
+  NeedsState : (flow : Flow) → IsFirstUncovered policy flow
+      → line ≡ not_emittable (codes "answers of " ++ (flow_text policy.site.hosts flow ++ codes " need state\n")) → CannotEmitTable line policy
+  RangeOfPorts : (flow : Flow) → AnswersAreCovered policy → IsFirstRange policy.site.services policy.permitted flow
+      → line ≡ not_emittable (codes "ports of " ++ (flow_text policy.site.hosts flow ++ codes " are a range\n")) → CannotEmitTable line policy
+  TooManyFlows : AnswersAreCovered policy → HasNoRange policy.site.services policy.permitted → most_entries < length (flow_entries policy.site policy.permitted)
+      → line ≡ not_emittable (decimal (length (flow_entries policy.site policy.permitted)) ++ codes " flows exceed 8192\n") → CannotEmitTable line policy
 
 -- A flow table of OpenFlow. It can be emitted unless there is such a reason.
 abbrev pub openflow : RuleDialect
@@ -93,8 +92,8 @@ openflow = record {
   audited = Entries;
   OtherFrames = ForwardsArpAlone;
   OtherStates = λ entries. Unit {0};
-  layout = λ site p s. flow_entries site p;
-  CanWrite = λ site p s. AnswersAreCovered site.services p s × HasNoRange site.services p × (length (flow_entries site p) ≤ most_entries);
+  layout = λ policy. flow_entries policy.site policy.permitted;
+  CanWrite = λ policy. AnswersAreCovered policy × HasNoRange policy.site.services policy.permitted × (length (flow_entries policy.site policy.permitted) ≤ most_entries);
   CannotEmit = CannotEmitTable;
 }
 

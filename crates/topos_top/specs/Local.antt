@@ -8,8 +8,9 @@ use Rattle.host_net.specs.Host.{host_named, rest_of}
 use Rattle.ipt_read.specs.TextLines.{IsReading}
 use Rattle.ipt_rules.specs.Chain.{Chain}
 use Rattle.ipt_rules.specs.Text.{text}
-use Rattle.net_core.specs.Network.{Network, site_of}
+use Rattle.net_core.specs.Network.{Network}
 use Rattle.net_core.specs.Policies.{Policy}
+use Rattle.report_core.specs.FlowPolicies.{flow_policy_of}
 use Rattle.topos_top.specs.Check.{offences_when}
 use Rattle.topos_top.specs.Outcomes.{Outcomes, says_why}
 use Rattle.topos_top.specs.Reply.{not_emittable}
@@ -30,11 +31,11 @@ pub record IsSpecific (d : Network) (host : List ℕ) : Type 0 where
 
 -- The text is the rules for the machines of that host, for the policy of the network.
 abbrev pub IsLocalText : Network → (host rules : List ℕ) → Type 0
-IsLocalText d host rules = OfPolicy d (λ site p s. (found : IsSpecific d host) × (rules ≡ text (local_layout site p s found.number)))
+IsLocalText d host rules = OfPolicy d (λ policy. (found : IsSpecific d host) × (rules ≡ text (local_layout policy found.number)))
 
 -- The chains for the machines of each host, for a policy of the network.
 abbrev pub local_chains_for : Network → Policy → ℕ → List Chain
-local_chains_for d policy = local_layout (site_of d) policy.permitted.flows policy.stateful.flows
+local_chains_for d policy = local_layout (flow_policy_of d policy)
 
 -- The guarantee of the rules for the machines of a host. They enforce the policy on the host; the policy is that of the network and
 -- satisfies its invariants. If every specific host has its rules on its machines, a packet passes if and only if the policy and its answers
@@ -46,8 +47,8 @@ pub record EnforcesPolicyLocally (d : Network) (host rules : List ℕ) : Type 0 
   pub invariants : PolicyMeetsInvariants d policy
   pub found : IsSpecific d host
   pub written : rules ≡ text (local_chains_for d policy found.number)
-  pub enforces_at_host : EnforcesAtHost (local_chains_for d policy found.number) (site_of d) policy.permitted.flows policy.stateful.flows found.number
-  pub passes : DeliversAsExpected (local_chains_for d policy) (site_of d) policy.permitted.flows policy.stateful.flows
+  pub enforces_at_host : EnforcesAtHost (local_chains_for d policy found.number) (flow_policy_of d policy) found.number
+  pub passes : DeliversAsExpected (local_chains_for d policy) (flow_policy_of d policy)
   pub other_states : HaveNoOtherState (local_chains_for d policy found.number)
   pub read : IsReading rules (local_chains_for d policy found.number)
   pub only_reading : (others : List Chain) → IsReading rules others → others ≡ local_chains_for d policy found.number

@@ -3,11 +3,12 @@
 use Rattle.std.specs.Prelude.{◌≡◌, ℕ, List, [], ◌∷◌, IsTrue, IsFalse}
 use Rattle.flow_set.specs.FlowSet.{has, with_flow}
 use Rattle.flow_set.specs.declared.flow.Flow.{Flow}
-use Rattle.host_net.specs.Site.{Site}
-use Rattle.net_core.specs.Network.{Network, site_of}
+use Rattle.net_core.specs.Network.{Network}
 use Rattle.net_core.specs.Policies.{CompliesWithAll, IsGreatestPolicy, IsPolicyOf, IsEdgeWiseNetwork, MeetsAll, Policy}
 use Rattle.pkt_core.specs.AnyTracking.{ForwardsInAnyState}
 use Rattle.pkt_core.specs.Filter.{Enforces, ForwardsAsExpected}
+use Rattle.pkt_core.specs.FlowPolicy.{FlowPolicy}
+use Rattle.report_core.specs.FlowPolicies.{flow_policy_of}
 use Rattle.topos_top.specs.Check.{AskedHolds, offences_when}
 use Rattle.topos_top.specs.Dialects.{RuleDialect, rule_dialect_of}
 use Rattle.topos_top.specs.Outcomes.{Outcomes, says_why}
@@ -18,15 +19,15 @@ use Rattle.topos_top.specs.declared.status.Status.TheVariants.{Violated, NotEmit
 abbrev pub ListedHolds : Network → Type 0
 ListedHolds d = IsTrue d.given → AskedHolds d
 
--- The property holds for the policy of the network: for its site with the permitted flows and the stateful flows.
-pub record OfPolicy (d : Network) (Holds : Site → (p s : List Flow) → Type 0) : Type 0 where
+-- The property holds for the policy of the network.
+pub record OfPolicy (d : Network) (Holds : FlowPolicy → Type 0) : Type 0 where
   pub policy : Policy
   pub is_policy : IsPolicyOf d policy
-  pub so : Holds (site_of d) policy.permitted.flows policy.stateful.flows
+  pub so : Holds (flow_policy_of d policy)
 
 -- The text is the rules of the policy of the network: its permitted flows pass, and the answers of its stateful flows.
 abbrev pub IsRules : RuleDialect → Network → (rules : List ℕ) → Type 0
-IsRules language d rules = OfPolicy d (λ site p s. rules ≡ language.text (language.layout site p s))
+IsRules language d rules = OfPolicy d (λ policy. rules ≡ language.text (language.layout policy))
 
 -- The properties of a policy of a network, regardless of what is emitted for it. The permitted flows are the first subset of the requested
 -- flows that satisfies every invariant, and the greatest if all of them are edge-wise. Each requested flow that is omitted violates an
@@ -42,7 +43,7 @@ pub record PolicyMeetsInvariants (d : Network) (policy : Policy) : Type 0 where
 
 -- The rules of a policy of the network.
 abbrev pub rules_for : (language : RuleDialect) → Network → Policy → language.Rules
-rules_for language d policy = language.layout (site_of d) policy.permitted.flows policy.stateful.flows
+rules_for language d policy = language.layout (flow_policy_of d policy)
 
 -- The guarantee of the rules of a network. The policy has the properties above. The text parses to exactly these rules. From an empty
 -- connection table, for every list of events with valid packets, they forward exactly the packets of a permitted flow and those that answer
@@ -55,9 +56,9 @@ pub record EnforcesPolicyText (language : RuleDialect) (d : Network) (rules : Li
   pub written : rules ≡ language.text (rules_for language d policy)
   pub read : language.IsReading rules (rules_for language d policy)
   pub only_reading : (others : language.Rules) → language.IsReading rules others → others ≡ rules_for language d policy
-  pub expected : ForwardsAsExpected (language.filter (rules_for language d policy)) (site_of d) policy.permitted.flows policy.stateful.flows
-  pub enforces : Enforces (language.filter (rules_for language d policy)) (site_of d) policy.permitted.flows policy.stateful.flows
-  pub in_any_state : ForwardsInAnyState (language.filter (rules_for language d policy)) (site_of d) policy.permitted.flows policy.stateful.flows
+  pub expected : ForwardsAsExpected (language.filter (rules_for language d policy)) (flow_policy_of d policy)
+  pub enforces : Enforces (language.filter (rules_for language d policy)) (flow_policy_of d policy)
+  pub in_any_state : ForwardsInAnyState (language.filter (rules_for language d policy)) (flow_policy_of d policy)
   pub other_frames : language.OtherFrames (rules_for language d policy)
   pub other_states : language.OtherStates (rules_for language d policy)
 

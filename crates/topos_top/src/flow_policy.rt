@@ -1,8 +1,7 @@
 //! The policy of a description as one value.
 
 ghost use Rattle.std.specs.Prelude.{◌≡◌, length};
-ghost use Rattle.net_core.specs.Network.{site_of};
-ghost use Rattle.pkt_core.specs.inner.FlowPolicy.{policy_with};
+ghost use Rattle.report_core.specs.FlowPolicies.{flow_policy_of};
 
 use desc_core::Description;
 use net_core::Policy;
@@ -12,7 +11,7 @@ use pkt_core::FlowPolicy;
 pub fn policy_between<'a>(description: &'a Description, policy: &'a Policy) -> FlowPolicy<'a>
     requires permitted { policy.now.permitted.size ≡ length description.now.hosts }
     requires stateful { policy.now.stateful.size ≡ length description.now.hosts }
-    ensures { result ≡ policy_with (site_of description.now) policy.now.permitted.flows policy.now.stateful.flows }
+    ensures { result ≡ flow_policy_of description.now policy.now }
 {
     FlowPolicy::new(
         description.hosts(),

@@ -3,7 +3,7 @@ use Rattle.std.specs.Prelude.{◌≡◌, ℕ, List, Result, Ok, Err, codes}
 use Rattle.std.specs.List.{concat}
 use Rattle.std.specs.Global.{Global}
 use Rattle.std.specs.declared.vec.Vec.{Vec}
-use Rattle.pkt_core.specs.inner.FlowPolicy.{FlowPolicy}
+use Rattle.pkt_core.specs.FlowPolicy.{FlowPolicy}
 use Rattle.topos_top.specs.Dialects.{rule_dialect_of}
 use Rattle.topos_top.specs.TextFault.{fault_line}
 use Rattle.topos_top.specs.inner.Views.{rules_lines, rules_view}
@@ -25,6 +25,6 @@ IsRead dialect bytes (Err fault) = IsFault dialect bytes fault
 -- The result of the layout of a policy in a dialect: its rules, by their text, or the line with the reason why they cannot be emitted.
 abbrev pub IsLayout : Dialect → FlowPolicy → Result Rules (Vec ℕ Global) → Type 0
 IsLayout dialect policy (Ok rules) =
-    (rule_dialect_of dialect).CanWrite policy.site policy.permitted policy.stateful
-    × (concat (rules_lines rules) ≡ (rule_dialect_of dialect).text ((rule_dialect_of dialect).layout policy.site policy.permitted policy.stateful))
-IsLayout dialect policy (Err line) = (rule_dialect_of dialect).CannotEmit line.items policy.site policy.permitted policy.stateful
+    (rule_dialect_of dialect).CanWrite policy
+    × (concat (rules_lines rules) ≡ (rule_dialect_of dialect).text ((rule_dialect_of dialect).layout policy))
+IsLayout dialect policy (Err line) = (rule_dialect_of dialect).CannotEmit line.items policy

@@ -1,6 +1,6 @@
 use Rattle.std.proofs.Common.{◌∙◌}
 use Rattle.host_net.specs.Site.{site_with}
-use Rattle.pkt_core.specs.inner.FlowPolicy.{policy_with}
+use Rattle.pkt_core.specs.FlowPolicy.{policy_with}
 use Rattle.topos_top.proofs.flow_policy.policy_between.Goals as goal
 
 pub returns : goal.returns
