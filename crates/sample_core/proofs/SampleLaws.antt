@@ -1,17 +1,17 @@
 -- The report of the sample is unique.
 use Rattle.std.proofs.Common.{◌≡◌, ℕ, List, Result, Ok, Err, length, map, filter, sym, ap, subst, ◌∙◌, refl, arith}
 use Rattle.desc_core.specs.Description.{described_by_table}
-use Rattle.flow_set.specs.declared.flow.Flow.{Flow}
-use Rattle.host_net.specs.Site.{Site}
 use Rattle.ipt_rules.specs.Chain.{Chain}
 use Rattle.ipt_rules.specs.Semantics.{Passes}
 use Rattle.ipt_rules.specs.Text.{text_lines}
-use Rattle.net_core.specs.Network.{Network, site_of}
+use Rattle.net_core.specs.Network.{Network}
 use Rattle.net_core.specs.Policies.{IsPolicyOf, Policy}
 use Rattle.net_core.proofs.PolicyLaws.{policy_is_one}
 use Rattle.pkt_core.specs.Filter.{RunsFromNoConnections}
+use Rattle.pkt_core.specs.FlowPolicy.{FlowPolicy}
 use Rattle.pkt_core.specs.Tracking.{no_connections}
 use Rattle.report_core.specs.CheckReport.{AreViolations}
+use Rattle.report_core.specs.FlowPolicies.{flow_policy_of}
 use Rattle.report_core.proofs.ReportLaws.{offences_are_one}
 use Rattle.sample_core.specs.Sample.{Found, IsSample, IsTableLines, chains_of, offence_size, sample_events, sample_text, was_forwarded}
 use Rattle.sample_core.specs.inner.SampleCounts.{rows}
@@ -27,16 +27,16 @@ value_or d (Err e) = d
 said_same : {A R : Type 0} (r : Result A R) (a b : A) → r ≡ Ok a → r ≡ Ok b → a ≡ b
 said_same r a b first second = ap (value_or a) (sym first ∙ second)
 
-table_is_one : (site : Site) (p s : List Flow) (t u : TableLines) → IsTableLines site p s t → IsTableLines site p s u → t ≡ u
-table_is_one site p s NeedsState NeedsState a b = refl
-table_is_one site p s NeedsState TooMany a b = absurd (a b.0)
-table_is_one site p s NeedsState (Lines m) a b = absurd (a b.0)
-table_is_one site p s TooMany NeedsState a b = absurd (b a.0)
-table_is_one site p s TooMany TooMany a b = refl
-table_is_one site p s TooMany (Lines m) (_, many) (_, few, counted) = absurd (omega (arith, many, few))
-table_is_one site p s (Lines m) NeedsState a b = absurd (b a.0)
-table_is_one site p s (Lines m) TooMany (_, few, counted) (_, many) = absurd (omega (arith, many, few))
-table_is_one site p s (Lines m) (Lines k) (_, few, counted) (_, other, told) = ap Lines (counted ∙ sym told)
+table_is_one : (policy : FlowPolicy) (t u : TableLines) → IsTableLines policy t → IsTableLines policy u → t ≡ u
+table_is_one policy NeedsState NeedsState a b = refl
+table_is_one policy NeedsState TooMany a b = absurd (a b.0)
+table_is_one policy NeedsState (Lines m) a b = absurd (a b.0)
+table_is_one policy TooMany NeedsState a b = absurd (b a.0)
+table_is_one policy TooMany TooMany a b = refl
+table_is_one policy TooMany (Lines m) (_, many) (_, few, counted) = absurd (omega (arith, many, few))
+table_is_one policy (Lines m) NeedsState a b = absurd (b a.0)
+table_is_one policy (Lines m) TooMany (_, few, counted) (_, many) = absurd (omega (arith, many, few))
+table_is_one policy (Lines m) (Lines k) (_, few, counted) (_, other, told) = ap Lines (counted ∙ sym told)
 
 -- Its results are equal.
 record AreSame (n : ℕ) (f g : Found n) : Type 0 where
@@ -52,16 +52,16 @@ found_is_one n f g =
     let policy : f.policy ≡ g.policy =
     policy_is_one g.network f.policy g.policy (subst (λ (d : Network). IsPolicyOf d f.policy) net f.is_policy) g.is_policy in
     let chains : chains_of f.network f.policy ≡ chains_of g.network g.policy = λ i. chains_of (net i) (policy i) in
-    let same_table : IsTableLines (site_of g.network) g.policy.permitted.flows g.policy.stateful.flows f.table =
-    subst (λ (d : Network). IsTableLines (site_of d) g.policy.permitted.flows g.policy.stateful.flows f.table) net
-    (subst (λ (x : Policy). IsTableLines (site_of f.network) x.permitted.flows x.stateful.flows f.table) policy f.is_table) in
+    let same_table : IsTableLines (flow_policy_of g.network g.policy) f.table =
+    subst (λ (d : Network). IsTableLines (flow_policy_of d g.policy) f.table) net
+    (subst (λ (x : Policy). IsTableLines (flow_policy_of f.network x) f.table) policy f.is_table) in
     let last : List Chain = chains_of g.network g.policy in
     record {
       network = net;
       policy = policy;
       offences = offences_are_one g.network.invariants g.network.asked.flows f.offences g.offences
           (subst (λ (d : Network). AreViolations d.invariants d.asked.flows f.offences) net f.are_offences) g.are_offences;
-      table = table_is_one (site_of g.network) g.policy.permitted.flows g.policy.stateful.flows f.table g.table same_table g.is_table;
+      table = table_is_one (flow_policy_of g.network g.policy) f.table g.table same_table g.is_table;
       answers = runs_once AnyPacket (Passes last) (chains_answer_once last) no_connections (sample_events n) (any_known (sample_events n))
           f.answers g.answers (subst (λ (x : List Chain). RunsFromNoConnections (Passes x) (sample_events n) f.answers) chains f.run) g.run;
     }

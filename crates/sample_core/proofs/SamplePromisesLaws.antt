@@ -14,10 +14,12 @@ use Rattle.host_net.specs.Packet.{IsPacket}
 use Rattle.ipt_rules.specs.Semantics.{Passes}
 use Rattle.net_core.specs.inner.Fitting.{IsNetwork}
 use Rattle.net_core.proofs.HeadlineLaws.{CompliesWithAll-from_policy}
-use Rattle.net_core.specs.Network.{Network, site_of}
+use Rattle.net_core.specs.Network.{Network}
 use Rattle.net_core.proofs.PolicyLaws.{IsSubset-stateful}
 use Rattle.pkt_core.specs.Filter.{ArePackets, ForwardsAsExpected}
+use Rattle.pkt_core.specs.FlowPolicy.{FlowPolicy}
 use Rattle.pkt_core.specs.declared.event.Event.TheVariants.{Seen}
+use Rattle.report_core.specs.FlowPolicies.{flow_policy_of}
 use Rattle.sample_core.proofs.AcceptedLaws.{hosts_counted, sample_is_small}
 use Rattle.sample_core.specs.Sample.{Found, IsSample, packet_between, sample_events}
 use Rattle.sample_core.specs.SamplePromises.{ReportsSample}
@@ -44,11 +46,10 @@ pub reports_sample : (n : ℕ) (report : List ℕ) → IsSample n report → Rep
 reports_sample n report is =
     let found : Found n = is.found in
     let d : Network = found.network in
-    let p : List Flow = found.policy.permitted.flows in
-    let s : List Flow = found.policy.stateful.flows in
+    let policy : FlowPolicy = flow_policy_of d found.policy in
     let network : IsNetwork d = IsNetwork-table (sample_table n) d found.described in
     let few : n ≤ host_limit = sample_is_small n d found.described in
-    let forwards : ForwardsAsExpected (Passes (layout (site_of d) p s)) (site_of d) p s = layout_expected (site_of d) p s network.hosts (IsSubset-stateful d p s found.is_policy.stateful) in
+    let forwards : ForwardsAsExpected (Passes (layout policy)) policy = layout_expected policy network.hosts (IsSubset-stateful d policy.permitted policy.stateful found.is_policy.stateful) in
     record {
       found = found;
       written = is.written;

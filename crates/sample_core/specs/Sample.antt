@@ -8,19 +8,20 @@ use Rattle.emit_core.specs.FlowTableEvents.{AnswersAreCovered}
 use Rattle.emit_core.specs.Layout.{layout}
 use Rattle.flow_set.specs.EveryFlow.{every_flow}
 use Rattle.flow_set.specs.declared.flow.Flow.{Flow}
-use Rattle.host_net.specs.Site.{Site}
 use Rattle.host_net.specs.declared.packet.Packet.{Packet}
 use Rattle.ipt_rules.specs.Chain.{Chain}
 use Rattle.ipt_rules.specs.Semantics.{Passes}
 use Rattle.ipt_rules.specs.Text.{text_lines}
-use Rattle.net_core.specs.Network.{Network, site_of}
+use Rattle.net_core.specs.Network.{Network}
 use Rattle.net_core.specs.Policies.{IsPolicyOf, Policy}
 use Rattle.ofp_rules.specs.Ambiguity.{most_entries}
 use Rattle.ofp_rules.specs.Text.{text_lines as table_text_lines}
 use Rattle.pkt_core.specs.declared.event.Event.{Event}
 use Rattle.pkt_core.specs.declared.event.Event.TheVariants.{Seen}
 use Rattle.pkt_core.specs.Filter.{RunsFromNoConnections}
+use Rattle.pkt_core.specs.FlowPolicy.{FlowPolicy}
 use Rattle.report_core.specs.CheckReport.{AreViolations}
+use Rattle.report_core.specs.FlowPolicies.{flow_policy_of}
 use Rattle.sample_core.specs.SampleTable.{sample_table}
 use Rattle.sample_core.specs.declared.counts.TableLines.{TableLines}
 use Rattle.sample_core.specs.declared.counts.TableLines.TheVariants.{Lines, NeedsState, TooMany}
@@ -37,16 +38,17 @@ packet_between f = record { src = sample_address f.from; dst = sample_address f.
 abbrev pub sample_events : ℕ → List Event
 sample_events n = map Seen (map packet_between (every_flow n))
 
--- The lines of the flow table of permitted flows p and stateful flows s: a table is stateless, and has an entry limit.
-abbrev pub IsTableLines : Site → (p s : List Flow) → TableLines → Type 0
-IsTableLines site p s NeedsState = AnswersAreCovered site.services p s → ⊥
-IsTableLines site p s TooMany = AnswersAreCovered site.services p s × (most_entries < length (flow_entries site p))
-IsTableLines site p s (Lines count) =
-    AnswersAreCovered site.services p s × (length (flow_entries site p) ≤ most_entries) × (count ≡ length (table_text_lines (flow_entries site p)))
+-- The lines of the flow table of a policy: a table is stateless, and has an entry limit.
+abbrev pub IsTableLines : FlowPolicy → TableLines → Type 0
+IsTableLines policy NeedsState = AnswersAreCovered policy → ⊥
+IsTableLines policy TooMany = AnswersAreCovered policy × (most_entries < length (flow_entries policy.site policy.permitted))
+IsTableLines policy (Lines count) =
+    AnswersAreCovered policy × (length (flow_entries policy.site policy.permitted) ≤ most_entries)
+    × (count ≡ length (table_text_lines (flow_entries policy.site policy.permitted)))
 
 -- The chains of a policy of the network.
 abbrev pub chains_of : Network → Policy → List Chain
-chains_of d policy = layout (site_of d) policy.permitted.flows policy.stateful.flows
+chains_of d policy = layout (flow_policy_of d policy)
 
 -- The results for the sample of n hosts: the network that its table describes, its policy, the finding for each invariant, the lines of its
 -- flow table, and the packets that its chains forward from an empty connection table.
@@ -58,7 +60,7 @@ pub record Found (n : ℕ) : Type 0 where
   pub offences : List (Option (List Flow))
   pub are_offences : AreViolations network.invariants network.asked.flows offences
   pub table : TableLines
-  pub is_table : IsTableLines (site_of network) policy.permitted.flows policy.stateful.flows table
+  pub is_table : IsTableLines (flow_policy_of network policy) table
   pub answers : List (Option Bool)
   pub run : RunsFromNoConnections (Passes (chains_of network policy)) (sample_events n) answers
 

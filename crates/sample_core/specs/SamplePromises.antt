@@ -1,9 +1,9 @@
 -- The guarantees of the report of the sample to an operator. They follow from the definition of the report.
 use Rattle.std.specs.Prelude.{◌≡◌, ℕ, List, length}
-use Rattle.net_core.specs.Network.{site_of}
 use Rattle.net_core.specs.Policies.{CompliesWithAll, MeetsAll}
 use Rattle.pkt_core.specs.Expected.{AreExpected}
-use Rattle.pkt_core.specs.FlowPolicy.{is_of}
+use Rattle.pkt_core.specs.FlowPolicy.{permits, permits_reply_to}
+use Rattle.report_core.specs.FlowPolicies.{flow_policy_of}
 use Rattle.sample_core.specs.Sample.{Found, sample_events, sample_text}
 
 -- The numbers are those of a network of n hosts, the one that the table of the sample describes, and of its policy, which satisfies every
@@ -15,5 +15,5 @@ pub record ReportsSample (n : ℕ) (report : List ℕ) : Type 0 where
   pub hosts : length found.network.hosts ≡ n
   pub meets : MeetsAll found.network found.policy.permitted.flows
   pub complies : CompliesWithAll found.network found.policy
-  pub expected : AreExpected (is_of (site_of found.network) found.policy.permitted.flows)
-      (is_of (site_of found.network) found.policy.stateful.flows) (sample_events n) found.answers
+  pub expected : AreExpected (permits (flow_policy_of found.network found.policy)) (permits_reply_to (flow_policy_of found.network found.policy))
+      (sample_events n) found.answers

@@ -25,7 +25,7 @@ pub enum TableLines {
 /// Returns the number of lines of the flow table of a policy with unrestricted flows only.
 pub(crate) fn table_lines(alloc: Global, policy: &FlowPolicy<'_>) -> Result<TableLines, AllocError>
     requires whole { policy.now.site.services ≡ [] }
-    ensures { IfOk result (IsTableLines policy.now.site policy.now.permitted policy.now.stateful) }
+    ensures { IfOk result (IsTableLines policy.now) }
 {
     if needs_state(policy).is_some() {
         return Ok(TableLines::NeedsState);

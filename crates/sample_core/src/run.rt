@@ -33,7 +33,7 @@ pub(crate) fn run_counts(
 ) -> Result<RunCounts, AllocError>
     requires few { count ≤ host_limit }
     requires whole { policy.now.site.services ≡ [] }
-    ensures { IfOk result (λ run. AreRunCounts count (layout policy.now.site policy.now.permitted policy.now.stateful) run.rules run.events run.forwarded) }
+    ensures { IfOk result (λ run. AreRunCounts count (layout policy.now) run.rules run.events run.forwarded) }
 {
     let rules = rules_of(alloc, policy)?;
     let packets = sample_packets(alloc, count)?;
@@ -49,7 +49,7 @@ pub(crate) fn run_counts(
 /// Returns the chains of a policy, which are never too many if all flows are unrestricted.
 fn rules_of(alloc: Global, policy: &FlowPolicy<'_>) -> Result<Ruleset, AllocError>
     requires whole { policy.now.site.services ≡ [] }
-    ensures { IfOk result (λ rules. rules ≡ layout policy.now.site policy.now.permitted policy.now.stateful) }
+    ensures { IfOk result (λ rules. rules ≡ layout policy.now) }
 {
     let _count = policy.count();
     match iptables_layout(alloc, policy) {

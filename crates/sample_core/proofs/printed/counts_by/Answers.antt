@@ -2,8 +2,8 @@ use Rattle.std.proofs.Common.{◌≡◌, ap, length, refl, subst, ◌∙◌}
 use Rattle.emit_core.specs.Layout.{layout}
 use Rattle.flow_set.specs.FlowSet.{SetOfFlows}
 use Rattle.host_net.specs.Site.{site_with}
-use Rattle.net_core.specs.Network.{site_of}
-use Rattle.pkt_core.specs.inner.FlowPolicy.{FlowPolicy, policy_with}
+use Rattle.pkt_core.specs.FlowPolicy.{FlowPolicy, policy_with}
+use Rattle.report_core.specs.FlowPolicies.{flow_policy_of}
 use Rattle.sample_core.specs.Sample.{IsTableLines}
 use Rattle.sample_core.specs.inner.SampleCounts.{AreRunCounts}
 use Rattle.sample_core.proofs.printed.counts_by.Goals as goal
@@ -13,11 +13,11 @@ returns c =
     let d = c.args.description.now in
     let p = c.args.policy.now in
     let run = c.in_ok-run.run' in
-    let same : c.new-asked.result ≡ policy_with (site_of d) p.permitted.flows p.stateful.flows =
+    let same : c.new-asked.result ≡ flow_policy_of d p =
     c.new-asked.ensures
     ∙ (λ i. policy_with (site_with (c.hosts.ensures.value i) (c.services.ensures.value i))
     (c.permitted-permitted.ensures.value i).flows (c.stateful-stateful.ensures.value i).flows) in
-    let ran = subst (λ (x : FlowPolicy). AreRunCounts c.args.count (layout x.site x.permitted x.stateful) run.rules run.events run.forwarded)
+    let ran = subst (λ (x : FlowPolicy). AreRunCounts c.args.count (layout x) run.rules run.events run.forwarded)
     same c.in_ok-run.ensures in
     record {
       found = record {
@@ -28,7 +28,7 @@ returns c =
         offences = c.in_ok-offending.ensures.offences;
         are_offences = c.in_ok-offending.ensures.found;
         table = c.in_ok-table.table;
-        is_table = subst (λ (x : FlowPolicy). IsTableLines x.site x.permitted x.stateful c.in_ok-table.table) same c.in_ok-table.ensures;
+        is_table = subst (λ (x : FlowPolicy). IsTableLines x c.in_ok-table.table) same c.in_ok-table.ensures;
         answers = ran.passed.answers;
         run = ran.passed.run;
       };
