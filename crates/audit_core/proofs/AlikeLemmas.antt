@@ -6,6 +6,7 @@ use Rattle.host_net.specs.declared.packet.CtState.{CtState}
 use Rattle.host_net.specs.declared.packet.CtState.TheVariants.{New, Established}
 use Rattle.host_net.specs.Packet.{IsPacket, swap_of}
 use Rattle.pkt_core.specs.Firewall.{may_pass}
+use Rattle.pkt_core.specs.FlowPolicy.{permits, permits_reply_to}
 use Rattle.audit_core.specs.declared.kind.Kind.{Kind}
 use Rattle.audit_core.specs.declared.kind.Kind.TheVariants.{Alone, AfterSwap, AfterBoth}
 use Rattle.audit_core.specs.Cuts.{cut_addresses, cut_ports, cuts_between, named_protocols, parts_between}
@@ -22,7 +23,7 @@ use Rattle.audit_core.specs.inner.Ranges.{AreTogether}
 use Rattle.audit_core.proofs.RangeLemmas.{is_in, protocol_of}
 use Rattle.rules_space.specs.Rules.{filter_of}
 use Rattle.header_space.specs.Boxes.{IsNoHigher}
-use Rattle.audit_core.specs.Sides.{Sides, permits_reply_to, permits}
+use Rattle.audit_core.specs.Sides.{Sides}
 use Rattle.audit_core.proofs.PartLemmas.{AreAlikeFor, IsAlikeFor, all_parts, alike_back, alike_swapped}
 use Rattle.audit_core.proofs.RulesLemmas.{filter_alike}
 use Rattle.audit_core.proofs.SiteLemmas.{is_of_alike}
@@ -33,20 +34,20 @@ use Rattle.audit_core.proofs.SiteLemmas.{is_of_alike}
 -- on their swaps and on the answers to the swaps.
 pub record AreAlike (sides : Sides) (p q : Packet) : Type 0 where
   pub said : (state : CtState) (b : Bool) → filter_of sides.rules state q b → filter_of sides.rules state p b
-  pub own : permits sides p ≡ permits sides q
-  pub other : permits sides (swap_of p) ≡ permits sides (swap_of q)
-  pub answers : permits_reply_to sides (swap_of p) ≡ permits_reply_to sides (swap_of q)
+  pub own : permits sides.policy p ≡ permits sides.policy q
+  pub other : permits sides.policy (swap_of p) ≡ permits sides.policy (swap_of q)
+  pub answers : permits_reply_to sides.policy (swap_of p) ≡ permits_reply_to sides.policy (swap_of q)
 
 pub right_alike : (sides : Sides) (kind : Kind) (p q : Packet) → AreAlike sides p q → Right sides kind p → Right sides kind q
 right_alike sides kind p q alike right asked b said =
     right (same_asked kind ∙ asked) b (alike.said (state_in kind) b said) ∙ same_policy (state_in kind)
   where
-    same_asked : (k : Kind) → is_asked (permits sides) k p ≡ is_asked (permits sides) k q
+    same_asked : (k : Kind) → is_asked (permits sides.policy) k p ≡ is_asked (permits sides.policy) k q
     same_asked Alone = refl
     same_asked AfterSwap = alike.other
     same_asked AfterBoth = alike.own
 
-    same_policy : (state : CtState) → may_pass (permits sides) (permits_reply_to sides) state p ≡ may_pass (permits sides) (permits_reply_to sides) state q
+    same_policy : (state : CtState) → may_pass (permits sides.policy) (permits_reply_to sides.policy) state p ≡ may_pass (permits sides.policy) (permits_reply_to sides.policy) state q
     same_policy New = λ i. alike.own i || (alike.answers i && false)
     same_policy Established = λ i. alike.own i || (alike.answers i && true)
 
@@ -58,13 +59,13 @@ alike_by_parts sides p q alike =
     let swapped = both (swap_of p) (swap_of q) (alike_swapped (parts_between sides) p q alike) in
     record {
       said = λ state b h. filter_alike sides.rules q p state b back.1 h;
-      own = is_of_alike sides.site sides.permitted p q there.0;
-      other = is_of_alike sides.site sides.permitted (swap_of p) (swap_of q) swapped.0;
-      answers = is_of_alike sides.site sides.stateful (swap_of p) (swap_of q) swapped.0;
+      own = is_of_alike sides.policy.site sides.policy.permitted p q there.0;
+      other = is_of_alike sides.policy.site sides.policy.permitted (swap_of p) (swap_of q) swapped.0;
+      answers = is_of_alike sides.policy.site sides.policy.stateful (swap_of p) (swap_of q) swapped.0;
     }
   where
-    both : (a b : Packet) → AreAlikeFor (parts_between sides) a b → AreAlikeFor (site_parts sides.site) a b × AreAlikeFor (rules_parts sides.rules) a b
-    both a b = all_parts (IsAlikeFor a b) (site_parts sides.site) (rules_parts sides.rules)
+    both : (a b : Packet) → AreAlikeFor (parts_between sides) a b → AreAlikeFor (site_parts sides.policy.site) a b × AreAlikeFor (rules_parts sides.rules) a b
+    both a b = all_parts (IsAlikeFor a b) (site_parts sides.policy.site) (rules_parts sides.rules)
 
 -- 2. Each packet is in one class with the packet of a class.
 

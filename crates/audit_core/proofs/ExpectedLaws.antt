@@ -7,6 +7,7 @@ use Rattle.pkt_core.proofs.ExpectedLaws.{expected_once}
 use Rattle.pkt_core.specs.Filter.{ArePackets}
 use Rattle.pkt_core.specs.Firewall.{Filter}
 use Rattle.pkt_core.specs.Tracking.{ConnectionTable, Runs, after_forget, after_seen, no_connections, state_of}
+use Rattle.pkt_core.specs.FlowPolicy.{permits, permits_reply_to}
 use Rattle.audit_core.specs.declared.finding.Finding.{Finding}
 use Rattle.audit_core.specs.declared.finding.Finding.TheVariants.{Equal}
 use Rattle.audit_core.specs.laws.FindingLaws.{equal_exactly}
@@ -15,7 +16,7 @@ use Rattle.audit_core.specs.inner.Findings.{IsFinding}
 use Rattle.audit_core.specs.laws.ListLaws.{agree_not_differ}
 use Rattle.rules_space.specs.Rules.{filter_of}
 use Rattle.rules_space.specs.Verdicts.{GivesOne}
-use Rattle.audit_core.specs.Sides.{AreEquivalent, Sides, permits_reply_to, permits}
+use Rattle.audit_core.specs.Sides.{AreEquivalent, Sides}
 use Rattle.audit_core.specs.inner.Sides.{AgreeAlways}
 
 -- From each connection table, a filter that has a verdict on every packet has a run over packets.
@@ -40,13 +41,13 @@ expected_where_agree sides gives agree = record {
   expected = λ events answers packets run. agree events packets answers run;
   some = λ events packets. some_run (filter_of sides.rules) gives no_connections events packets;
   one = λ events answers others packets run other.
-      expected_once (permits sides) (permits_reply_to sides) events answers others (agree events packets answers run) (agree events packets others other);
+      expected_once (permits sides.policy) (permits_reply_to sides.policy) events answers others (agree events packets answers run) (agree events packets others other);
 }
 
 -- Rules that forward as expected differ from the policy on no list of events.
 pub no_difference_where_expected : (sides : Sides) → AreEquivalent sides → DifferSomewhere sides → ⊥
 no_difference_where_expected sides are differ =
-    agree_not_differ (filter_of sides.rules) (permits sides) (permits_reply_to sides) differ.0 (agree_where_expected sides are differ.0 differ.1) differ.2
+    agree_not_differ (filter_of sides.rules) (permits sides.policy) (permits_reply_to sides.policy) differ.0 (agree_where_expected sides are differ.0 differ.1) differ.2
 
 -- Any finding of an audit on these rules is `Equal`.
 pub equal_where_expected : (sides : Sides) (finding : Finding) → AreEquivalent sides → IsFinding sides finding → finding ≡ Equal

@@ -7,11 +7,12 @@ use Rattle.host_net.specs.declared.packet.CtState.TheVariants.{New}
 use Rattle.host_net.specs.Packet.{IsPacket, swap_of}
 use Rattle.header_space.specs.Boxes.{every_packet}
 use Rattle.header_space.specs.Searching.{IsLeastWhere}
+use Rattle.pkt_core.specs.FlowPolicy.{permits}
 use Rattle.audit_core.specs.declared.kind.Kind.{Kind}
 use Rattle.audit_core.specs.declared.kind.Kind.TheVariants.{Alone, AfterSwap, AfterBoth}
 use Rattle.pkt_core.specs.Firewall.{may_pass}
 use Rattle.rules_space.specs.Rules.{filter_of}
-use Rattle.audit_core.specs.Sides.{Sides, permits}
+use Rattle.audit_core.specs.Sides.{Sides}
 use Rattle.rules_space.specs.Verdicts.{GivesOne}
 use Rattle.audit_core.specs.inner.Faults.{AreRight, HasFault, IsFault, Right, Wrong, expected_at, is_asked, state_in}
 use Rattle.rules_space.proofs.EveryPacketLaws.{in_every}
@@ -52,7 +53,7 @@ fault_said sides kind p f gives is said fault =
 -- ---- The result for a box
 
 pub fault_by : (sides : Sides) (kind : Kind) (p : Packet) (passes expected answer : Bool) → GivesOne (filter_of sides.rules) → IsPacket p
-    → IsTrue (is_asked (permits sides) kind p) → filter_of sides.rules (state_in kind) p passes → expected_at sides kind p ≡ expected
+    → IsTrue (is_asked (permits sides.policy) kind p) → filter_of sides.rules (state_in kind) p passes → expected_at sides kind p ≡ expected
     → (IsTrue answer → passes ≢ expected) × (passes ≢ expected → IsTrue answer) → IsTrue answer ↔ IsFault sides kind p
 fault_by sides kind p passes expected answer gives packet asked said is by = (
   (λ yes'. (passes, record { asked = asked; said = said; wrong = λ e. by.0 yes' (e ∙ is) })),

@@ -3,6 +3,7 @@ use Rattle.std.proofs.Common.{◌≡◌, ◌⊎◌, inl, inr, ℕ, ◌<◌, ◌�
 use Rattle.std.proofs.lemmas.Bool.{cases_lt}
 use Rattle.host_net.specs.declared.packet.Packet.{Packet}
 use Rattle.pkt_core.specs.Filter.{ArePackets}
+use Rattle.pkt_core.specs.FlowPolicy.{permits, permits_reply_to}
 use Rattle.audit_core.specs.declared.kind.Kind.{Kind}
 use Rattle.audit_core.specs.declared.kind.Kind.TheVariants.{Alone, AfterSwap, AfterBoth}
 use Rattle.audit_core.specs.declared.finding.Finding.{Finding}
@@ -19,7 +20,7 @@ use Rattle.audit_core.specs.Lists.{front_of, list_of}
 use Rattle.header_space.specs.Order.{ComesBefore, comes_first}
 use Rattle.audit_core.specs.Places.{IsClassPacket, Representatives, representatives_of}
 use Rattle.rules_space.specs.Rules.{filter_of}
-use Rattle.audit_core.specs.Sides.{Agree, Sides, permits_reply_to, permits}
+use Rattle.audit_core.specs.Sides.{Agree, Sides}
 
 -- 1. Of two packets, one comes before the other, or they are equal.
 
@@ -69,8 +70,8 @@ module _ (sides : Sides) (representatives : Representatives) where
   -- If the two sides differ on a list, they do not agree on it.
   not_agreed : (kind : Kind) (p : Packet) (b : Bool) → IsFirstClass sides representatives kind p b → Agree sides (list_of kind p) → ⊥
   not_agreed kind p b first agree =
-      agree_not_differ (filter_of sides.rules) (permits sides) (permits_reply_to sides) (list_of kind p) agree
-      (differ_on (filter_of sides.rules) (permits sides) (permits_reply_to sides) (front_of kind p) p b first.differ)
+      agree_not_differ (filter_of sides.rules) (permits sides.policy) (permits_reply_to sides.policy) (list_of kind p) agree
+      (differ_on (filter_of sides.rules) (permits sides.policy) (permits_reply_to sides.policy) (front_of kind p) p b first.differ)
 
   -- The first packet of one kind, and the verdict of the rules there, are unique.
   one_class : (kind : Kind) (p q : Packet) (b c : Bool) → IsFirstClass sides representatives kind p b → IsFirstClass sides representatives kind q c → (p ≡ q) × (b ≡ c)
@@ -83,7 +84,7 @@ module _ (sides : Sides) (representatives : Representatives) where
   ]
     where
       wrong_alike : p ≡ q → b ≡ c
-      wrong_alike same = one_wrong b c _ (subst (λ (r : Packet). IsWrong b (Expected (permits sides) (permits_reply_to sides) (front_of kind r) r)) same first.differ.wrong) second.differ.wrong
+      wrong_alike same = one_wrong b c _ (subst (λ (r : Packet). IsWrong b (Expected (permits sides.policy) (permits_reply_to sides.policy) (front_of kind r) r)) same first.differ.wrong) second.differ.wrong
 
   -- The kind is also unique.
   one_kind : (k l : Kind) (p q : Packet) (b c : Bool) → IsFirstClass sides representatives k p b → IsFirstClass sides representatives l q c
@@ -117,7 +118,7 @@ module _ (sides : Sides) (representatives : Representatives) where
 
 equal_not_differ : (sides : Sides) (t : Trace) → IsFinding sides Equal → IsFinding sides (Differing t) → ⊥
 equal_not_differ sides t agree found =
-    agree_not_differ (filter_of sides.rules) (permits sides) (permits_reply_to sides) (events_of t)
+    agree_not_differ (filter_of sides.rules) (permits sides.policy) (permits_reply_to sides.policy) (events_of t)
     (agree (events_of t) (subst (λ (u : Trace). ArePackets (events_of u)) (sym found.is) (trace_packets found.kind found.packet t.forwards found.first.packet)))
     found.differ
 

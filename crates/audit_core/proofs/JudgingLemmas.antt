@@ -12,6 +12,7 @@ use Rattle.pkt_core.specs.Firewall.{Filter}
 use Rattle.pkt_core.proofs.FilterLaws.{is_of-within}
 use Rattle.pkt_core.specs.Tracking.{ConnectionTable, Runs, after_forget, after_seen, no_connections}
 use Rattle.ofp_rules.specs.declared.entry.Entry.{Entry}
+use Rattle.pkt_core.specs.FlowPolicy.{permits, permits_reply_to}
 use Rattle.audit_core.specs.declared.kind.Kind.{Kind}
 use Rattle.audit_core.specs.declared.kind.Kind.TheVariants.{Alone, AfterSwap, AfterBoth}
 use Rattle.audit_core.specs.Agreement.{AgreeOn}
@@ -24,7 +25,7 @@ use Rattle.audit_core.specs.laws.ListLaws.{agree_not_differ, differ_on, expected
 use Rattle.audit_core.specs.Lists.{DifferAfter, front_of, list_of}
 use Rattle.audit_core.specs.Pairs.{DiffersAt}
 use Rattle.rules_space.specs.Rules.{Entries, Rules, filter_of}
-use Rattle.audit_core.specs.Sides.{Agree, Sides, permits_reply_to, permits}
+use Rattle.audit_core.specs.Sides.{Agree, Sides}
 use Rattle.rules_space.specs.Verdicts.{GivesOne}
 use Rattle.audit_core.proofs.FaultLaws.{right_where, same_where_not, says_new}
 use Rattle.audit_core.proofs.ListEndLaws.{expects, whole_differs, wrong_by}
@@ -78,15 +79,15 @@ AreRightBefore sides kind = (k : Kind) → place_of k < place_of kind → AreRig
 none_before : (sides : Sides) → AreRightBefore sides Alone
 none_before sides k h = absurd (omega arith)
 
-module _ (sides : Sides) (gives : GivesOne (filter_of sides.rules)) (subset : IsSubset sides.stateful sides.permitted) where
+module _ (sides : Sides) (gives : GivesOne (filter_of sides.rules)) (subset : IsSubset sides.policy.stateful sides.policy.permitted) where
   -- A stateful packet is permitted.
-  policy_within : (p : Packet) → IsPacket p → permits_reply_to sides p ≡ true → permits sides p ≡ true
-  policy_within p is stateful = is_of-within sides.site sides.stateful sides.permitted p subset stateful
+  policy_within : (p : Packet) → IsPacket p → permits_reply_to sides.policy p ≡ true → permits sides.policy p ≡ true
+  policy_within p is stateful = is_of-within sides.policy.site sides.policy.stateful sides.policy.permitted p subset stateful
 
-  passes_new : AreRight sides Alone → (p : Packet) → IsPacket p → permits sides p ≡ true → filter_of sides.rules New p true
+  passes_new : AreRight sides Alone → (p : Packet) → IsPacket p → permits sides.policy p ≡ true → filter_of sides.rules New p true
   passes_new alone p is permitted =
       let one = gives New p is in
-      subst (λ (b : Bool). filter_of sides.rules New p b) (alone p is refl one.0 one.1 ∙ or_left (permits sides p) _ permitted) one.1
+      subst (λ (b : Bool). filter_of sides.rules New p b) (alone p is refl one.0 one.1 ∙ or_left (permits sides.policy p) _ permitted) one.1
 
   -- Rules that are wrong about a packet differ from the policy there.
   pub wrong_differs : (kind : Kind) → (0 < place_of kind → AreRight sides Alone) → (p : Packet) → IsPacket p → (b : Bool) → Wrong sides kind p b
@@ -101,24 +102,24 @@ module _ (sides : Sides) (gives : GivesOne (filter_of sides.rules)) (subset : Is
           (true, passes_new (alone (omega arith)) p is wrong.asked, other.0, other.1, wrong.said)
 
   -- A packet that passes as a new packet is permitted.
-  permitted_new : AreRight sides Alone → (p : Packet) → IsPacket p → (b : Bool) → filter_of sides.rules New p b → permits sides p ≡ b
-  permitted_new alone p is b said = sym (alone p is refl b said ∙ says_new (permits sides) (permits_reply_to sides) p)
+  permitted_new : AreRight sides Alone → (p : Packet) → IsPacket p → (b : Bool) → filter_of sides.rules New p b → permits sides.policy p ≡ b
+  permitted_new alone p is b said = sym (alone p is refl b said ∙ says_new (permits sides.policy) (permits_reply_to sides.policy) p)
 
   -- The verdict on a packet after its swap.
   behind : AreRight sides Alone → (p : Packet) → IsPacket p → Right sides AfterSwap p → (passed : Bool) → filter_of sides.rules New (swap_of p) passed
       → (b : Bool) → filter_of sides.rules (state_after passed) p b → b ≡ expected_at sides AfterSwap p
   behind alone p is right true other b said = right (permitted_new alone (swap_of p) (swaps_known p is) true other) b said
   behind alone p is right false other b said =
-      alone p is refl b said ∙ (λ i. permits sides p || (none i && false)) ∙ sym (λ i. permits sides p || (none i && true))
+      alone p is refl b said ∙ (λ i. permits sides.policy p || (none i && false)) ∙ sym (λ i. permits sides.policy p || (none i && true))
     where
-      by_test : (c : Bool) → permits_reply_to sides (swap_of p) ≡ c → c ≡ false
+      by_test : (c : Bool) → permits_reply_to sides.policy (swap_of p) ≡ c → c ≡ false
       by_test true is_stateful =
           absurd (true≢false (sym (policy_within (swap_of p) (swaps_known p is) is_stateful)
           ∙ permitted_new alone (swap_of p) (swaps_known p is) false other))
       by_test false is_not = refl
 
-      none : permits_reply_to sides (swap_of p) ≡ false
-      none = by_test (permits_reply_to sides (swap_of p)) refl
+      none : permits_reply_to sides.policy (swap_of p) ≡ false
+      none = by_test (permits_reply_to sides.policy (swap_of p)) refl
 
   -- Rules that are right about a packet do not differ from the policy there.
   not_differs : (kind : Kind) → AreRightBefore sides kind → (p : Packet) → IsPacket p → Right sides kind p → (b : Bool) → DiffersAt sides kind p b → ⊥
@@ -141,12 +142,12 @@ module _ (sides : Sides) (gives : GivesOne (filter_of sides.rules)) (subset : Is
   agree_at_end : (kind : Kind) → AreRightBefore sides kind → (p : Packet) → IsPacket p → Right sides kind p → Agree sides (front_of kind p)
       → Agree sides (list_of kind p)
   agree_at_end kind before p is right front =
-      agree_more (filter_of sides.rules) (permits sides) (permits_reply_to sides) (front_of kind p) p (expected_at sides kind p) (expects sides kind p) front
+      agree_more (filter_of sides.rules) (permits sides.policy) (permits_reply_to sides.policy) (front_of kind p) p (expected_at sides kind p) (expects sides kind p) front
       (not_differs kind before p is right)
 
   agree_alone : (p : Packet) → IsPacket p → Right sides Alone p → Agree sides (list_of Alone p)
   agree_alone p is right =
-      agree_at_end Alone (none_before sides) p is right (agree_none (filter_of sides.rules) (permits sides) (permits_reply_to sides))
+      agree_at_end Alone (none_before sides) p is right (agree_none (filter_of sides.rules) (permits sides.policy) (permits_reply_to sides.policy))
 
   agree_behind_swap : AreRightBefore sides AfterSwap → (p : Packet) → IsPacket p → Right sides AfterSwap p → Agree sides (list_of AfterSwap p)
   agree_behind_swap before p is right =
@@ -165,9 +166,9 @@ module _ (sides : Sides) (gives : GivesOne (filter_of sides.rules)) (subset : Is
   -- Rules that are right about all packets agree with the policy on all lists.
   pub agree_where_right : ((kind : Kind) → AreRight sides kind) → AgreeAlways sides
   agree_where_right right =
-      agree_where_judged (filter_of sides.rules) (permits sides) (permits_reply_to sides) IsPacket policy_within (λ p is. record {
+      agree_where_judged (filter_of sides.rules) (permits sides.policy) (permits_reply_to sides.policy) IsPacket policy_within (λ p is. record {
         new = right Alone p is refl;
-        established = λ some b said. elim (or_cases (permits sides p) (permits sides (swap_of p)) some) [
+        established = λ some b said. elim (or_cases (permits sides.policy p) (permits sides.policy (swap_of p)) some) [
           | inl own ↦ right AfterBoth p is own b said
           | inr other ↦ right AfterSwap p is other b said
         ];
@@ -180,8 +181,8 @@ module _ (sides : Sides) (gives : GivesOne (filter_of sides.rules)) (subset : Is
 
   right_from_lists : (kind : Kind) → (0 < place_of kind → AreRight sides Alone) → ((p : Packet) → IsPacket p → Agree sides (list_of kind p)) → AreRight sides kind
   right_from_lists kind alone agree = right_from kind alone (λ p is b differs.
-      agree_not_differ (filter_of sides.rules) (permits sides) (permits_reply_to sides) (list_of kind p) (agree p is)
-      (differ_on (filter_of sides.rules) (permits sides) (permits_reply_to sides) (front_of kind p) p b differs))
+      agree_not_differ (filter_of sides.rules) (permits sides.policy) (permits_reply_to sides.policy) (list_of kind p) (agree p is)
+      (differ_on (filter_of sides.rules) (permits sides.policy) (permits_reply_to sides.policy) (front_of kind p) p b differs))
 
   -- 3. The law of short lists.
 
@@ -198,7 +199,7 @@ module _ (sides : Sides) (gives : GivesOne (filter_of sides.rules)) (subset : Is
 
 -- For a flow table, which is stateless, the first two lists suffice.
 pub two_lists_at : (sides : Sides) (entries : List Entry) → sides.rules ≡ Entries entries → GivesOne (filter_of sides.rules)
-    → IsSubset sides.stateful sides.permitted
+    → IsSubset sides.policy.stateful sides.policy.permitted
     → ((packet : Packet) → IsPacket packet → Agree sides (list_of Alone packet) × Agree sides (list_of AfterSwap packet)) → AgreeAlways sides
 two_lists_at sides entries is_table gives subset agree = agree_where_right sides gives subset right
   where
@@ -212,4 +213,4 @@ two_lists_at sides entries is_table gives subset agree = agree_where_right sides
     right Alone = alone
     right AfterSwap = right_from_lists sides gives subset AfterSwap (λ h. alone) (λ p is. (agree p is).1)
     right AfterBoth = λ p is own b said.
-        alone p is refl b (new p b said) ∙ or_left (permits sides p) _ own ∙ sym (or_left (permits sides p) _ own)
+        alone p is refl b (new p b said) ∙ or_left (permits sides.policy p) _ own ∙ sym (or_left (permits sides.policy p) _ own)

@@ -14,6 +14,7 @@ use Rattle.pkt_core.specs.Expected.{Expected}
 use Rattle.pkt_core.specs.laws.EventLaws.{WasSeen-now}
 use Rattle.pkt_core.specs.laws.ConnectionTableLaws.{begins_behind_seen}
 use Rattle.pkt_core.specs.Tracking.{Runs, after_seen, no_connections, state_of}
+use Rattle.pkt_core.specs.FlowPolicy.{permits, permits_reply_to}
 use Rattle.audit_core.specs.Agreement.{IsWrong}
 use Rattle.audit_core.specs.declared.difference.Direction.{Direction}
 use Rattle.audit_core.specs.declared.kind.Kind.{Kind}
@@ -28,7 +29,7 @@ use Rattle.audit_core.specs.laws.ListLaws.{differ_more}
 use Rattle.audit_core.specs.Lists.{front_of}
 use Rattle.audit_core.specs.Pairs.{DiffersAt}
 use Rattle.rules_space.specs.Rules.{Rules, filter_of}
-use Rattle.audit_core.specs.Sides.{Sides, permits_reply_to, permits}
+use Rattle.audit_core.specs.Sides.{Sides}
 use Rattle.rules_space.proofs.RulesLaws.{one_verdict}
 use Rattle.audit_core.proofs.ShortLaws.{expects_behind, expects_first, kept_established, swap_established}
 
@@ -46,12 +47,12 @@ other_by b e wrong is same = elim wrong [
   | inr h ↦ true≢false (sym (is.1 h.1) ∙ sym same ∙ h.0)
 ]
 
-pub expects : (sides : Sides) (kind : Kind) (p : Packet) → IsTrue (expected_at sides kind p) ↔ Expected (permits sides) (permits_reply_to sides) (front_of kind p) p
-expects sides Alone p = expects_first (permits sides) (permits_reply_to sides) p
+pub expects : (sides : Sides) (kind : Kind) (p : Packet) → IsTrue (expected_at sides kind p) ↔ Expected (permits sides.policy) (permits_reply_to sides.policy) (front_of kind p) p
+expects sides Alone p = expects_first (permits sides.policy) (permits_reply_to sides.policy) p
 expects sides AfterSwap p =
-    expects_behind (permits sides) (permits_reply_to sides) (Seen (swap_of p) ∷ []) p (WasSeen-now [] (swap_of p) (swap_of p) refl)
+    expects_behind (permits sides.policy) (permits_reply_to sides.policy) (Seen (swap_of p) ∷ []) p (WasSeen-now [] (swap_of p) (swap_of p) refl)
 expects sides AfterBoth p =
-    expects_behind (permits sides) (permits_reply_to sides) (Seen p ∷ Seen (swap_of p) ∷ []) p (WasSeen-now (Seen p ∷ []) (swap_of p) (swap_of p) refl)
+    expects_behind (permits sides.policy) (permits_reply_to sides.policy) (Seen p ∷ Seen (swap_of p) ∷ []) p (WasSeen-now (Seen p ∷ []) (swap_of p) (swap_of p) refl)
 
 -- 2. The verdicts of the rules.
 
@@ -109,9 +110,9 @@ module _ (sides : Sides) (gives : GivesOne (filter_of sides.rules)) where
   differ_by : (kind : Kind) (p : Packet) → IsPacket p → (b : Bool) → EndsBy sides.rules sides.rules kind p b → b ≢ expected_at sides kind p
       → DiffersAt sides kind p b
   differ_by Alone p is b ends other =
-      differ_more (filter_of sides.rules) (permits sides) (permits_reply_to sides) [] [] tt p b ends (wrong_by b (expected_at sides Alone p) other (expects sides Alone p))
+      differ_more (filter_of sides.rules) (permits sides.policy) (permits_reply_to sides.policy) [] [] tt p b ends (wrong_by b (expected_at sides Alone p) other (expects sides Alone p))
   differ_by AfterSwap p is b ends other =
-      differ_more (filter_of sides.rules) (permits sides) (permits_reply_to sides) (front_of AfterSwap p) (Some ends.0 ∷ []) (ends.1, tt) p b
+      differ_more (filter_of sides.rules) (permits sides.policy) (permits_reply_to sides.policy) (front_of AfterSwap p) (Some ends.0 ∷ []) (ends.1, tt) p b
       (subst (λ (s : CtState). filter_of sides.rules s p b) (sym (behind_swap_state p ends.0)) ends.2)
       (wrong_by b (expected_at sides AfterSwap p) other (expects sides AfterSwap p))
   differ_by AfterBoth p is b ends other = by_first ends.0 ends.1 ends.2 ends.3 ends.4
@@ -120,13 +121,13 @@ module _ (sides : Sides) (gives : GivesOne (filter_of sides.rules)) where
           → filter_of sides.rules (state_after (first || passed)) p b → DiffersAt sides AfterBoth p b
       by_first true first passed second last =
           let answer = gives Established (swap_of p) (swaps_known p is) in
-          differ_more (filter_of sides.rules) (permits sides) (permits_reply_to sides) (front_of AfterBoth p) (Some true ∷ Some answer.0 ∷ [])
+          differ_more (filter_of sides.rules) (permits sides.policy) (permits_reply_to sides.policy) (front_of AfterBoth p) (Some true ∷ Some answer.0 ∷ [])
           (first, (subst (λ (s : CtState). filter_of sides.rules s (swap_of p) answer.0) (sym (swap_established p)) answer.1, tt)) p b
           (subst (λ (s : CtState). filter_of sides.rules s p b)
           (sym (kept_established (after_seen no_connections p true) p answer.0 (begins_behind_seen no_connections p refl refl))) last)
           (wrong_by b (expected_at sides AfterBoth p) other (expects sides AfterBoth p))
       by_first false first passed second last =
-          differ_more (filter_of sides.rules) (permits sides) (permits_reply_to sides) (front_of AfterBoth p) (Some false ∷ Some passed ∷ [])
+          differ_more (filter_of sides.rules) (permits sides.policy) (permits_reply_to sides.policy) (front_of AfterBoth p) (Some false ∷ Some passed ∷ [])
           (first, (second, tt)) p b
           (subst (λ (s : CtState). filter_of sides.rules s p b) (sym (behind_swap_state p passed)) last)
           (wrong_by b (expected_at sides AfterBoth p) other (expects sides AfterBoth p))

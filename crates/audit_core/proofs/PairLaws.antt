@@ -92,7 +92,7 @@ module _ (sides : Sides) where
 
   -- 2. The elements of a list.
 
-  has_one : (c : Case) (one rest : List Difference) → IsListedFor sides c one → (p : Packet) → IsOfPair sides.site.hosts c.from c.to p
+  has_one : (c : Case) (one rest : List Difference) → IsListedFor sides c one → (p : Packet) → IsOfPair sides.policy.site.hosts c.from c.to p
       → DiffersAt sides c.kind p c.forwards → HasDifference (one ++ rest) c.from c.to c.kind c.forwards
   has_one c [] rest none p of differs = absurd (none p of differs)
   has_one c (d ∷ []) rest is p of differs =
@@ -100,7 +100,7 @@ module _ (sides : Sides) where
   has_one c (d ∷ e ∷ ds) rest not p of differs = absurd not
 
   has_listed : (cs : List Case) (ds : List Difference) → AreListedFor sides cs ds → (c : Case) → Contains cs c → (p : Packet)
-      → IsOfPair sides.site.hosts c.from c.to p → DiffersAt sides c.kind p c.forwards → HasDifference ds c.from c.to c.kind c.forwards
+      → IsOfPair sides.policy.site.hosts c.from c.to p → DiffersAt sides c.kind p c.forwards → HasDifference ds c.from c.to c.kind c.forwards
   has_listed [] ds listed c there p of differs = absurd (contains_none c there)
   has_listed (x ∷ cs) ds listed c there p of differs = elim (contains_cases x cs c there) [
     | inl is ↦
@@ -152,7 +152,7 @@ module _ (sides : Sides) where
       one.2 ∙ (λ i. one_listed c one.0 other.0 one.3 other.3 i ++ one_list cs one.1 other.1 one.4 other.4 i) ∙ sym other.2
 
   pub one_list_of_differences : (xs ys : List Difference) → AreDifferences sides xs → AreDifferences sides ys → xs ≡ ys
-  one_list_of_differences xs ys one other = one_list (all_cases (owners_of sides.site.hosts) (owners_of sides.site.hosts)) xs ys one other
+  one_list_of_differences xs ys one other = one_list (all_cases (owners_of sides.policy.site.hosts) (owners_of sides.policy.site.hosts)) xs ys one other
 
 -- 4. The list covers all cases.
 
@@ -206,7 +206,7 @@ cases_are hosts sources destinations here there =
 
 pub complete_where : (sides : Sides) (ds : List Difference) → AreDifferences sides ds → IsComplete sides ds
 complete_where sides ds listed kind p forwards is differs =
-    let hosts = sides.site.hosts in
+    let hosts = sides.policy.site.hosts in
     let from = owner_of hosts p.src in
     let to = owner_of hosts p.dst in
     has_listed sides (all_cases (owners_of hosts) (owners_of hosts)) ds listed (case_of from to kind forwards)

@@ -4,6 +4,7 @@ use Rattle.host_net.specs.declared.packet.Packet.{Packet}
 use Rattle.host_net.specs.Packet.{IsPacket}
 use Rattle.flow_set.specs.FlowSet.{IsSubset}
 use Rattle.pkt_core.specs.Filter.{ArePackets}
+use Rattle.pkt_core.specs.FlowPolicy.{permits, permits_reply_to}
 use Rattle.audit_core.specs.declared.difference.Difference.{Difference}
 use Rattle.audit_core.specs.declared.kind.Kind.{Kind}
 use Rattle.audit_core.specs.declared.kind.Kind.TheVariants.{Alone, AfterSwap, AfterBoth}
@@ -18,15 +19,15 @@ use Rattle.audit_core.specs.Lists.{front_of, list_of}
 use Rattle.header_space.specs.Owners.{owners_of}
 use Rattle.audit_core.specs.Pairs.{AreDifferences, Case, DiffersAt, IsDifference, all_cases}
 use Rattle.rules_space.specs.Rules.{filter_of}
-use Rattle.audit_core.specs.Sides.{Differ, AreEquivalent, Sides, permits_reply_to, permits}
+use Rattle.audit_core.specs.Sides.{Differ, AreEquivalent, Sides}
 use Rattle.audit_core.proofs.ExpectedLaws.{expected_where_agree}
 use Rattle.audit_core.proofs.JudgingLemmas.{agree_where_right, right_from}
 use Rattle.audit_core.proofs.PairLaws.{complete_where, first_is, listed_same}
 
-module _ (sides : Sides) (gives : GivesOne (filter_of sides.rules)) (subset : IsSubset sides.stateful sides.permitted) where
+module _ (sides : Sides) (gives : GivesOne (filter_of sides.rules)) (subset : IsSubset sides.policy.stateful sides.policy.permitted) where
   -- A difference at a packet is a difference on a list of packets.
   differ_there : (kind : Kind) (p : Packet) (forwards : Bool) → DiffersAt sides kind p forwards → Differ sides (list_of kind p)
-  differ_there kind p forwards differs = differ_on (filter_of sides.rules) (permits sides) (permits_reply_to sides) (front_of kind p) p forwards differs
+  differ_there kind p forwards differs = differ_on (filter_of sides.rules) (permits sides.policy) (permits_reply_to sides.policy) (front_of kind p) p forwards differs
 
   list_packets : (kind : Kind) (p : Packet) → IsPacket p → ArePackets (list_of kind p)
   list_packets Alone p is = trace_packets Alone p true is
@@ -37,14 +38,14 @@ module _ (sides : Sides) (gives : GivesOne (filter_of sides.rules)) (subset : Is
   somewhere p is differs = (list_of differs.0 p, list_packets differs.0 p is, differ_there differs.0 p differs.1 differs.2)
 
   nowhere : AgreeAlways sides → DifferSomewhere sides → ⊥
-  nowhere agree differ = agree_not_differ (filter_of sides.rules) (permits sides) (permits_reply_to sides) differ.0 (agree differ.0 differ.1) differ.2
+  nowhere agree differ = agree_not_differ (filter_of sides.rules) (permits sides.policy) (permits_reply_to sides.policy) differ.0 (agree differ.0 differ.1) differ.2
 
   same_where_right : ((kind : Kind) → AreRight sides kind) → AreSame sides
   same_where_right right p is differs = nowhere (agree_where_right sides gives subset right) (somewhere p is differs)
 
   pub none_where_right : ((kind : Kind) → AreRight sides kind) → AreDifferences sides []
   none_where_right right =
-      listed_same sides (same_where_right right) (all_cases (owners_of sides.site.hosts) (owners_of sides.site.hosts))
+      listed_same sides (same_where_right right) (all_cases (owners_of sides.policy.site.hosts) (owners_of sides.policy.site.hosts))
 
   -- If no packet differs, the rules are right.
   are_right : AreSame sides → (kind : Kind) → AreRight sides kind
@@ -68,7 +69,7 @@ module _ (sides : Sides) (gives : GivesOne (filter_of sides.rules)) (subset : Is
           omega (arith, within)
   none_exactly (d ∷ ds) listed = (
     (λ is. absurd (some is)),
-    (λ none. absurd (none (there (first_is sides (all_cases (owners_of sides.site.hosts) (owners_of sides.site.hosts)) d ds listed)))),
+    (λ none. absurd (none (there (first_is sides (all_cases (owners_of sides.policy.site.hosts) (owners_of sides.policy.site.hosts)) d ds listed)))),
   )
     where
       some : d ∷ ds ≡ [] → ⊥

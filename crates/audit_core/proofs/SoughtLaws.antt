@@ -3,6 +3,7 @@
 use Rattle.std.proofs.Common.{◌≡◌, inl, inr, sym, subst, arith}
 use Rattle.host_net.specs.declared.packet.Packet.{Packet}
 use Rattle.flow_set.specs.FlowSet.{IsSubset}
+use Rattle.pkt_core.specs.FlowPolicy.{permits, permits_reply_to}
 use Rattle.audit_core.specs.declared.finding.Finding.{Finding}
 use Rattle.audit_core.specs.declared.finding.Finding.TheVariants.{Equal, Differ as Differing}
 use Rattle.audit_core.specs.declared.finding.Trace.{Trace}
@@ -15,7 +16,7 @@ use Rattle.audit_core.specs.Places.{IsClassPacket, representatives_of}
 use Rattle.rules_space.specs.Rules.{filter_of}
 use Rattle.audit_core.specs.Lists.{front_of, list_of}
 use Rattle.audit_core.specs.Pairs.{DiffersAt}
-use Rattle.audit_core.specs.Sides.{Differ, Sides, permits_reply_to, permits}
+use Rattle.audit_core.specs.Sides.{Differ, Sides}
 use Rattle.audit_core.specs.inner.Findings.{IsFinding}
 use Rattle.rules_space.specs.Verdicts.{GivesOne}
 use Rattle.audit_core.proofs.FindingOnceLaws.{ordered}
@@ -42,12 +43,12 @@ class_packet sides kind trace least =
       ]
     ]
 
-module _ (sides : Sides) (gives : GivesOne (filter_of sides.rules)) (subset : IsSubset sides.stateful sides.permitted) where
+module _ (sides : Sides) (gives : GivesOne (filter_of sides.rules)) (subset : IsSubset sides.policy.stateful sides.policy.permitted) where
   trace_differs : (trace : Trace) (kind : Kind) (p : Packet) → trace ≡ trace_of kind p trace.forwards → DiffersAt sides kind p trace.forwards
       → Differ sides (events_of trace)
   trace_differs trace kind p is differs =
       subst (λ (t : Trace). Differ sides (events_of t)) (sym is)
-      (by_kind kind (differ_on (filter_of sides.rules) (permits sides) (permits_reply_to sides) (front_of kind p) p trace.forwards differs))
+      (by_kind kind (differ_on (filter_of sides.rules) (permits sides.policy) (permits_reply_to sides.policy) (front_of kind p) p trace.forwards differs))
     where
       by_kind : (kind : Kind) → Differ sides (list_of kind p) → Differ sides (events_of (trace_of kind p trace.forwards))
       by_kind Alone differ = differ

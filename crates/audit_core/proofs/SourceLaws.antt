@@ -71,11 +71,11 @@ module _ (sides : Sides) where
       joined : (a : ℕ) → LiesInOne (ranges_in sources ++ s.range ∷ []) a → LiesInOne (ranges_in (sources ++ s ∷ [])) a
       joined a covered = subst (λ (l : List AddressRange). LiesInOne l a) (sym ranges_are) covered
 
-  pub sender_is : (o : Owned) (s : Sender) → IsOwned sides.site.hosts o → AreSources sides o.ranges.items s.sources.items → s.owner ≡ o.owner
+  pub sender_is : (o : Owned) (s : Sender) → IsOwned sides.policy.site.hosts o → AreSources sides o.ranges.items s.sources.items → s.owner ≡ o.owner
       → IsSender sides s
   sender_is o s owned are same = record {
     each = are.each;
-    owned = λ a covered. covered_owned sides.site.hosts o.owner o.ranges.items owned.owned a (are.within a covered) ∙ sym same;
+    owned = λ a covered. covered_owned sides.policy.site.hosts o.owner o.ranges.items owned.owned a (are.within a covered) ∙ sym same;
     covered = λ p is of differs. are.covered p is (owned.covered p.src is.0 (of ∙ same)) differs;
   }
 
@@ -119,8 +119,8 @@ none_when (Some p) none is yes' = absurd (true≢false (is ∙ ap not yes'))
 
 -- 2. Packets of a pair go between the ranges of its owners.
 
-module _ (sides : Sides) (from : Sender) (to : Owned) (sender : IsSender sides from) (owned : IsOwned sides.site.hosts to) where
-  goes_where : (p : Packet) → IsOfPair sides.site.hosts from.owner to.owner p → IsDifferent sides p
+module _ (sides : Sides) (from : Sender) (to : Owned) (sender : IsSender sides from) (owned : IsOwned sides.policy.site.hosts to) where
+  goes_where : (p : Packet) → IsOfPair sides.policy.site.hosts from.owner to.owner p → IsDifferent sides p
       → GoesBetween (ranges_in from.sources.items) to.ranges.items p
   goes_where p of differs = record {
     packet = of.packet;
@@ -128,17 +128,17 @@ module _ (sides : Sides) (from : Sender) (to : Owned) (sender : IsSender sides f
     dst = owned.covered p.dst of.packet.1 of.dst;
   }
 
-  pair_of : (p : Packet) → GoesBetween (ranges_in from.sources.items) to.ranges.items p → IsOfPair sides.site.hosts from.owner to.owner p
+  pair_of : (p : Packet) → GoesBetween (ranges_in from.sources.items) to.ranges.items p → IsOfPair sides.policy.site.hosts from.owner to.owner p
   pair_of p goes = record {
     packet = goes.packet;
     src = sender.owned p.src goes.src;
-    dst = covered_owned sides.site.hosts to.owner to.ranges.items owned.owned p.dst goes.dst;
+    dst = covered_owned sides.policy.site.hosts to.owner to.ranges.items owned.owned p.dst goes.dst;
   }
 
   pub none_differs : (found : Option Packet) → found ≡ None → IsFoundBetween (DiffersSo sides None) (ranges_in from.sources.items) to.ranges.items found
       → (c : Case) → c.from ≡ from.owner → c.to ≡ to.owner → HasNone sides c
   none_differs found is none c here there p of differs =
-      let moved = subst (λ (o : Option ℕ). IsOfPair sides.site.hosts o to.owner p) here (subst (λ (o : Option ℕ). IsOfPair sides.site.hosts c.from o p) there of) in
+      let moved = subst (λ (o : Option ℕ). IsOfPair sides.policy.site.hosts o to.owner p) here (subst (λ (o : Option ℕ). IsOfPair sides.policy.site.hosts c.from o p) there of) in
       let any : IsDifferent sides p = (c.kind, c.forwards, differs) in
       (subst (λ (found : Option Packet). IsFoundBetween (IsDifferent sides) (ranges_in from.sources.items) to.ranges.items found) is none).none p
       (goes_where p moved any, any) tt

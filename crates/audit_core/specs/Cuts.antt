@@ -41,7 +41,7 @@ cuts_by parts = record {
 
 -- The parts that the two sides name.
 abbrev pub parts_between : Sides → List Part
-parts_between sides = site_parts sides.site ++ rules_parts sides.rules
+parts_between sides = site_parts sides.policy.site ++ rules_parts sides.rules
 
 -- The cuts that the two sides make.
 abbrev pub cuts_between : Sides → Cuts

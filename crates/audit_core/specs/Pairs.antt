@@ -28,15 +28,15 @@ pub record Case : Type 0 where
 
 -- No packet of the pair differs in that kind and direction.
 abbrev pub HasNone : Sides → Case → Type 0
-HasNone sides c = (p : Packet) → IsOfPair sides.site.hosts c.from c.to p → DiffersAt sides c.kind p c.forwards → ⊥
+HasNone sides c = (p : Packet) → IsOfPair sides.policy.site.hosts c.from c.to p → DiffersAt sides c.kind p c.forwards → ⊥
 
 -- The difference has the pair of the case, and its trace is the list of that kind at the first packet of the pair that differs in that
 -- direction.
 pub record IsDifference (sides : Sides) (c : Case) (d : Difference) : Type 0 where
   pub packet : Packet
-  pub of_pair : IsOfPair sides.site.hosts c.from c.to packet
+  pub of_pair : IsOfPair sides.policy.site.hosts c.from c.to packet
   pub differs : DiffersAt sides c.kind packet c.forwards
-  pub first : (q : Packet) → IsOfPair sides.site.hosts c.from c.to q → ComesBefore q packet → DiffersAt sides c.kind q c.forwards → ⊥
+  pub first : (q : Packet) → IsOfPair sides.policy.site.hosts c.from c.to q → ComesBefore q packet → DiffersAt sides c.kind q c.forwards → ⊥
   pub is : d ≡ record { from = c.from; to = c.to; trace = trace_of c.kind packet c.forwards }
 
 -- The list for a case has one difference, or it is empty if no packet differs.
@@ -71,7 +71,7 @@ all_cases froms tos = flat_map (λ from. flat_map (λ to. cases_between from to)
 -- The list has one difference for each pair, kind and direction in which some packet of the pair differs, and no other difference, in the
 -- order of all cases.
 abbrev pub AreDifferences : Sides → List Difference → Type 0
-AreDifferences sides ds = AreListedFor sides (all_cases (owners_of sides.site.hosts) (owners_of sides.site.hosts)) ds
+AreDifferences sides ds = AreListedFor sides (all_cases (owners_of sides.policy.site.hosts) (owners_of sides.policy.site.hosts)) ds
 
 -- The list has a difference of the pair, kind and direction.
 abbrev pub HasDifference : List Difference → Option ℕ → Option ℕ → Kind → Bool → Type 0
@@ -81,4 +81,4 @@ HasDifference ds from to kind forwards =
 -- The list has a difference for the pair of each packet that differs, in its kind and direction.
 abbrev pub IsComplete : Sides → List Difference → Type 0
 IsComplete sides ds = (kind : Kind) (p : Packet) (forwards : Bool) → IsPacket p → DiffersAt sides kind p forwards
-    → HasDifference ds (owner_of sides.site.hosts p.src) (owner_of sides.site.hosts p.dst) kind forwards
+    → HasDifference ds (owner_of sides.policy.site.hosts p.src) (owner_of sides.policy.site.hosts p.dst) kind forwards

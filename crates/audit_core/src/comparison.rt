@@ -3,6 +3,7 @@
 ghost use Rattle.std.specs.Prelude.{◌≡◌, ◌↔◌, ◌≤◌, IfOk, IfErr, OnOk, length};
 ghost use Rattle.host_net.specs.Site.{site_with};
 ghost use Rattle.flow_set.specs.FlowSet.{IsSubset};
+ghost use Rattle.pkt_core.specs.FlowPolicy.{policy_with};
 ghost use Rattle.audit_core.specs.Findings.{DifferSomewhere};
 ghost use Rattle.audit_core.specs.inner.Findings.{IsFinding, IsRefused};
 ghost use Rattle.audit_core.specs.inner.Faults.{IsSought};
@@ -37,13 +38,13 @@ pub fn audit(
     requires stateful { s.now.size ≡ length hosts.now }
     requires within { IsSubset s.now.flows p.now.flows }
     // The two sides agree on every list of events, or this is the first short list on which they differ.
-    ensures found { IfOk result (IsFinding (sides_of (site_with hosts.now services.now) p.now.flows s.now.flows (rules_of text.now))) }
+    ensures found { IfOk result (IsFinding (sides_of (policy_with (site_with hosts.now services.now) p.now.flows s.now.flows) (rules_of text.now))) }
     ensures exact { IfOk result (λ finding. (finding ≡ Finding.Equal) ↔
-        (DifferSomewhere (sides_of (site_with hosts.now services.now) p.now.flows s.now.flows (rules_of text.now)) → ⊥)) }
+        (DifferSomewhere (sides_of (policy_with (site_with hosts.now services.now) p.now.flows s.now.flows) (rules_of text.now)) → ⊥)) }
     ensures few { OnOk result
-        (class_count (sides_of (site_with hosts.now services.now) p.now.flows s.now.flows (rules_of text.now)) ≤ most_classes) }
+        (class_count (sides_of (policy_with (site_with hosts.now services.now) p.now.flows s.now.flows) (rules_of text.now)) ≤ most_classes) }
     ensures refused { IfErr result
-        (IsRefused (class_count (sides_of (site_with hosts.now services.now) p.now.flows s.now.flows (rules_of text.now)))) }
+        (IsRefused (class_count (sides_of (policy_with (site_with hosts.now services.now) p.now.flows s.now.flows) (rules_of text.now)))) }
 {
     let policy = FlowPolicy::new(hosts, services, p, s);
     audit_policy(alloc, &policy, text)
@@ -56,11 +57,11 @@ pub fn audit_policy(
     text: &RulesRef<'_>,
 ) -> Result<Finding, AuditRefusal>
     // The two sides agree on every list of events, or this is the first short list on which they differ.
-    ensures found { IfOk result (IsFinding (sides_of policy.now.site policy.now.permitted policy.now.stateful (rules_of text.now))) }
+    ensures found { IfOk result (IsFinding (sides_of policy.now (rules_of text.now))) }
     ensures exact { IfOk result (λ finding. (finding ≡ Finding.Equal) ↔
-        (DifferSomewhere (sides_of policy.now.site policy.now.permitted policy.now.stateful (rules_of text.now)) → ⊥)) }
-    ensures few { OnOk result (class_count (sides_of policy.now.site policy.now.permitted policy.now.stateful (rules_of text.now)) ≤ most_classes) }
-    ensures refused { IfErr result (IsRefused (class_count (sides_of policy.now.site policy.now.permitted policy.now.stateful (rules_of text.now)))) }
+        (DifferSomewhere (sides_of policy.now (rules_of text.now)) → ⊥)) }
+    ensures few { OnOk result (class_count (sides_of policy.now (rules_of text.now)) ≤ most_classes) }
+    ensures refused { IfErr result (IsRefused (class_count (sides_of policy.now (rules_of text.now)))) }
 {
     let count = count_classes(alloc, policy, text)?;
     if count > MOST_CLASSES {
@@ -76,9 +77,9 @@ pub fn compare_policy(
     text: &RulesRef<'_>,
 ) -> Result<Finding, AllocError>
     // The two sides agree on every list of events, or this is the first short list on which they differ.
-    ensures found { IfOk result (IsFinding (sides_of policy.now.site policy.now.permitted policy.now.stateful (rules_of text.now))) }
+    ensures found { IfOk result (IsFinding (sides_of policy.now (rules_of text.now))) }
     ensures exact { IfOk result (λ finding. (finding ≡ Finding.Equal) ↔
-        (DifferSomewhere (sides_of policy.now.site policy.now.permitted policy.now.stateful (rules_of text.now)) → ⊥)) }
+        (DifferSomewhere (sides_of policy.now (rules_of text.now)) → ⊥)) }
 {
     let finding = find(alloc, &Part::whole(policy, *text))?;
     Ok(finding)
@@ -90,7 +91,7 @@ fn count_classes(
     policy: &FlowPolicy<'_>,
     text: &RulesRef<'_>,
 ) -> Result<u128, AllocError>
-    ensures { IfOk result (λ count. count ≡ class_count (sides_of policy.now.site policy.now.permitted policy.now.stateful (rules_of text.now))) }
+    ensures { IfOk result (λ count. count ≡ class_count (sides_of policy.now (rules_of text.now))) }
 {
     let found = named_between(alloc, policy, text)?;
     Ok(found.classes())

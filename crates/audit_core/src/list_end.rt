@@ -8,7 +8,6 @@ ghost use Rattle.host_net.specs.Packet.{IsPacket, swap_of};
 ghost use Rattle.header_space.specs.Boxes.{IsBox, IsIn, Narrows};
 ghost use Rattle.header_space.specs.Cuts.{IsCutOf};
 ghost use Rattle.rules_space.specs.Rules.{filter_of};
-ghost use Rattle.audit_core.specs.Sides.{permits_reply_to, permits};
 ghost use Rattle.audit_core.specs.declared.difference.Direction.{Direction};
 ghost use Rattle.policy_space.specs.inner.Flows.{HaveFlow};
 ghost use Rattle.audit_core.specs.inner.Faults.{expected_at};
@@ -128,7 +127,7 @@ impl<'a> Ends<'a> {
 
     fn kind_differs(&self, kind: Kind, flow: Option<Flow>, within: &mut PacketBox) -> bool
         requires is_box { IsBox within.old }
-        requires flow { HaveFlow self.now.part.site.hosts within.old flow }
+        requires flow { HaveFlow self.now.part.policy.site.hosts within.old flow }
         ensures part { Narrows within.old within.new }
         ensures alike { (p : Packet) → IsIn within.new p → (IsTrue result ↔ ((forwards : Bool) × DiffersBy self.now kind p forwards)) }
     {

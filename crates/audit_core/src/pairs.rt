@@ -31,13 +31,13 @@ pub fn compare_pairs(
     policy: &FlowPolicy<'_>,
     text: &RulesRef<'_>,
 ) -> Result<Vec<Difference>, AllocError>
-    ensures differences { IfOk result (λ list. AreDifferences (sides_of policy.now.site policy.now.permitted policy.now.stateful (rules_of text.now)) list.items) }
-    ensures complete { IfOk result (λ list. IsComplete (sides_of policy.now.site policy.now.permitted policy.now.stateful (rules_of text.now)) list.items) }
+    ensures differences { IfOk result (λ list. AreDifferences (sides_of policy.now (rules_of text.now)) list.items) }
+    ensures complete { IfOk result (λ list. IsComplete (sides_of policy.now (rules_of text.now)) list.items) }
     ensures one { IfOk result (λ list. (other : List Difference) →
-        AreDifferences (sides_of policy.now.site policy.now.permitted policy.now.stateful (rules_of text.now)) other → other ≡ list.items) }
+        AreDifferences (sides_of policy.now (rules_of text.now)) other → other ≡ list.items) }
     // There is no difference if and only if the two sides differ on no list of events.
     ensures exact { IfOk result (λ list. (list.items ≡ []) ↔
-        (DifferSomewhere (sides_of policy.now.site policy.now.permitted policy.now.stateful (rules_of text.now)) → ⊥)) }
+        (DifferSomewhere (sides_of policy.now (rules_of text.now)) → ⊥)) }
 {
     let sides = Part::whole(policy, *text);
     if are_right(alloc, &sides)? {
@@ -52,7 +52,7 @@ fn differences_between(
     sides: &Part<'_>,
     owned: &[Owned],
 ) -> Result<Vec<Difference>, AllocError>
-    requires { AreOwned sides.now.site.hosts owned.now }
+    requires { AreOwned sides.now.policy.site.hosts owned.now }
     ensures { IfOk result (λ list. AreDifferences sides.now list.items) }
 {
     let mut list = Vec::new(alloc);
@@ -72,7 +72,7 @@ fn push_from(
 ) -> Result<(), AllocError>
     requires from { All HasRange from.now.sources.items }
     requires to { All HasRanges owned.now }
-    ensures { OnOk result ((sides : Sides) → IsSender sides from.now → All (IsOwned sides.site.hosts) owned.now →
+    ensures { OnOk result ((sides : Sides) → IsSender sides from.now → All (IsOwned sides.policy.site.hosts) owned.now →
         AreAdded sides (flat_map (λ to. cases_between from.now.owner to.owner) owned.now) list.old.items list.new.items) }
 {
     for to in owned {
@@ -90,7 +90,7 @@ fn push_pair(
 ) -> Result<(), AllocError>
     requires from { All HasRange from.now.sources.items }
     requires to { HasRanges to.now }
-    ensures { OnOk result ((sides : Sides) → IsSender sides from.now → IsOwned sides.site.hosts to.now →
+    ensures { OnOk result ((sides : Sides) → IsSender sides from.now → IsOwned sides.policy.site.hosts to.now →
         AreAdded sides (cases_between from.now.owner to.now.owner) list.old.items list.new.items) }
 {
     let some = from.find(alloc, None, &to.ranges)?;
@@ -117,7 +117,7 @@ fn push_case(
 ) -> Result<(), AllocError>
     requires from { All HasRange from.now.sources.items }
     requires to { HasRanges to.now }
-    ensures { OnOk result ((sides : Sides) → IsSender sides from.now → IsOwned sides.site.hosts to.now →
+    ensures { OnOk result ((sides : Sides) → IsSender sides from.now → IsOwned sides.policy.site.hosts to.now →
         AreAdded sides (case_of from.now.owner to.now.owner kind forwards ∷ []) list.old.items list.new.items) }
 {
     let direction = Direction { kind, forwards };

@@ -6,13 +6,14 @@ ghost use Rattle.host_net.specs.declared.packet.Packet.{Packet};
 ghost use Rattle.header_space.specs.Boxes.{IsBox, IsIn, Narrows};
 ghost use Rattle.header_space.specs.Cuts.{IsCutOf};
 ghost use Rattle.pkt_core.specs.inner.FlowPolicy.{IsFlowPolicy};
+ghost use Rattle.pkt_core.specs.FlowPolicy.{permits};
 ghost use Rattle.audit_core.specs.inner.Faults.{HasFault, IsFault, expected_at, is_asked};
 ghost use Rattle.rules_space.specs.Verdicts.{GivesOne, HaveSameVerdicts};
 ghost use Rattle.policy_space.specs.inner.Flows.{HaveFlow};
 ghost use Rattle.audit_core.specs.inner.Parts.{HaveSameFaults, IsPartOf};
 ghost use Rattle.rules_space.specs.Rules.{Chains, filter_of};
 ghost use Rattle.rules_space.specs.RulesView.{rules_of};
-ghost use Rattle.audit_core.specs.Sides.{permits, sides_of};
+ghost use Rattle.audit_core.specs.Sides.{sides_of};
 
 use crate::fault::state_in;
 use crate::kind::Kind;
@@ -37,13 +38,13 @@ impl<'a> Model for Part<'a> {
 
     ghost Value = { Sides };
 
-    ghost view = { λ s. sides_of s.policy.now.site s.policy.now.permitted s.policy.now.stateful s.rules };
+    ghost view = { λ s. sides_of s.policy.now s.rules };
 }
 
 impl<'a> Part<'a> {
     /// Returns the sides with all rules.
     pub(crate) fn whole(policy: &'a FlowPolicy<'a>, rules: RulesRef<'a>) -> Part<'a>
-        ensures sides { result ≡ sides_of policy.now.site policy.now.permitted policy.now.stateful (rules_of rules.entry) }
+        ensures sides { result ≡ sides_of policy.now (rules_of rules.entry) }
         ensures policy { IsFlowPolicy policy.now }
         ensures gives { GivesOne (filter_of (rules_of rules.entry)) }
     {
@@ -117,7 +118,7 @@ impl<'a> Part<'a> {
     pub(crate) fn flow_within(&self, within: &mut PacketBox) -> Option<Flow>
         requires { IsBox within.old }
         ensures part { Narrows within.old within.new }
-        ensures flow { HaveFlow self.now.site.hosts within.new result }
+        ensures flow { HaveFlow self.now.policy.site.hosts within.new result }
     {
         flow_within(self.policy.hosts(), within)
     }
@@ -125,7 +126,7 @@ impl<'a> Part<'a> {
     /// Whether the packets of a box are faults of some kind.
     pub(crate) fn has_fault(&self, flow: Option<Flow>, within: &mut PacketBox) -> bool
         requires is_box { IsBox within.old }
-        requires flow { HaveFlow self.now.site.hosts within.old flow }
+        requires flow { HaveFlow self.now.policy.site.hosts within.old flow }
         ensures part { Narrows within.old within.new }
         ensures alike { (p : Packet) → IsIn within.new p → (IsTrue result ↔ HasFault self.now None p) }
     {
@@ -141,7 +142,7 @@ impl<'a> Part<'a> {
     /// Whether the packets of a box are faults of that kind.
     pub(crate) fn is_fault(&self, kind: Kind, flow: Option<Flow>, within: &mut PacketBox) -> bool
         requires is_box { IsBox within.old }
-        requires flow { HaveFlow self.now.site.hosts within.old flow }
+        requires flow { HaveFlow self.now.policy.site.hosts within.old flow }
         ensures part { Narrows within.old within.new }
         ensures alike { (p : Packet) → IsIn within.new p → (IsTrue result ↔ IsFault self.now kind p) }
     {
@@ -159,9 +160,9 @@ impl<'a> Part<'a> {
     /// Whether the condition of that kind of list applies to the packets of a box.
     fn is_asked(&self, kind: Kind, flow: Option<Flow>, within: &mut PacketBox) -> bool
         requires is_box { IsBox within.old }
-        requires flow { HaveFlow self.now.site.hosts within.old flow }
+        requires flow { HaveFlow self.now.policy.site.hosts within.old flow }
         ensures part { Narrows within.old within.new }
-        ensures alike { (p : Packet) → IsIn within.new p → is_asked (permits self.now) kind p ≡ result }
+        ensures alike { (p : Packet) → IsIn within.new p → is_asked (permits self.now.policy) kind p ≡ result }
     {
         match kind {
             Kind::Alone => true,
@@ -175,7 +176,7 @@ impl<'a> Part<'a> {
     /// Whether the policy expects that the packets of a box pass at the end of their lists of that kind.
     pub(crate) fn expects(&self, kind: Kind, flow: Option<Flow>, within: &mut PacketBox) -> bool
         requires is_box { IsBox within.old }
-        requires flow { HaveFlow self.now.site.hosts within.old flow }
+        requires flow { HaveFlow self.now.policy.site.hosts within.old flow }
         ensures part { Narrows within.old within.new }
         ensures alike { (p : Packet) → IsIn within.new p → expected_at self.now kind p ≡ result }
     {
@@ -191,9 +192,9 @@ impl<'a> Part<'a> {
 
     fn permits_within(&self, flow: Option<Flow>, within: &mut PacketBox) -> bool
         requires is_box { IsBox within.old }
-        requires flow { HaveFlow self.now.site.hosts within.old flow }
+        requires flow { HaveFlow self.now.policy.site.hosts within.old flow }
         ensures part { Narrows within.old within.new }
-        ensures alike { (p : Packet) → IsIn within.new p → permits self.now p ≡ result }
+        ensures alike { (p : Packet) → IsIn within.new p → permits self.now.policy p ≡ result }
     {
         is_of_within_flow(self.policy, self.policy.permitted(), flow, within)
     }

@@ -31,7 +31,7 @@ pub(crate) struct Sender<'a> {
 impl<'a> Part<'a> {
     /// Returns an owner with its ranges from which some packet differs.
     pub(crate) fn sender(&self, alloc: Global, owned: &Owned) -> Result<Sender<'_>, AllocError>
-        requires { IsOwned self.now.site.hosts owned.now }
+        requires { IsOwned self.now.policy.site.hosts owned.now }
         ensures sender { IfOk result (IsSender self.now) }
         ensures owner { IfOk result (λ sender. sender.owner ≡ owned.now.owner) }
         ensures ranges { IfOk result (λ sender. All HasRange sender.sources.items) }

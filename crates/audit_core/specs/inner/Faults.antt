@@ -7,6 +7,7 @@ use Rattle.host_net.specs.declared.packet.CtState.TheVariants.{New, Established}
 use Rattle.host_net.specs.Packet.{IsPacket, swap_of}
 use Rattle.header_space.specs.Order.{ComesBefore}
 use Rattle.pkt_core.specs.Firewall.{may_pass}
+use Rattle.pkt_core.specs.FlowPolicy.{permits, permits_reply_to}
 use Rattle.audit_core.specs.declared.kind.Kind.{Kind}
 use Rattle.audit_core.specs.declared.kind.Kind.TheVariants.{Alone, AfterSwap, AfterBoth}
 use Rattle.audit_core.specs.declared.finding.Finding.{Finding}
@@ -14,7 +15,7 @@ use Rattle.audit_core.specs.declared.finding.Finding.TheVariants.{Equal, Differ 
 use Rattle.audit_core.specs.declared.finding.Trace.{Trace}
 use Rattle.audit_core.specs.Findings.{place_of, trace_of}
 use Rattle.rules_space.specs.Rules.{filter_of}
-use Rattle.audit_core.specs.Sides.{Sides, permits_reply_to, permits}
+use Rattle.audit_core.specs.Sides.{Sides}
 
 abbrev pub state_in : Kind → CtState
 state_in Alone = New
@@ -23,7 +24,7 @@ state_in AfterBoth = Established
 
 -- The policy expects that p passes at the end of the list of that kind.
 abbrev pub expected_at : Sides → Kind → Packet → Bool
-expected_at sides kind p = may_pass (permits sides) (permits_reply_to sides) (state_in kind) p
+expected_at sides kind p = may_pass (permits sides.policy) (permits_reply_to sides.policy) (state_in kind) p
 
 -- The condition applies to the packet in the list of that kind. After its swap the packet is established if the swap is permitted; after
 -- itself and its swap, if the packet is permitted.
@@ -35,11 +36,11 @@ is_asked permitted AfterBoth p = permitted p
 -- If the condition applies, the rules have the verdict of the policy.
 abbrev pub Right : Sides → Kind → Packet → Type 0
 Right sides kind p =
-    IsTrue (is_asked (permits sides) kind p) → (passes : Bool) → filter_of sides.rules (state_in kind) p passes → passes ≡ expected_at sides kind p
+    IsTrue (is_asked (permits sides.policy) kind p) → (passes : Bool) → filter_of sides.rules (state_in kind) p passes → passes ≡ expected_at sides kind p
 
 -- The condition applies, and the rules have this verdict, which is not the verdict of the policy.
 pub record Wrong (sides : Sides) (kind : Kind) (p : Packet) (passes : Bool) : Type 0 where
-  pub asked : IsTrue (is_asked (permits sides) kind p)
+  pub asked : IsTrue (is_asked (permits sides.policy) kind p)
   pub said : filter_of sides.rules (state_in kind) p passes
   pub wrong : passes ≢ expected_at sides kind p
 

@@ -105,8 +105,8 @@ pub record AreSources (sides : Sides) (ranges : List AddressRange) (sources : Li
 -- The sources belong to the owner. They contain each of its addresses from which some packet differs.
 pub record IsSender (sides : Sides) (s : Sender) : Type 0 where
   pub each : All (IsSource sides) s.sources.items
-  pub owned : (a : ℕ) → LiesInOne (ranges_in s.sources.items) a → owner_of sides.site.hosts a ≡ s.owner
-  pub covered : (p : Packet) → IsPacket p → owner_of sides.site.hosts p.src ≡ s.owner → IsDifferent sides p
+  pub owned : (a : ℕ) → LiesInOne (ranges_in s.sources.items) a → owner_of sides.policy.site.hosts a ≡ s.owner
+  pub covered : (p : Packet) → IsPacket p → owner_of sides.policy.site.hosts p.src ≡ s.owner → IsDifferent sides p
       → LiesInOne (ranges_in s.sources.items) p.src
 
 -- ---- Lists of differences

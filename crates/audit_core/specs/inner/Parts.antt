@@ -14,5 +14,5 @@ HaveSameFaults b sides others = (p : Packet) → IsIn b p → (kind : Kind) → 
 
 -- The part has the same policy, and its rules forward the same packets of a box.
 pub record IsPartOf (b : PacketBox) (sides part : Sides) : Type 0 where
-  pub policy : part ≡ sides_of sides.site sides.permitted sides.stateful part.rules
+  pub policy : part ≡ sides_of sides.policy part.rules
   pub verdicts : HaveSameVerdicts b sides.rules part.rules

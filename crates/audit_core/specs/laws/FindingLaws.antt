@@ -5,6 +5,7 @@ use Rattle.host_net.specs.Packet.{IsPacket, swap_of}
 use Rattle.pkt_core.specs.declared.event.Event.TheVariants.{Seen}
 use Rattle.pkt_core.specs.Events.{SeenAt}
 use Rattle.pkt_core.specs.Filter.{ArePackets}
+use Rattle.pkt_core.specs.FlowPolicy.{permits, permits_reply_to}
 use Rattle.audit_core.specs.declared.kind.Kind.{Kind}
 use Rattle.audit_core.specs.declared.kind.Kind.TheVariants.{Alone, AfterSwap, AfterBoth}
 use Rattle.audit_core.specs.declared.finding.Finding.{Finding}
@@ -14,7 +15,7 @@ use Rattle.audit_core.specs.Findings.{DifferSomewhere, events_of, trace_of}
 use Rattle.audit_core.specs.inner.Findings.{IsFinding}
 use Rattle.audit_core.specs.laws.ListLaws.{agree_not_differ}
 use Rattle.rules_space.specs.Rules.{filter_of}
-use Rattle.audit_core.specs.Sides.{Sides, permits_reply_to, permits}
+use Rattle.audit_core.specs.Sides.{Sides}
 
 -- The swap of a packet is a packet.
 pub swaps_known : (p : Packet) → IsPacket p → IsPacket (swap_of p)
@@ -41,7 +42,7 @@ trace_packets AfterBoth q f known (suc (suc (suc k))) p there = absurd (none_the
 -- A finding is `Equal` iff the two sides differ on no list of events.
 pub equal_exactly : (sides : Sides) (finding : Finding) → IsFinding sides finding → (finding ≡ Equal) ↔ (DifferSomewhere sides → ⊥)
 equal_exactly sides Equal agree = (
-  (λ is differ. agree_not_differ (filter_of sides.rules) (permits sides) (permits_reply_to sides) differ.0 (agree differ.0 differ.1) differ.2),
+  (λ is differ. agree_not_differ (filter_of sides.rules) (permits sides.policy) (permits_reply_to sides.policy) differ.0 (agree differ.0 differ.1) differ.2),
   (λ none. refl),
 )
 equal_exactly sides (Differing trace) found = (

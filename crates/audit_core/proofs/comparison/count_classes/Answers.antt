@@ -6,4 +6,4 @@ use Rattle.audit_core.proofs.comparison.count_classes.Goals as goal
 pub returns : goal.returns
 returns c =
     let policy = c.args.policy.now in
-    count_is (sides_of policy.site policy.permitted policy.stateful (rules_of c.args.text.now)) c.in_ok-found.found c.classes.result c.in_ok-found.ensures c.classes.ensures
+    count_is (sides_of policy (rules_of c.args.text.now)) c.in_ok-found.found c.classes.result c.in_ok-found.ensures c.classes.ensures

@@ -1,7 +1,7 @@
 use Rattle.std.proofs.Common.{◌≡◌, ◌↔◌, [], List, sym, subst}
 use Rattle.std.specs.Prelude.{IfOk}
 use Rattle.std.proofs.lemmas.Result.{IfOk-weaker}
-use Rattle.pkt_core.specs.inner.FlowPolicy.{FlowPolicy}
+use Rattle.pkt_core.specs.FlowPolicy.{FlowPolicy}
 use Rattle.audit_core.specs.declared.difference.Difference.{Difference}
 use Rattle.audit_core.specs.declared.kind.Kind.{Kind}
 use Rattle.rules_space.specs.declared.rules_ref.RulesRef.{RulesRef}
@@ -16,7 +16,7 @@ use Rattle.audit_core.proofs.pairs.compare_pairs.Goals as goal
 
 -- The two sides that are compared.
 abbrev compared : FlowPolicy → RulesRef → Sides
-compared policy text = sides_of policy.site policy.permitted policy.stateful (rules_of text)
+compared policy text = sides_of policy (rules_of text)
 
 pub returns-then-branch-clause-differences : goal.returns-then-branch-clause-differences
 returns-then-branch-clause-differences c =

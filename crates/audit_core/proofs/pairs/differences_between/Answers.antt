@@ -13,10 +13,10 @@ use Rattle.audit_core.proofs.pairs.differences_between.Goals as goal
 
 pub sender-requires : goal.sender-requires
 sender-requires c =
-    subst (IsOwned c.args.sides.now.site.hosts) (sym c.from-item.is) (c.requires.each c.loop-from.from-index c.from-item.result c.loop-from-test.true)
+    subst (IsOwned c.args.sides.now.policy.site.hosts) (sym c.from-item.is) (c.requires.each c.loop-from.from-index c.from-item.result c.loop-from-test.true)
 
 pub push_from-requires-clause-to : goal.push_from-requires-clause-to
-push_from-requires-clause-to c = owned_ranges c.args.sides.now.site.hosts c.args.owned.now c.requires.each
+push_from-requires-clause-to c = owned_ranges c.args.sides.now.policy.site.hosts c.args.owned.now c.requires.each
 
 pub loop-from-preserved : goal.loop-from-preserved
 loop-from-preserved c =
@@ -36,5 +36,5 @@ returns c =
     subst (λ (cases : List Case). AreListedFor c.args.sides.now cases c.loop-from.list.items)
     (ap (flat_map (λ (from : Owned). flat_map (λ (to : Owned). cases_between from.owner to.owner) c.args.owned.now))
     (take_all c.loop-from.from-index c.args.owned.now c.loop-from-test.false)
-    ∙ cases_are c.args.sides.now.site.hosts c.args.owned.now c.args.owned.now c.requires.owners c.requires.owners)
+    ∙ cases_are c.args.sides.now.policy.site.hosts c.args.owned.now c.args.owned.now c.requires.owners c.requires.owners)
     c.loop-from.invariant

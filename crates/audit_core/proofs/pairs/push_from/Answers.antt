@@ -18,7 +18,7 @@ loop-to-preserved c = λ sides sender owned.
     let row = c.to-item.result in
     added_step sides (flat_map between (take i items)) (between row) (flat_map between (take (i + 1) items)) c.args.list.now.items c.loop-to.list.items
     c.push_pair.new.list.items (c.loop-to.invariant sides sender owned)
-    (c.in_ok-push_pair.ensures sides sender (subst (IsOwned sides.site.hosts) (sym c.to-item.is) (owned i row c.loop-to-test.true)))
+    (c.in_ok-push_pair.ensures sides sender (subst (IsOwned sides.policy.site.hosts) (sym c.to-item.is) (owned i row c.loop-to-test.true)))
     (listed_more between items i row (take_at items i row c.loop-to-test.true c.to-item.is))
 
 pub returns : goal.returns
