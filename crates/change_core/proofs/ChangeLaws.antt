@@ -12,11 +12,12 @@ use Rattle.pass_core.specs.declared.passing_range.PassingRange.{PassingRange}
 use Rattle.pass_core.specs.Pairs.{AreListed, AreListedFor as ArePairsFor, IsListedFor as IsPairFor}
 use Rattle.pass_core.specs.Passing.{IsShown}
 use Rattle.pass_core.proofs.PairLemmas.{passing_alike}
+use Rattle.pkt_core.specs.FlowPolicy.{FlowPolicy, permits, permits_reply_to}
 use Rattle.change_core.specs.declared.change.Change.{Change}
 use Rattle.change_core.specs.declared.kind.ChangeKind.{ChangeKind}
 use Rattle.change_core.specs.declared.kind.ChangeKind.TheVariants.{FlowComes, FlowGoes, AnswersCome, AnswersGo}
 use Rattle.change_core.specs.declared.named_owner.NamedOwner.{NamedOwner}
-use Rattle.change_core.specs.Changes.{AreChanges, AreChangesBy, AreListedFor, ChangesBy, Comes, IsChange, IsComplete, IsListedFor, Policy, TreatAlike, all_kinds, permits_reply_to, names_of, permits}
+use Rattle.change_core.specs.Changes.{AreChanges, AreChangesBy, AreListedFor, ChangesBy, Comes, IsChange, IsComplete, IsListedFor, TreatAlike, all_kinds, names_of}
 use Rattle.change_core.specs.Names.{IsOfNames, named_owner}
 use Rattle.change_core.specs.inner.Changing.{IsAdded, change_of}
 use Rattle.change_core.specs.inner.Naming.{AreNamed, IsNamed, name_in, name_of}
@@ -37,7 +38,7 @@ listed_map P f g Listed Others each (x ∷ xs) ss all are = (
   listed_map P f g Listed Others each xs are.1 (All-tail P x xs all) are.4,
 )
 
-module _ (old new : Policy) (kind : ChangeKind) (Holds : Packet → Type 0) (holds : (p : Packet) → (Holds p ↔ ChangesBy old new kind p)) where
+module _ (old new : FlowPolicy) (kind : ChangeKind) (Holds : Packet → Type 0) (holds : (p : Packet) → (Holds p ↔ ChangesBy old new kind p)) where
   -- The change of a pair of owners.
   pair_change : (from to : Owned) → IsNamed new.site.hosts old.site.hosts from → IsNamed new.site.hosts old.site.hosts to → (ss : List PairServices)
       → IsPairFor Holds (GoesBetween from.ranges.items to.ranges.items) from.owner to.owner ss
@@ -88,7 +89,7 @@ module _ (old new : Policy) (kind : ChangeKind) (Holds : Packet → Type 0) (hol
 regroup : (a b c d : List Change) → ((a ++ b) ++ c) ++ d ≡ a ++ (b ++ (c ++ (d ++ [])))
 regroup a b c d = simp (append_assoc, append-nil)
 
-pub four_added : (old new : Policy) (a b c d e : List Change) → a ≡ [] → IsAdded (AreChangesBy old new FlowComes) a b
+pub four_added : (old new : FlowPolicy) (a b c d e : List Change) → a ≡ [] → IsAdded (AreChangesBy old new FlowComes) a b
     → IsAdded (AreChangesBy old new FlowGoes) b c → IsAdded (AreChangesBy old new AnswersCome) c d → IsAdded (AreChangesBy old new AnswersGo) d e
     → AreChanges old new e
 four_added old new a b c d e empty first second third fourth = (
@@ -143,13 +144,13 @@ kind_among FlowGoes = (1, omega arith, refl)
 kind_among AnswersCome = (2, omega arith, refl)
 kind_among AnswersGo = (3, omega arith, refl)
 
-one_change : (old new : Policy) (kind : ChangeKind) (from to : NamedOwner) (one : List Change) → IsListedFor old new kind from to one → (p : Packet)
+one_change : (old new : FlowPolicy) (kind : ChangeKind) (from to : NamedOwner) (one : List Change) → IsListedFor old new kind from to one → (p : Packet)
     → IsOfNames new.site.hosts old.site.hosts from to p → ChangesBy old new kind p → (c : Change) × Contains one c × IsChange old new kind from to c
 one_change old new kind from to [] none p of changes = absurd (none p of changes)
 one_change old new kind from to (c ∷ []) is p of changes = (c, (0, omega arith, refl), is)
 one_change old new kind from to (c ∷ d ∷ cs) wrong p of changes = absurd wrong
 
-pub complete_where : (old new : Policy) (cs : List Change) → AreChanges old new cs → IsComplete old new cs
+pub complete_where : (old new : FlowPolicy) (cs : List Change) → AreChanges old new cs → IsComplete old new cs
 complete_where old new cs are kind p is changes =
     let from = named_owner new.site.hosts old.site.hosts p.src in
     let to = named_owner new.site.hosts old.site.hosts p.dst in
@@ -175,7 +176,7 @@ same_where false false comes goes = refl
 comes_not : (before after : Bool) → before ≡ after → Comes before after → ⊥
 comes_not before after is comes = let no : true ≡ false = sym comes.1 ∙ sym is ∙ comes.0 in let never : ⊥ = cc in never
 
-no_change : (old new : Policy) → TreatAlike old new → (kind : ChangeKind) (p : Packet) → IsPacket p → ChangesBy old new kind p → ⊥
+no_change : (old new : FlowPolicy) → TreatAlike old new → (kind : ChangeKind) (p : Packet) → IsPacket p → ChangesBy old new kind p → ⊥
 no_change old new alike FlowComes p is changes = comes_not (permits old p) (permits new p) (alike p is).0 changes
 no_change old new alike FlowGoes p is changes = comes_not (permits new p) (permits old p) (sym (alike p is).0) changes
 no_change old new alike AnswersCome p is changes = comes_not (permits_reply_to old p) (permits_reply_to new p) (alike p is).1 changes
@@ -193,7 +194,7 @@ none_listed Listed none [] cs are = are
 none_listed Listed none (x ∷ xs) cs are =
     are.2 ∙ ap (λ (l : List Change). l ++ are.1) (none x are.0 are.3) ∙ none_listed Listed none xs are.1 are.4
 
-module _ (old new : Policy) where
+module _ (old new : FlowPolicy) where
   no_pair : TreatAlike old new → (kind : ChangeKind) (from to : NamedOwner) (one : List Change) → IsListedFor old new kind from to one → one ≡ []
   no_pair alike kind from to [] listed = refl
   no_pair alike kind from to (c ∷ []) is =

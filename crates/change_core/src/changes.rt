@@ -1,7 +1,7 @@
 //! The changes from one policy to another, for each kind of change and each pair of owners.
 
 ghost use Rattle.std.specs.Prelude.{◌≡◌, ◌↔◌, ◌++◌, [], IfOk, OnOk, map};
-ghost use Rattle.change_core.specs.Changes.{AreChanges, AreChangesBy, IsComplete, TreatAlike, policy_with};
+ghost use Rattle.change_core.specs.Changes.{AreChanges, AreChangesBy, IsComplete, TreatAlike};
 ghost use Rattle.change_core.specs.inner.Changing.{IsAdded, change_of};
 ghost use Rattle.change_core.specs.inner.Naming.{AreNamed};
 
@@ -23,13 +23,10 @@ pub fn changes_between(
     old: &FlowPolicy<'_>,
     new: &FlowPolicy<'_>,
 ) -> Result<Vec<Change>, AllocError>
-    ensures changes { IfOk result (λ list.
-        AreChanges (policy_with old.now.site old.now.permitted old.now.stateful) (policy_with new.now.site new.now.permitted new.now.stateful) list.items) }
-    ensures complete { IfOk result (λ list.
-        IsComplete (policy_with old.now.site old.now.permitted old.now.stateful) (policy_with new.now.site new.now.permitted new.now.stateful) list.items) }
+    ensures changes { IfOk result (λ list. AreChanges old.now new.now list.items) }
+    ensures complete { IfOk result (λ list. IsComplete old.now new.now list.items) }
     // There is no change if and only if the policies are equivalent.
-    ensures exact { IfOk result (λ list. (list.items ≡ []) ↔
-        TreatAlike (policy_with old.now.site old.now.permitted old.now.stateful) (policy_with new.now.site new.now.permitted new.now.stateful)) }
+    ensures exact { IfOk result (λ list. (list.items ≡ []) ↔ TreatAlike old.now new.now) }
 {
     let named = all_named(alloc, new.hosts(), old.hosts())?;
     let mut list = Vec::new(alloc);
@@ -50,9 +47,7 @@ fn push_kind(
     named: &[Owned],
 ) -> Result<(), AllocError>
     requires { AreNamed new.now.site.hosts old.now.site.hosts named.now }
-    ensures { OnOk result (IsAdded
-        (AreChangesBy (policy_with old.now.site old.now.permitted old.now.stateful) (policy_with new.now.site new.now.permitted new.now.stateful) kind)
-        list.old.items list.new.items) }
+    ensures { OnOk result (IsAdded (AreChangesBy old.now new.now kind) list.old.items list.new.items) }
 {
     let gained = Gained::by(kind, old, new);
     let pairs = services_by_pairs(alloc, &gained, named)?;

@@ -2,7 +2,7 @@
 
 ghost use Rattle.std.specs.Prelude.{◌↔◌};
 ghost use Rattle.host_net.specs.declared.packet.Packet.{Packet};
-ghost use Rattle.change_core.specs.Changes.{ChangesBy, policy_with};
+ghost use Rattle.change_core.specs.Changes.{ChangesBy};
 ghost use Rattle.change_core.specs.inner.Gaining.{IsGained};
 
 use crate::kind::ChangeKind;
@@ -25,8 +25,7 @@ impl<'a> Gained<'a> {
         old: &'a FlowPolicy<'a>,
         new: &'a FlowPolicy<'a>,
     ) -> Gained<'a>
-        ensures { (p : Packet) → (IsGained result.lost result.held p ↔
-            ChangesBy (policy_with old.now.site old.now.permitted old.now.stateful) (policy_with new.now.site new.now.permitted new.now.stateful) kind p) }
+        ensures { (p : Packet) → (IsGained result.lost result.held p ↔ ChangesBy old.now new.now kind p) }
     {
         match kind {
             ChangeKind::FlowComes => Gained {

@@ -1,6 +1,5 @@
 use Rattle.std.proofs.Common.{map}
 use Rattle.std.proofs.lemmas.Result.{on_ok_weaker}
-use Rattle.change_core.specs.Changes.{policy_with}
 use Rattle.change_core.specs.inner.Changing.{change_of}
 use Rattle.change_core.proofs.ChangeLaws.{changes_of_pairs}
 use Rattle.change_core.proofs.NamingLaws.{named_ranges}
@@ -15,8 +14,7 @@ returns c =
     (λ is. (
       map (change_of c.args.kind c.count.result) c.in_ok-pairs.pairs.items,
       is,
-      changes_of_pairs (policy_with c.args.old.now.site c.args.old.now.permitted c.args.old.now.stateful)
-          (policy_with c.args.new.now.site c.args.new.now.permitted c.args.new.now.stateful) c.args.kind _ c.by-gained.ensures c.args.named.now c.requires
+      changes_of_pairs c.args.old.now c.args.new.now c.args.kind _ c.by-gained.ensures c.args.named.now c.requires
           c.in_ok-pairs.pairs.items c.in_ok-pairs.ensures c.count.result c.count.ensures.value,
     ))
     c.push_all.ensures
