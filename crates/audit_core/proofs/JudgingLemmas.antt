@@ -62,7 +62,7 @@ module _ (filter : Filter) where
     agree_more past p e is agree none answers run =
         let parts = run_parts no_connections past p answers run in
         let same : parts.1 ≡ e = same_where_not parts.1 e (λ apart. none parts.1 (record {
-          answers = parts.0;
+          results = parts.0;
           run = subst (λ (xs : List (Option Bool)). Runs filter no_connections (past ++ Seen p ∷ []) xs) parts.2 run;
           many = run_long filter no_connections past parts.0 parts.3;
           wrong = wrong_by parts.1 e apart is;

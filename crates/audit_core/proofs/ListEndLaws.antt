@@ -166,9 +166,9 @@ module _ (sides : Sides) (gives : GivesOne (filter_of sides.rules)) where
   ends_behind_both p is b (Some a ∷ Some c ∷ x ∷ xs) many run = absurd (omega (arith, many))
 
   ends_by : (kind : Kind) (p : Packet) → IsPacket p → (b : Bool) → DiffersAt sides kind p b → EndsBy sides.rules sides.rules kind p b
-  ends_by Alone p is b differs = ends_alone p b differs.answers differs.many differs.run
-  ends_by AfterSwap p is b differs = ends_behind_swap p b differs.answers differs.many differs.run
-  ends_by AfterBoth p is b differs = ends_behind_both p is b differs.answers differs.many differs.run
+  ends_by Alone p is b differs = ends_alone p b differs.results differs.many differs.run
+  ends_by AfterSwap p is b differs = ends_behind_swap p b differs.results differs.many differs.run
+  ends_by AfterBoth p is b differs = ends_behind_both p is b differs.results differs.many differs.run
 
   pub whole_differs : (kind : Kind) (p : Packet) → IsPacket p → (b : Bool) → DiffersBy (record { part = sides; swaps = sides }) kind p b ↔ DiffersAt sides kind p b
   whole_differs kind p is b = (

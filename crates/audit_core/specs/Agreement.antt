@@ -14,16 +14,16 @@ IsWrong passes Expects = (IsTrue passes × (Expects → ⊥)) ⊎ ((passes ≡ f
 -- The filter and the policy agree on a list of events: the results of every run over it are the expected results.
 abbrev pub AgreeOn : Filter → (permitted stateful : Packet → Bool) → List Event → Type 0
 AgreeOn filter permitted stateful events =
-    (answers : List (Option Bool)) → RunsFromNoConnections filter events answers → AreExpected permitted stateful events answers
+    (results : List (Option Bool)) → RunsFromNoConnections filter events results → AreExpected permitted stateful events results
 
 -- The filter and the policy differ on a list of events: at some index of some run over it, a packet passes and is not expected to pass, or
 -- it does not pass and is expected to pass.
 pub record DifferOn (filter : Filter) (permitted stateful : Packet → Bool) (events : List Event) : Type 0 where
-  pub answers : List (Option Bool)
-  pub run : RunsFromNoConnections filter events answers
+  pub results : List (Option Bool)
+  pub run : RunsFromNoConnections filter events results
   pub place : ℕ
   pub packet : Packet
   pub seen : SeenAt events place packet
   pub passes : Bool
-  pub answer : slice_get answers place ≡ Some (Some passes)
+  pub answer : slice_get results place ≡ Some (Some passes)
   pub wrong : IsWrong passes (Expected permitted stateful (take place events) packet)

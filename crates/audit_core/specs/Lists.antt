@@ -22,7 +22,7 @@ list_of kind p = front_of kind p ++ Seen p ∷ []
 
 -- After these events, the packet passes and is not expected to pass, or it does not pass and is expected to pass.
 pub record DifferAfter (filter : Filter) (permitted stateful : Packet → Bool) (past : List Event) (p : Packet) (passes : Bool) : Type 0 where
-  pub answers : List (Option Bool)
-  pub run : RunsFromNoConnections filter (past ++ Seen p ∷ []) (answers ++ Some passes ∷ [])
-  pub many : length answers ≡ length past
+  pub results : List (Option Bool)
+  pub run : RunsFromNoConnections filter (past ++ Seen p ∷ []) (results ++ Some passes ∷ [])
+  pub many : length results ≡ length past
   pub wrong : IsWrong passes (Expected permitted stateful past p)

@@ -52,15 +52,15 @@ pub data Goes (hosts : List Host) (enforces : ℕ → Bool) (firewalls : Firewal
 -- every table.
 abbrev pub PassRunsTo : List Host → (enforces : ℕ → Bool) → Firewalls → Tables → List Event → List (Option Bool) → Tables → Type 0
 PassRunsTo hosts enforces firewalls tables [] [] behind = behind ≡ tables
-PassRunsTo hosts enforces firewalls tables (Seen p ∷ events) (Some passes ∷ answers) behind =
-    (next : Tables) × Goes hosts enforces firewalls tables p passes next × PassRunsTo hosts enforces firewalls next events answers behind
-PassRunsTo hosts enforces firewalls tables (Forget p ∷ events) (None ∷ answers) behind =
-    PassRunsTo hosts enforces firewalls (λ h. after_forget (tables h) p) events answers behind
-PassRunsTo hosts enforces firewalls tables events answers behind = ⊥
+PassRunsTo hosts enforces firewalls tables (Seen p ∷ events) (Some passes ∷ results) behind =
+    (next : Tables) × Goes hosts enforces firewalls tables p passes next × PassRunsTo hosts enforces firewalls next events results behind
+PassRunsTo hosts enforces firewalls tables (Forget p ∷ events) (None ∷ results) behind =
+    PassRunsTo hosts enforces firewalls (λ h. after_forget (tables h) p) events results behind
+PassRunsTo hosts enforces firewalls tables events results behind = ⊥
 
 -- A run over the events, with some tables after it.
 abbrev pub PassRuns : List Host → (enforces : ℕ → Bool) → Firewalls → Tables → List Event → List (Option Bool) → Type 0
-PassRuns hosts enforces firewalls tables events answers = (behind : Tables) × PassRunsTo hosts enforces firewalls tables events answers behind
+PassRuns hosts enforces firewalls tables events results = (behind : Tables) × PassRunsTo hosts enforces firewalls tables events results behind
 
 -- Host h sends or receives the packets of the flow.
 abbrev pub is_end : Option Flow → ℕ → Bool

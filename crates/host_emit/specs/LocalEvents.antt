@@ -44,18 +44,18 @@ pub record PassesSoundly (enforces : ℕ → Bool) (chains : ℕ → List Chain)
 -- For every list of events with external packets a run exists and its results are unique: a packet passes if and only if the policy and its
 -- answers expect it.
 pub record DeliversAsExpected (chains : ℕ → List Chain) (policy : FlowPolicy) : Type 0 where
-  pub expected : (events : List Event) (answers : List (Option Bool)) → AreExternal events → LocalRuns chains policy.site.hosts events answers
-      → AreExpected (permits policy) (permits_reply_to policy) events answers
+  pub expected : (events : List Event) (results : List (Option Bool)) → AreExternal events → LocalRuns chains policy.site.hosts events results
+      → AreExpected (permits policy) (permits_reply_to policy) events results
   -- If only some hosts enforce, the packets between two hosts that do not enforce pass as well, and nothing else changes: a packet with an
   -- enforcing end passes if and only if it is expected.
-  pub partial_deployment : (enforces : ℕ → Bool) → AreSpecific policy.site.hosts enforces → (events : List Event) (answers : List (Option Bool)) → AreExternal events
-      → RunsWith enforces chains policy.site.hosts events answers → AreExpected (or_unenforced policy.site.hosts enforces (permits policy)) (permits_reply_to policy) events answers
+  pub partial_deployment : (enforces : ℕ → Bool) → AreSpecific policy.site.hosts enforces → (events : List Event) (results : List (Option Bool)) → AreExternal events
+      → RunsWith enforces chains policy.site.hosts events results → AreExpected (or_unenforced policy.site.hosts enforces (permits policy)) (permits_reply_to policy) events results
   -- Each specific host tracks exactly the first packets of the connections that it is an end of.
-  pub first : (events : List Event) (answers : List (Option Bool)) (behind : Tables) → AreExternal events
-      → LocalRunsTo chains policy.site.hosts events answers behind → AllKeepFirst policy.site.hosts (is_specific policy.site.hosts) (permits policy) events behind
-  pub some : (events : List Event) → AreExternal events → (answers : List (Option Bool)) × LocalRuns chains policy.site.hosts events answers
-  pub one : (events : List Event) (answers others : List (Option Bool)) → AreExternal events → LocalRuns chains policy.site.hosts events answers
-      → LocalRuns chains policy.site.hosts events others → answers ≡ others
+  pub first : (events : List Event) (results : List (Option Bool)) (behind : Tables) → AreExternal events
+      → LocalRunsTo chains policy.site.hosts events results behind → AllKeepFirst policy.site.hosts (is_specific policy.site.hosts) (permits policy) events behind
+  pub some : (events : List Event) → AreExternal events → (results : List (Option Bool)) × LocalRuns chains policy.site.hosts events results
+  pub one : (events : List Event) (results others : List (Option Bool)) → AreExternal events → LocalRuns chains policy.site.hosts events results
+      → LocalRuns chains policy.site.hosts events others → results ≡ others
   -- With any connection tracking, after every list of events, whatever passed of them, only expected packets pass in sound states, and all
   -- permitted packets pass in all states.
   pub only_expected : (past : List Event) (packet : Packet) → IsExternal packet → PassesSoundly (is_specific policy.site.hosts) chains policy.site.hosts past packet

@@ -48,7 +48,7 @@ after_forget kept p = with_connection (with_connection kept p None) (swap_of p) 
 -- event has no result.
 abbrev pub Runs : Filter → ConnectionTable → List Event → List (Option Bool) → Type 0
 Runs filter kept [] [] = ⊤
-Runs filter kept (Seen p ∷ events) (Some passes ∷ answers) =
-    filter (state_of kept p) p passes × Runs filter (after_seen kept p passes) events answers
-Runs filter kept (Forget p ∷ events) (None ∷ answers) = Runs filter (after_forget kept p) events answers
-Runs filter kept events answers = ⊥
+Runs filter kept (Seen p ∷ events) (Some passes ∷ results) =
+    filter (state_of kept p) p passes × Runs filter (after_seen kept p passes) events results
+Runs filter kept (Forget p ∷ events) (None ∷ results) = Runs filter (after_forget kept p) events results
+Runs filter kept events results = ⊥

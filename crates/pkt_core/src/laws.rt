@@ -15,10 +15,10 @@ ghost use Rattle.pkt_core.specs.Tracking.{no_connections, state_of};
 /// packets are ESTABLISHED than by the table, only expected packets pass.
 pub fn tracked_states_are_sound()
     ensures sound { (permitted stateful : Packet → Bool) → StatefulArePermitted (λ p. ⊤) permitted stateful →
-        (events : List Event) (answers : List (Option Bool)) → RunsBy permitted stateful no_connections events answers →
-        (p : Packet) → IsSoundFor permitted events p (state_of (kept_after no_connections events answers) p) }
+        (events : List Event) (results : List (Option Bool)) → RunsBy permitted stateful no_connections events results →
+        (p : Packet) → IsSoundFor permitted events p (state_of (kept_after no_connections events results) p) }
     ensures fewer { (permitted stateful : Packet → Bool) → StatefulArePermitted (λ p. ⊤) permitted stateful →
-        (events : List Event) (answers : List (Option Bool)) →
-        RunsWithFewer (λ state p passes. passes ≡ may_pass permitted stateful state p) no_connections events answers →
-        PassOnlyExpected permitted stateful events answers }
+        (events : List Event) (results : List (Option Bool)) →
+        RunsWithFewer (λ state p passes. passes ≡ may_pass permitted stateful state p) no_connections events results →
+        PassOnlyExpected permitted stateful events results }
 {}

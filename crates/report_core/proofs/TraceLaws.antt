@@ -73,11 +73,11 @@ module _ (Known : Packet → Type 0) (filter : Filter) (once : AnswersOnce Known
   pub trace_is_one : (events : List Event) → AllKnown Known events → (a b : List ℕ) → IsTrace filter events a
       → IsTrace filter events b → a ≡ b
   trace_is_one events known a b p q =
-      p.written ∙ ap answer_lines (runs_once no_connections events known p.answers q.answers p.run q.run) ∙ sym q.written
+      p.written ∙ ap answer_lines (runs_once no_connections events known p.results q.results p.run q.run) ∙ sym q.written
 
   -- So it reports the only run.
   pub reports_run : (events : List Event) → AllKnown Known events → (text : List ℕ) → IsTrace filter events text → ReportsRun filter events text
   reports_run events known text is = record {
     is = is;
-    one = λ answers run. runs_once no_connections events known answers is.answers run is.run;
+    one = λ answers run. runs_once no_connections events known answers is.results run is.run;
   }

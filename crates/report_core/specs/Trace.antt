@@ -13,15 +13,15 @@ answer_line k None = decimal k ++ codes " forgotten\n"
 
 -- The lines of the results, by the numbers of their events.
 abbrev pub answer_lines : List (Option Bool) → List ℕ
-answer_lines answers = flat_map (λ (told : Numbered (Option Bool)). answer_line told.number told.what) (numbered answers)
+answer_lines results = flat_map (λ (told : Numbered (Option Bool)). answer_line told.number told.what) (numbered results)
 
 -- The text lists the results of a run of the filter over the events, from an empty connection table.
 pub record IsTrace (filter : Filter) (events : List Event) (text : List ℕ) : Type 0 where
-  pub answers : List (Option Bool)
-  pub run : RunsFromNoConnections filter events answers
-  pub written : text ≡ answer_lines answers
+  pub results : List (Option Bool)
+  pub run : RunsFromNoConnections filter events results
+  pub written : text ≡ answer_lines results
 
 -- The filter has exactly one run over the events, and the text lists its results.
 pub record ReportsRun (filter : Filter) (events : List Event) (text : List ℕ) : Type 0 where
   pub is : IsTrace filter events text
-  pub one : (answers : List (Option Bool)) → RunsFromNoConnections filter events answers → answers ≡ is.answers
+  pub one : (results : List (Option Bool)) → RunsFromNoConnections filter events results → results ≡ is.results

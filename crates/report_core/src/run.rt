@@ -51,9 +51,9 @@ pub fn trace_table(alloc: Global, table: &Table, events: &[Event]) -> Result<Vec
 /// Returns the result of one event, and tracks it: a run over the remaining events continues this
 /// run.
 fn answer(filter: &Filter<'_>, track: &mut Track, event: Event) -> Result<Option<bool>, AllocError>
-    ensures { IfOk result (λ answer. (events : List EventOf) (answers : List (Option Bool))
-        → Runs (Passes filter.now) (kept_in track.new) events answers
-        → Runs (Passes filter.now) (kept_in track.old) (event ∷ events) (answer ∷ answers)) }
+    ensures { IfOk result (λ answer. (events : List EventOf) (results : List (Option Bool))
+        → Runs (Passes filter.now) (kept_in track.new) events results
+        → Runs (Passes filter.now) (kept_in track.old) (event ∷ events) (answer ∷ results)) }
 {
     match event {
         Event::Seen(packet) => {
@@ -73,9 +73,9 @@ fn answer(filter: &Filter<'_>, track: &mut Track, event: Event) -> Result<Option
 /// Returns the result of one event. A table is stateless, so each event is a run from the empty
 /// connection table.
 fn table_answer(table: &Table, event: Event) -> Option<bool>
-    ensures { (events : List EventOf) (answers : List (Option Bool))
-        → Runs (TablePasses table.now) no_connections events answers
-        → Runs (TablePasses table.now) no_connections (event ∷ events) (result ∷ answers) }
+    ensures { (events : List EventOf) (results : List (Option Bool))
+        → Runs (TablePasses table.now) no_connections events results
+        → Runs (TablePasses table.now) no_connections (event ∷ events) (result ∷ results) }
 {
     match event {
         Event::Seen(packet) => Some(table.verdict(&Frame::Ipv4(packet)).is_forward()),

@@ -44,7 +44,7 @@ record AreSame (n : ℕ) (f g : Found n) : Type 0 where
   policy : f.policy ≡ g.policy
   offences : f.offences ≡ g.offences
   table : f.table ≡ g.table
-  answers : f.answers ≡ g.answers
+  results : f.results ≡ g.results
 
 found_is_one : (n : ℕ) (f g : Found n) → AreSame n f g
 found_is_one n f g =
@@ -62,8 +62,8 @@ found_is_one n f g =
       offences = offences_are_one g.network.invariants g.network.asked.flows f.offences g.offences
           (subst (λ (d : Network). AreViolations d.invariants d.asked.flows f.offences) net f.are_offences) g.are_offences;
       table = table_is_one (flow_policy_of g.network g.policy) f.table g.table same_table g.is_table;
-      answers = runs_once AnyPacket (Passes last) (chains_answer_once last) no_connections (sample_events n) (any_known (sample_events n))
-          f.answers g.answers (subst (λ (x : List Chain). RunsFromNoConnections (Passes x) (sample_events n) f.answers) chains f.run) g.run;
+      results = runs_once AnyPacket (Passes last) (chains_answer_once last) no_connections (sample_events n) (any_known (sample_events n))
+          f.results g.results (subst (λ (x : List Chain). RunsFromNoConnections (Passes x) (sample_events n) f.results) chains f.run) g.run;
     }
 
 text_is_one : (n : ℕ) (f g : Found n) → AreSame n f g → sample_text n f ≡ sample_text n g
@@ -71,7 +71,7 @@ text_is_one n f g same = λ i.
     rows n (length (same.network i).hosts) (length (same.network i).asked.flows) (map offence_size (same.offences i))
     (length (same.policy i).permitted.flows) (length (same.policy i).stateful.flows)
     (length (text_lines (chains_of (same.network i) (same.policy i)))) (same.table i) (length (sample_events n))
-    (length (filter was_forwarded (same.answers i)))
+    (length (filter was_forwarded (same.results i)))
 
 pub sample_is_one : (n : ℕ) (a b : List ℕ) → IsSample n a → IsSample n b → a ≡ b
 sample_is_one n a b p q = p.written ∙ text_is_one n p.found q.found (found_is_one n p.found q.found) ∙ sym q.written

@@ -56,5 +56,5 @@ reports_sample n report is =
       hosts = hosts_counted n d few found.described;
       meets = found.is_policy.permitted.holds;
       complies = CompliesWithAll-from_policy d found.policy network found.is_policy;
-      expected = forwards.expected (sample_events n) found.answers (sample_packets_are n few) found.run;
+      expected = forwards.expected (sample_events n) found.results (sample_packets_are n few) found.run;
     }

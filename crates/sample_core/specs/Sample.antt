@@ -61,8 +61,8 @@ pub record Found (n : ℕ) : Type 0 where
   pub are_offences : AreViolations network.invariants network.asked.flows offences
   pub table : TableLines
   pub is_table : IsTableLines (flow_policy_of network policy) table
-  pub answers : List (Option Bool)
-  pub run : RunsFromNoConnections (Passes (chains_of network policy)) (sample_events n) answers
+  pub results : List (Option Bool)
+  pub run : RunsFromNoConnections (Passes (chains_of network policy)) (sample_events n) results
 
 -- ---- the printed form
 
@@ -100,7 +100,7 @@ sample_text n found =
     ++ (count_line (codes "iptables") (length (text_lines (chains_of found.network found.policy)))
     ++ (table_line found.table
     ++ (count_line (codes "events") (length (sample_events n))
-    ++ count_line (codes "forwarded") (length (filter was_forwarded found.answers))))))))))
+    ++ count_line (codes "forwarded") (length (filter was_forwarded found.results))))))))))
 
 -- The text is the report of the sample of n hosts.
 pub record IsSample (n : ℕ) (text : List ℕ) : Type 0 where

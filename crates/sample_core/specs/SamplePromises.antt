@@ -16,4 +16,4 @@ pub record ReportsSample (n : ℕ) (report : List ℕ) : Type 0 where
   pub meets : MeetsAll found.network found.policy.permitted.flows
   pub complies : CompliesWithAll found.network found.policy
   pub expected : AreExpected (permits (flow_policy_of found.network found.policy)) (permits_reply_to (flow_policy_of found.network found.policy))
-      (sample_events n) found.answers
+      (sample_events n) found.results

@@ -75,9 +75,9 @@ fn forwarded(alloc: Global, filter: &Filter<'_>, packets: &[Packet]) -> Result<u
 /// Whether the rules forward a packet. The packet is tracked: a run over the remaining packets
 /// continues this run.
 fn is_forwarded(filter: &Filter<'_>, track: &mut Track, packet: &Packet) -> Result<bool, AllocError>
-    ensures { IfOk result (λ passes. (events : List Event) (answers : List (Option Bool))
-        → Runs (Passes filter.now) (kept_in track.new) events answers
-        → Runs (Passes filter.now) (kept_in track.old) (Seen packet.now ∷ events) (Some passes ∷ answers)) }
+    ensures { IfOk result (λ passes. (events : List Event) (results : List (Option Bool))
+        → Runs (Passes filter.now) (kept_in track.new) events results
+        → Runs (Passes filter.now) (kept_in track.old) (Seen packet.now ∷ events) (Some passes ∷ results)) }
 {
     let verdict = filter.verdict(packet, track.state_of(packet));
     let passes = verdict.is_forward();

@@ -36,6 +36,6 @@ Begins kept p passes = IsTrue passes × (kept p ≡ None) × (kept (swap_of p) �
 
 -- The connection table after a run with these results.
 abbrev pub kept_after : ConnectionTable → List Event → List (Option Bool) → ConnectionTable
-kept_after kept (Seen p ∷ events) (Some passes ∷ answers) = kept_after (after_seen kept p passes) events answers
-kept_after kept (Forget p ∷ events) (None ∷ answers) = kept_after (after_forget kept p) events answers
-kept_after kept events answers = kept
+kept_after kept (Seen p ∷ events) (Some passes ∷ results) = kept_after (after_seen kept p passes) events results
+kept_after kept (Forget p ∷ events) (None ∷ results) = kept_after (after_forget kept p) events results
+kept_after kept events results = kept

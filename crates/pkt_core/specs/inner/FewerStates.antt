@@ -18,12 +18,12 @@ pub record PassesWithFewer (filter : Filter) (kept : ConnectionTable) (p : Packe
 -- A run of a filter with such states, chosen anew for each packet. The table tracks the packets as in any run.
 abbrev pub RunsWithFewer : Filter → ConnectionTable → List Event → List (Option Bool) → Type 0
 RunsWithFewer filter kept [] [] = ⊤
-RunsWithFewer filter kept (Seen p ∷ events) (Some passes ∷ answers) =
-    PassesWithFewer filter kept p passes × RunsWithFewer filter (after_seen kept p passes) events answers
-RunsWithFewer filter kept (Forget p ∷ events) (None ∷ answers) = RunsWithFewer filter (after_forget kept p) events answers
-RunsWithFewer filter kept events answers = ⊥
+RunsWithFewer filter kept (Seen p ∷ events) (Some passes ∷ results) =
+    PassesWithFewer filter kept p passes × RunsWithFewer filter (after_seen kept p passes) events results
+RunsWithFewer filter kept (Forget p ∷ events) (None ∷ results) = RunsWithFewer filter (after_forget kept p) events results
+RunsWithFewer filter kept events results = ⊥
 
 -- Only expected packets pass.
 abbrev pub PassOnlyExpected : (permitted stateful : Packet → Bool) → List Event → List (Option Bool) → Type 0
-PassOnlyExpected permitted stateful events answers =
-    (k : ℕ) (p : Packet) → SeenAt events k p → slice_get answers k ≡ Some (Some true) → Expected permitted stateful (take k events) p
+PassOnlyExpected permitted stateful events results =
+    (k : ℕ) (p : Packet) → SeenAt events k p → slice_get results k ≡ Some (Some true) → Expected permitted stateful (take k events) p

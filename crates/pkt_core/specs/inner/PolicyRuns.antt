@@ -16,10 +16,10 @@ RunsBy permitted stateful = Runs (λ state p passes. passes ≡ may_pass permitt
 -- For every policy and all events, a run from this table has the expected results and tracks the connections, and such a run exists.
 pub record TracksAsExpected (kept : ConnectionTable) : Type 0 where
   pub answers : (permitted stateful : Packet → Bool) → StatefulArePermitted (λ p. ⊤) permitted stateful
-      → (events : List Event) (answers : List (Option Bool)) →
-      RunsBy permitted stateful kept events answers → AreExpected permitted stateful events answers
+      → (events : List Event) (results : List (Option Bool)) →
+      RunsBy permitted stateful kept events results → AreExpected permitted stateful events results
   pub connections : (permitted stateful : Packet → Bool) → StatefulArePermitted (λ p. ⊤) permitted stateful
-      → (events : List Event) (answers : List (Option Bool)) →
-      RunsBy permitted stateful kept events answers → TracksConnections permitted events (kept_after kept events answers)
+      → (events : List Event) (results : List (Option Bool)) →
+      RunsBy permitted stateful kept events results → TracksConnections permitted events (kept_after kept events results)
   pub some : (permitted stateful : Packet → Bool) → StatefulArePermitted (λ p. ⊤) permitted stateful → (events : List Event)
-      → (answers : List (Option Bool)) × RunsBy permitted stateful kept events answers
+      → (results : List (Option Bool)) × RunsBy permitted stateful kept events results

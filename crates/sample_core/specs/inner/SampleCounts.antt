@@ -21,9 +21,9 @@ pub record AreOffending (d : Network) (counts : List ℕ) : Type 0 where
 
 -- The number of packets that a run of the filter forwards, from an empty connection table.
 pub record AreForwarded (filter_of : Filter) (events : List Event) (count : ℕ) : Type 0 where
-  pub answers : List (Option Bool)
-  pub run : RunsFromNoConnections filter_of events answers
-  pub counted : count ≡ length (filter was_forwarded answers)
+  pub results : List (Option Bool)
+  pub run : RunsFromNoConnections filter_of events results
+  pub counted : count ≡ length (filter was_forwarded results)
 
 -- The number of lines of the text of the chains, of events, and of packets that the chains forward.
 pub record AreRunCounts (n : ℕ) (chains : List Chain) (rules events forwarded : ℕ) : Type 0 where
@@ -42,7 +42,7 @@ pub record AreCounts (n : ℕ) (counts : Counts) : Type 0 where
   pub rules : counts.run.rules ≡ length (text_lines (chains_of found.network found.policy))
   pub table : counts.table ≡ found.table
   pub events : counts.run.events ≡ length (sample_events n)
-  pub forwarded : counts.run.forwarded ≡ length (filter was_forwarded found.answers)
+  pub forwarded : counts.run.forwarded ≡ length (filter was_forwarded found.results)
 
 -- The text of these numbers.
 abbrev pub rows : (n hosts asked : ℕ) (offending : List ℕ) (permitted stateful rules : ℕ) → TableLines → (events forwarded : ℕ) → List ℕ

@@ -29,7 +29,7 @@ returns c =
         are_offences = c.in_ok-offending.ensures.found;
         table = c.in_ok-table.table;
         is_table = subst (λ (x : FlowPolicy). IsTableLines x c.in_ok-table.table) same c.in_ok-table.ensures;
-        answers = ran.passed.answers;
+        results = ran.passed.results;
         run = ran.passed.run;
       };
       hosts = c.count.ensures.value ∙ ap (λ (x : FlowPolicy). length x.site.hosts) same;
