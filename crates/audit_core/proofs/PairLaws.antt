@@ -180,7 +180,7 @@ host_among i (h ∷ hs) zero n low is = contains_first (Some i) (owners_from (i 
 host_among i (h ∷ hs) (suc k) n low is =
     contains_later (Some i) (owners_from (i + 1) hs) (Some n) (host_among (i + 1) hs k n (omega (arith, low)) (omega (arith, is)))
 
-owner_among : (hosts : List Host) (a : ℕ) → Contains (owners_of hosts) (owner_of hosts a)
+pub owner_among : (hosts : List Host) (a : ℕ) → Contains (owners_of hosts) (owner_of hosts a)
 owner_among hosts a = by_owner (owner_of hosts a) refl
   where
     by_owner : (o : Option ℕ) → owner_of hosts a ≡ o → Contains (owners_of hosts) o

@@ -3,4 +3,5 @@ mod DeadLemmas
 mod DecidingLemmas
 mod FlowLemmas
 mod MarkedLemmas
+mod RemovalLaws
 mod ServiceLemmas

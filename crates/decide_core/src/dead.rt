@@ -4,7 +4,7 @@ ghost use Rattle.std.specs.Prelude.{◌≡◌, IfOk, map};
 ghost use Rattle.std.specs.List.{All};
 ghost use Rattle.rules_space.specs.RulesView.{rules_of};
 ghost use Rattle.decide_core.specs.DeadEntries.{AreDeadEntries};
-ghost use Rattle.decide_core.specs.DeadPlaces.{AreDeadPlaces};
+ghost use Rattle.decide_core.specs.DeadPlaces.{AreDeadPlaces, AreRemovablePlaces};
 ghost use Rattle.decide_core.specs.inner.Marked.{entry_at};
 
 use crate::deciding::Deciding;
@@ -31,8 +31,11 @@ pub fn dead_entries(alloc: Global, table: &Table) -> Result<Vec<u32>, AllocError
 /// Returns the places of the dead rules of a text, in ascending order. An entry of a flow table has its number
 /// as its place in chain 0.
 pub fn dead_places(alloc: Global, text: &RulesRef<'_>) -> Result<Vec<Place>, AllocError>
-    ensures { IfOk result (λ places. AreDeadPlaces (rules_of text.now) places.items) }
+    ensures dead { IfOk result (λ places. AreDeadPlaces (rules_of text.now) places.items) }
+    ensures removable { IfOk result (λ places. AreRemovablePlaces (rules_of text.now) places.items) }
 {
+    // This call establishes that each packet has one verdict.
+    let _rules = text.rules();
     match text {
         RulesRef::Ipt(rules) => dead_rules(alloc, rules),
         RulesRef::Ofp(table) => dead_entry_places(alloc, table),
