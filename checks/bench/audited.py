@@ -1,5 +1,6 @@
 """Descriptions and rule sets to audit, at the limit of the number of packet classes."""
 import itertools
+from collections.abc import Iterable, Iterator
 
 from descriptions import LIMIT, quoted, small_description
 from traced import RULES, table
@@ -10,16 +11,16 @@ FEW = 22  # hosts of the large rule set
 TOP = '255.255.255.255'
 
 
-def address(number):
+def address(number: int) -> str:
     """Returns an address. No two of them are adjacent, so each adds two interval boundaries."""
     return f'10.{number // 100}.{number % 100}.1'
 
 
-def hosts(addresses):
+def hosts(addresses: Iterable[list[str]]) -> list[str]:
     return [f'{{ name = "h{host}", at = {quoted(at)} }},\n' for host, at in enumerate(addresses)]
 
 
-def served():
+def served() -> str:
     """The last host has the last address. 235 addresses make 470 classes, one port 3 and its protocol 2."""
     at = [[address(number)] for number in range(SERVED - 1)] + [[TOP]]
     flows = ''.join(f'["h{host}","h{(host + step) % SERVED}","tcp/80"],' for host in range(SERVED)
@@ -27,14 +28,14 @@ def served():
     return small_description(flows, hosts(at), version=2)
 
 
-def last_class_passes(rules):
+def last_class_passes(rules: list[str]) -> list[str]:
     """The lines of rules with one that accepts only the packets of the last class: from the last host to itself."""
     rule = f'-A FORWARD -s {TOP}/32 -d {TOP}/32 -p tcp -m tcp --sport 81: --dport 81: -j ACCEPT'
     first = next(place for place, line in enumerate(rules) if line.startswith('-A'))
     return [*rules[:first], rule, *rules[first:]]
 
 
-def many_prefixes():
+def many_prefixes() -> str:
     """1,000 prefixes make 2,000 classes; every host asks all later ones."""
     numbers = range(MANY * EACH)
     at = [[address(number) for number in numbers[host::MANY]] for host in range(MANY)]
@@ -45,13 +46,13 @@ def many_prefixes():
     return text
 
 
-def few_hosts():
+def few_hosts() -> str:
     """22 addresses make 45 classes; every host asks all later ones, and there are no answers."""
     flows = ''.join(f'["h{i}","h{j}"],' for i in range(FEW) for j in range(i + 1, FEW))
     return 'answers = "none"\n' + small_description(flows, hosts([[address(number)] for number in range(FEW)]))
 
 
-def many_rules():
+def many_rules() -> Iterator[str]:
     """Yields the rules for `few_hosts`, in each chain after many rules that only count packets."""
     chains = [f'c{host}' for host in range(FEW)]
     jumps = [f'-A FORWARD -s {address(host)} -j c{host}' for host in range(FEW)]

@@ -2,6 +2,7 @@
 import os
 import resource
 import subprocess
+from collections.abc import Sequence
 from typing import NamedTuple
 
 REPOSITORY = os.path.dirname(os.path.dirname(os.path.dirname(os.path.abspath(__file__))))
@@ -19,8 +20,10 @@ invariant = [{ template = "sink", assign = [{ host = "db", kind = "sink" }] }]
 # What a switch can enforce: no answers and no ranges.
 PORTS = b"""topos = 2
 answers = "none"
-flow = [["web", "db", "tcp/5432", "icmp"], ["inet", "web", "tcp/443", "udp/443"], ["web", "inet", "udp/53"], ["db", "web"]]
-host = [{ name = "web", at = ["10.0.0.2", "10.0.0.3"] }, { name = "db", at = ["10.0.0.1"] }, { name = "inet", rest = true }]
+flow = [["web", "db", "tcp/5432", "icmp"], ["inet", "web", "tcp/443", "udp/443"], ["web", "inet", "udp/53"], \
+["db", "web"]]
+host = [{ name = "web", at = ["10.0.0.2", "10.0.0.3"] }, { name = "db", at = ["10.0.0.1"] }, \
+{ name = "inet", rest = true }]
 """
 # Custom templates of both strategies.
 TABLES = b"""topos = 2
@@ -63,30 +66,30 @@ USAGE = b'usage: topos check FILE\n'
 
 class Ended(NamedTuple):
     """How a run ended: a negative status is the number of a signal, None a timeout."""
-    status: int
+    status: int | None
     out: bytes
     err: bytes
 
 
-def bytes_of(*path):
+def bytes_of(*path: str) -> bytes:
     with open(os.path.join(*path), 'rb') as file:
         return file.read()
 
 
-def examples(suffix):
+def examples(suffix: str) -> dict[str, bytes]:
     """Returns the files of `examples/` by name, the largest first."""
     names = [name for name in os.listdir(EXAMPLES) if name.endswith(suffix)]
     texts = {name: bytes_of(EXAMPLES, name) for name in sorted(names)}
     return dict(sorted(texts.items(), key=lambda pair: -len(pair[1])))
 
 
-def write_files(folder, files):
+def write_files(folder: str, files: dict[str, bytes]) -> None:
     for name, text in files.items():
         with open(os.path.join(folder, name), 'wb') as file:
             file.write(text)
 
 
-def run(program, words, folder, environment=None):
+def run(program: str, words: Sequence[str | bytes], folder: str, environment: dict[str, str] | None = None) -> Ended:
     """Runs the program in the folder, for at most the time limit."""
     try:
         ran = subprocess.run([program, *words], cwd=folder, env=environment, stdin=subprocess.DEVNULL,
@@ -96,20 +99,20 @@ def run(program, words, folder, environment=None):
     return Ended(ran.returncode, ran.stdout, ran.stderr)
 
 
-def most_memory():
+def most_memory() -> float:
     """Returns the maximum resident memory of the runs so far, in megabytes."""
     return resource.getrusage(resource.RUSAGE_CHILDREN).ru_maxrss / 1024
 
 
-def texts(suffix):
+def texts(suffix: str) -> list[bytes]:
     """Returns the files of `examples/`, and the descriptions of version 2 of this module."""
     more = {'.toml': [SERVICES, PORTS, TABLES], '.events': [SERVICE_EVENTS]}
     return [*examples(suffix).values(), *more[suffix]]
 
 
-def is_topos(program):
+def is_topos(program: str) -> bool:
     return os.access(program, os.X_OK) and run(program, [], '/').err.startswith(USAGE)
 
 
-def knows_sample(program):
+def knows_sample(program: str) -> bool:
     return run(program, ['sample', '1'], '/').status == 0

@@ -11,6 +11,9 @@ import select
 import socket
 import struct
 import subprocess
+from collections.abc import Sequence
+
+from packets import Event
 
 NEW_NETWORK, SET_NAME, TUN, WITHOUT_HEAD = 0x40000000, 0x400454ca, 0x0001, 0x1000
 MARKER = bytes.fromhex('600000000000' '3b40' + '20010db8' + '00' * 11 + '01' + '20010db8' + '00' * 11 + '02')
@@ -36,7 +39,7 @@ class Failed(Exception):
     """A tool failed, or is not installed."""
 
 
-def run(words, given=None, also=()):
+def run(words: list[str], given: str | None = None, also: Sequence[int] = ()) -> str:
     ended = subprocess.run(words, input=given, capture_output=True, text=True, timeout=60)
     if ended.returncode not in (0, *also):
         raise Failed(f"{' '.join(words)}: {ended.stderr.strip()}")
@@ -46,7 +49,7 @@ def run(words, given=None, also=()):
 class Box:
     """The process moves into the namespace of the newest gateway."""
 
-    def __init__(self, back_end):
+    def __init__(self, back_end: str) -> None:
         self.restore, self.save = f'iptables-{back_end}-restore', f'iptables-{back_end}-save'
         if ctypes.CDLL(None, use_errno=True).unshare(NEW_NETWORK):
             raise Failed(f'no network namespace: {os.strerror(ctypes.get_errno())}')
@@ -65,22 +68,22 @@ class Box:
         if self.send(b''):
             raise Failed('the gateway sends packets by itself')
 
-    def version(self):
+    def version(self) -> str:
         return run([self.restore, '--version']).strip()
 
-    def load(self, text):
+    def load(self, text: str) -> None:
         run([self.restore], text)
         run(['conntrack', '-F'])
 
-    def saved(self):
+    def saved(self) -> str:
         return run([self.save, '-t', 'filter'])
 
-    def send(self, packet):
+    def send(self, packet: bytes) -> list[bytes]:
         """Sends a packet, and returns the IPv4 packets that are forwarded."""
         if packet:
             os.write(self.way_in, packet)
         os.write(self.way_in, MARKER)
-        arrived = []
+        arrived: list[bytes] = []
         while True:
             ready, _, _ = select.select([self.way_out], [], [], PATIENCE)
             if not ready:
@@ -92,7 +95,7 @@ class Box:
                 arrived.append(came)
 
 
-def forget(event):
+def forget(event: Event) -> None:
     """Removes the connection of a packet from the kernel's table, in both directions."""
     for one in (event, event.answer()):
         words = ['conntrack', '-D', '-p', str(one.protocol), '-s', one.source, '-d', one.destination]
@@ -103,7 +106,7 @@ def forget(event):
         run(words, also=[1])  # 1: there was none
 
 
-def empty_connections():
+def empty_connections() -> None:
     """Empties the connection table of the network namespace of this process, as `conntrack -F`, without a process."""
     with socket.socket(socket.AF_NETLINK, socket.SOCK_RAW, NETLINK_NETFILTER) as netlink:
         netlink.send(struct.pack('=IHHIIBBH', 20, DELETE_CONNECTIONS, REQUEST_AND_ACK, 1, 0, 0, 0, 0))
@@ -112,7 +115,7 @@ def empty_connections():
         raise Failed(f'the connection table is not emptied: {os.strerror(-error)}')
 
 
-def interface(name):
+def interface(name: str) -> int:
     """Creates a TUN interface of this name, and returns the file for its packets."""
     opened = os.open('/dev/net/tun', os.O_RDWR)
     fcntl.ioctl(opened, SET_NAME, struct.pack('16sH22x', name.encode(), TUN | WITHOUT_HEAD))

@@ -13,9 +13,11 @@ import ctypes
 import os
 import select
 import socket
+from collections.abc import Iterator
 
 from box import HOUR, MARKER, NEW_NETWORK, PATIENCE, Failed, forget, interface, run
-from packets import BARE, ICMP, TCP, UDP
+from packets import BARE, ICMP, TCP, UDP, Event
+from policy import Owners
 
 MARK, SET_MARK = 1, 36
 UNMARKED = f'*raw\n:OUTPUT ACCEPT [0:0]\n-A OUTPUT -m mark ! --mark {MARK} -j DROP\nCOMMIT\n'
@@ -36,7 +38,7 @@ SETTINGS = {
 class Machine:
     """The process moves into the namespace of the machine in use."""
 
-    def __init__(self, back_end):
+    def __init__(self, back_end: str) -> None:
         self.restore = f'iptables-{back_end}-restore'
         if library().unshare(NEW_NETWORK):
             raise Failed(f'no network namespace: {os.strerror(ctypes.get_errno())}')
@@ -53,7 +55,7 @@ class Machine:
         except OSError as fault:
             raise Failed(str(fault)) from fault
 
-    def open_sockets(self):
+    def open_sockets(self) -> None:
         self.sender = socket.socket(socket.AF_INET, socket.SOCK_RAW, socket.IPPROTO_RAW)
         self.sender.setsockopt(socket.SOL_SOCKET, SET_MARK, MARK)
         self.marker = socket.socket(socket.AF_INET6, socket.SOCK_RAW, MARKING)
@@ -61,23 +63,23 @@ class Machine:
         for each in self.receivers:
             each.setblocking(False)
 
-    def enter(self):
+    def enter(self) -> None:
         if library().setns(self.namespace, NEW_NETWORK):
             raise Failed(f'no way into a namespace: {os.strerror(ctypes.get_errno())}')
 
-    def version(self):
+    def version(self) -> str:
         return run([self.restore, '--version']).strip()
 
-    def load(self, text):
+    def load(self, text: str) -> None:
         self.enter()
         run([self.restore], text)
         run(['conntrack', '-F'])
 
-    def forget(self, event):
+    def forget(self, event: Event) -> None:
         self.enter()
         forget(event)
 
-    def send(self, packet, receiver):
+    def send(self, packet: bytes, receiver: str) -> list[bytes]:
         """Sends a packet from the machine, and returns the IPv4 packets on the wire."""
         try:
             self.sender.sendto(packet, (receiver, 0))
@@ -93,7 +95,7 @@ class Machine:
             elif came[6] == MARKING:
                 return sent
 
-    def take(self, packet):
+    def take(self, packet: bytes) -> list[bytes]:
         """Writes a packet to the interface, and returns the packets that the machine accepts."""
         os.write(self.wire, packet)
         os.write(self.wire, MARKER[:6] + bytes([MARKING]) + MARKER[7:])
@@ -102,13 +104,13 @@ class Machine:
         return [came for each in self.receivers for came in waiting(each)]
 
 
-def await_one(source):
+def await_one(source: int | socket.socket) -> None:
     ready, _, _ = select.select([source], [], [], PATIENCE)
     if not ready:
         raise Failed('a machine does not pass on the IPv6 marker')
 
 
-def waiting(receiver):
+def waiting(receiver: socket.socket) -> Iterator[bytes]:
     while True:
         try:
             yield receiver.recv(65536)
@@ -116,34 +118,37 @@ def waiting(receiver):
             return
 
 
-def library():
+def library() -> ctypes.CDLL:
     return ctypes.CDLL(None, use_errno=True)
 
 
 class Machines:
     """A machine for each host of a description, reused for the next description."""
 
-    def __init__(self, back_end, count):
+    def __init__(self, back_end: str, count: int) -> None:
         self.back_end, self.all = back_end, [Machine(back_end) for _ in range(count)]
+        self.there: dict[int | None, Machine] = {}
 
-    def version(self):
+    def version(self) -> str:
         return f'{self.all[0].version()}, {len(self.all)} machines'
 
-    def load(self, texts):
+    def load(self, texts: list[str | None]) -> None:
         """Loads the rules of each host in the order of the description; None for a host that enforces nothing."""
-        self.there = {host: machine for host, machine in enumerate(self.all[:len(texts)]) if texts[host]}
-        for host, machine in self.there.items():
-            machine.load(texts[host])
+        self.there = {}
+        for host, (machine, text) in enumerate(zip(self.all, texts)):
+            if text:
+                self.there[host] = machine
+                machine.load(text)
 
-    def enforce(self, ends):
+    def enforce(self, ends: Owners) -> bool:
         """Whether one of the two hosts has a machine with rules."""
         return any(end in self.there for end in ends)
 
-    def forget(self, event):
+    def forget(self, event: Event) -> None:
         for machine in self.there.values():
             machine.forget(event)
 
-    def pass_on(self, packet, event, sender, receiver):
+    def pass_on(self, packet: bytes, event: Event, sender: int | None, receiver: int | None) -> list[bytes]:
         """Sends a packet between two hosts, and returns what arrives. An end without a machine enforces nothing."""
         carried = [packet]
         if sender in self.there:

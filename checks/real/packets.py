@@ -4,9 +4,16 @@ An event has addresses, a protocol and ports. The rest of the packet depends on 
 with SYN and the answer is SYN and ACK, ICMP opens with an echo request and the answer is an echo reply. `Conversations`
 tracks this state by the packets that arrived.
 """
+from __future__ import annotations
+
 import ipaddress
 import struct
 import zlib
+from dataclasses import dataclass
+from typing import TypeAlias
+
+End: TypeAlias = tuple[str, int]  # an address and a port
+Connection: TypeAlias = tuple[int, End, End]
 
 NUMBERS = {'icmp': 1, 'tcp': 6, 'udp': 17}
 ICMP, TCP, UDP = 1, 6, 17
@@ -15,37 +22,39 @@ SYN, ACK = 0x02, 0x10
 REPLY, REQUEST = 0, 8
 
 
+@dataclass(frozen=True)
 class Event:
     """A packet that is sent, or a connection that is removed."""
-
-    def __init__(self, forgets, source, destination, protocol, ports):
-        self.forgets, self.source, self.destination = forgets, source, destination
-        self.protocol, self.ports = protocol, ports
+    forgets: bool
+    source: str
+    destination: str
+    protocol: int
+    ports: tuple[int, int]
 
     @staticmethod
-    def read(line):
+    def read(line: str) -> Event:
         what, source, destination, protocol, *ports = line.split()
         number = NUMBERS.get(protocol) or int(protocol)
         return Event(what == 'forget', source, destination, number, (int(ports[0]), int(ports[1])))
 
-    def text(self):
+    def text(self) -> str:
         what = 'forget' if self.forgets else 'packet'
         return f'{what} {self.source} {self.destination} {self.protocol} {self.ports[0]} {self.ports[1]}'
 
-    def answer(self):
+    def answer(self) -> Event:
         return Event(False, self.destination, self.source, self.protocol, self.ports[::-1])
 
-    def forgotten(self):
+    def forgotten(self) -> Event:
         return Event(True, self.source, self.destination, self.protocol, self.ports)
 
-    def opener(self):
+    def opener(self) -> End:
         return self.source, self.ports[0]
 
-    def connection(self):
-        ends = sorted([(self.source, self.ports[0]), (self.destination, self.ports[1])])
-        return self.protocol, *ends
+    def connection(self) -> Connection:
+        first, second = sorted([(self.source, self.ports[0]), (self.destination, self.ports[1])])
+        return self.protocol, first, second
 
-    def why_not_sent(self):
+    def why_not_sent(self) -> str | None:
         """Returns why the packet cannot be sent here; None if it can."""
         if not all(is_routed(address) for address in (self.source, self.destination)):
             return 'a kernel forwards no packets from or to such an address'
@@ -58,23 +67,23 @@ class Event:
         return None
 
 
-def is_routed(address):
+def is_routed(address: str) -> bool:
     first = int(address.split('.')[0])
     return 1 <= first <= 223 and first != 127
 
 
-def bytes_of(address):
+def bytes_of(address: str) -> bytes:
     return ipaddress.IPv4Address(address).packed
 
 
-def checksum(content):
-    total = sum(struct.unpack(f'!{(len(content) + 1) // 2}H', content + b'\0' * (len(content) % 2)))
+def checksum(content: bytes) -> int:
+    total: int = sum(struct.unpack(f'!{(len(content) + 1) // 2}H', content + b'\0' * (len(content) % 2)))
     while total > 0xffff:
         total = (total & 0xffff) + (total >> 16)
     return total ^ 0xffff
 
 
-def header(event, length, number, hops=64):
+def header(event: Event, length: int, number: int, hops: int = 64) -> bytes:
     """Returns the IPv4 header; `number` identifies the packet within a run."""
     parts = [0x45, 0, 20 + length, number, 0x4000, hops, event.protocol]
     ends = bytes_of(event.source) + bytes_of(event.destination)
@@ -82,7 +91,7 @@ def header(event, length, number, hops=64):
     return struct.pack('!BBHHHBBH', *parts, sum_) + ends
 
 
-def with_sum(event, head, place, rest):
+def with_sum(event: Event, head: bytes, place: int, rest: bytes) -> bytes:
     """Returns the content of TCP or UDP with its checksum, which covers the addresses."""
     content = head + rest
     pseudo = bytes_of(event.source) + bytes_of(event.destination) + struct.pack('!BBH', 0, event.protocol, len(content))
@@ -92,14 +101,14 @@ def with_sum(event, head, place, rest):
 class Conversations:
     """The opener of each connection, and whether it was answered."""
 
-    def __init__(self):
-        self.opened = {}
+    def __init__(self) -> None:
+        self.opened: dict[Connection, tuple[End, bool]] = {}
 
-    def packet(self, event, number):
+    def packet(self, event: Event, number: int) -> bytes:
         content = self.content(event)
         return header(event, len(content), number) + content
 
-    def content(self, event):
+    def content(self, event: Event) -> bytes:
         opener, answered = self.opened.get(event.connection(), (event.opener(), False))
         opens = opener == event.opener()
         if event.protocol == TCP:
@@ -112,7 +121,7 @@ class Conversations:
             return struct.pack('!BBHHH', *parts, sum_, event.ports[0], 1)
         return b'text'
 
-    def saw(self, event, forwarded):
+    def saw(self, event: Event, forwarded: bool) -> None:
         """Updates the state of the connection after a packet that was forwarded or dropped."""
         opener, _ = self.opened.get(event.connection(), (None, False))
         if opener is None and forwarded:
@@ -120,11 +129,11 @@ class Conversations:
         elif opener is not None and opener != event.opener():
             self.opened[event.connection()] = opener, True
 
-    def forget(self, event):
+    def forget(self, event: Event) -> None:
         self.opened.pop(event.connection(), None)
 
 
-def segment(event, opens, answered):
+def segment(event: Event, opens: bool, answered: bool) -> bytes:
     """Returns a TCP segment. Half of the connections start with SYN, half in their middle."""
     whole = zlib.crc32(repr(event.connection()).encode()) % 2
     if not whole or answered:
@@ -139,7 +148,7 @@ def segment(event, opens, answered):
     return with_sum(event, struct.pack('!HHIIBBHHH', *event.ports, sent, got, 0x50, flags, 8192, 0, 0), 16, b'')
 
 
-def is_same(sent, arrived):
+def is_same(sent: bytes, arrived: bytes) -> bool:
     """Whether it is the same packet, possibly one hop later."""
     rest = [packet[:8] + packet[9:10] + packet[12:] for packet in (sent, arrived)]
     return rest[0] == rest[1] and arrived[8] in (sent[8], sent[8] - 1)  # a switch is no hop

@@ -1,4 +1,6 @@
 """A bridge of a separate Open vSwitch in a folder, without ports of the machine."""
+from __future__ import annotations
+
 import json
 import os
 import socket
@@ -17,22 +19,23 @@ PATIENCE, AT_ONCE = 10.0, 30
 class Switch:
     """The bridge `br0`: frames enter at `p1`, and forwarded frames leave at `p2`."""
 
-    def __init__(self, folder):
-        self.folder, self.daemons, self.read = folder, [], 0
+    def __init__(self, folder: str) -> None:
+        self.folder, self.read = folder, 0
+        self.daemons: list[subprocess.Popen[bytes]] = []
         self.database, self.control = os.path.join(folder, 'db.sock'), os.path.join(folder, 'vswitchd.ctl')
         self.out = os.path.join(folder, 'p2.pcap')
-        self.more = {'env': {**os.environ, 'OVS_RUNDIR': folder, 'OVS_LOGDIR': folder, 'OVS_DBDIR': folder}}
+        self.environment = {**os.environ, 'OVS_RUNDIR': folder, 'OVS_LOGDIR': folder, 'OVS_DBDIR': folder}
 
-    def run(self, *words):
+    def run(self, *words: str) -> str:
         try:
-            ended = subprocess.run(words, capture_output=True, text=True, timeout=60, **self.more)
+            ended = subprocess.run(words, capture_output=True, text=True, timeout=60, env=self.environment)
         except OSError as fault:
             raise Failed(str(fault)) from fault
         if ended.returncode:
             raise Failed(f"{' '.join(words)}: {ended.stderr.strip()}")
         return ended.stdout
 
-    def __enter__(self):
+    def __enter__(self) -> Switch:
         try:
             self.begin()
         except (Failed, OSError) as fault:
@@ -40,7 +43,7 @@ class Switch:
             raise Failed(str(fault)) from fault
         return self
 
-    def begin(self):
+    def begin(self) -> None:
         store = os.path.join(self.folder, 'conf.db')
         self.run('ovsdb-tool', 'create', store, SCHEMA)
         self.start(['ovsdb-server', store, f'--remote=punix:{self.database}',
@@ -53,43 +56,43 @@ class Switch:
             self.configure('add-port', 'br0', port, '--', 'set', 'interface', port, 'type=dummy')
         self.configure('set', 'interface', 'p2', f'options:tx_pcap={self.out}')
 
-    def start(self, words, path):
+    def start(self, words: list[str], path: str) -> None:
         with open(os.path.join(self.folder, words[0] + '.log'), 'w', encoding='utf-8') as log:
-            self.daemons.append(subprocess.Popen(words, stdout=log, stderr=log, **self.more))
+            self.daemons.append(subprocess.Popen(words, stdout=log, stderr=log, env=self.environment))
         for _ in range(200):
             if os.path.exists(path):
                 return
             time.sleep(0.05)
         raise Failed(f'{words[0]} does not start')
 
-    def __exit__(self, *_):
+    def __exit__(self, *_: object) -> None:
         for daemon in reversed(self.daemons):
             daemon.terminate()
             daemon.wait()
 
-    def configure(self, *words):
+    def configure(self, *words: str) -> None:
         self.run('ovs-vsctl', f'--db=unix:{self.database}', '--timeout=20', *words)
 
-    def version(self):
+    def version(self) -> str:
         return self.run('ovs-vswitchd', '--version').splitlines()[0]
 
-    def load(self, path):
+    def load(self, path: str) -> str:
         """Replaces all flows by those of a file, and returns the differences between the file and the loaded flows."""
         self.run('ovs-ofctl', '-O', 'OpenFlow14', '--bundle', 'replace-flows', 'br0', path)
         return self.run('ovs-ofctl', 'diff-flows', 'br0', path)
 
-    def listed(self):
+    def listed(self) -> str:
         lines = self.run('ovs-ofctl', '--no-stats', 'dump-flows', 'br0').splitlines(True)
         return ''.join(line for line in lines if 'actions=' in line)
 
-    def forwards(self, frame):
+    def forwards(self, frame: str) -> bool:
         """Whether the bridge would forward a frame with these fields."""
         told = self.run('ovs-appctl', '-t', self.control, 'ofproto/trace', 'br0', f'in_port=1,{frame}')
         return 'Datapath actions: drop' not in told
 
-    def send(self, packets):
+    def send(self, packets: list[bytes]) -> list[bytes]:
         """Sends packets, and returns those that are forwarded. An ARP frame, which the flows forward, marks the end."""
-        arrived = []
+        arrived: list[bytes] = []
         with socket.socket(socket.AF_UNIX) as control:
             control.connect(self.control)
             for first in range(0, len(packets), AT_ONCE):
@@ -100,7 +103,7 @@ class Switch:
         return arrived
 
     @staticmethod
-    def put(control, frame):
+    def put(control: socket.socket, frame: bytes) -> None:
         call = {'id': 0, 'method': 'netdev-dummy/receive', 'params': ['p1', frame.hex()]}
         control.sendall(json.dumps(call).encode())
         told = b''
@@ -117,8 +120,9 @@ class Switch:
                 raise Failed(answer['error'])
             return
 
-    def until_marker(self):
-        arrived, given_up = [], time.monotonic() + PATIENCE
+    def until_marker(self) -> list[bytes]:
+        arrived: list[bytes] = []
+        given_up = time.monotonic() + PATIENCE
         while time.monotonic() < given_up:
             frames = self.frames()
             arrived += frames
@@ -127,7 +131,7 @@ class Switch:
             time.sleep(0.0005)
         raise Failed('no frame of ARP, which marks the end, comes out of the switch')
 
-    def frames(self):
+    def frames(self) -> list[bytes]:
         """Returns the frames that left since the last call; none while one is being written."""
         with open(self.out, 'rb') as file:
             content = file.read()
