@@ -22,11 +22,12 @@ use Rattle.audit_core.specs.declared.kind.Kind.{Kind}
 use Rattle.audit_core.specs.declared.kind.Kind.TheVariants.{Alone, AfterSwap, AfterBoth}
 use Rattle.host_net.specs.declared.packet.Packet.{Packet}
 use Rattle.net_core.specs.inner.Fitting.{IsNetwork}
-use Rattle.net_core.specs.Network.{Network, site_of}
+use Rattle.net_core.specs.Network.{Network}
 use Rattle.net_core.specs.Policies.{IsPolicyOf, Policy}
 use Rattle.pkt_core.specs.declared.event.Event.TheVariants.{Seen}
 use Rattle.pkt_core.specs.Filter.{ArePackets, ForwardsAsExpected}
 use Rattle.pkt_core.specs.Firewall.{Filter}
+use Rattle.report_core.specs.FlowPolicies.{flow_policy_of}
 use Rattle.topos_top.specs.Audit.{FewClasses, HasManyClasses, OfSides, ReportsDifference, audit_outcomes}
 use Rattle.topos_top.specs.Dialects.{rule_dialect_of}
 use Rattle.topos_top.specs.Outcomes.{Answers}
@@ -71,12 +72,12 @@ differ_there sides t found =
 
 -- A policy of the network, and the rules.
 abbrev pub sides_for : Network → Rules → Policy → Sides
-sides_for d rules policy = sides_of (site_of d) policy.permitted.flows policy.stateful.flows rules
+sides_for d rules policy = sides_of (flow_policy_of d policy) rules
 
 module _ (d : Network) (rules : Rules) where
   -- Properties of the sides of one hold for the sides of the other.
   moved : (Holds Other : Sides → Type 0) (p : OfSides d rules Holds) (q : OfSides d rules Other) → Holds (sides_for d rules q.policy)
-  moved Holds Other p q = same_policy d (λ site f s. Holds (sides_of site f s rules)) (λ site f s. Other (sides_of site f s rules)) p q
+  moved Holds Other p q = same_policy d (λ policy. Holds (sides_of policy rules)) (λ policy. Other (sides_of policy rules)) p q
 
   pub trace_once : (a b : List ℕ) → OfSides d rules (λ sides. ReportsDifference sides a) → OfSides d rules (λ sides. ReportsDifference sides b) → a ≡ b
   trace_once a b p q =
@@ -96,7 +97,7 @@ module _ (d : Network) (rules : Rules) where
   agreement_keeps agree = record {
     policy = agree.policy;
     is_policy = agree.is_policy;
-    so = (agree.so.1, forwards_only_expected (filter_of rules) (site_of d) agree.policy.permitted.flows agree.policy.stateful.flows agree.so.1);
+    so = (agree.so.1, forwards_only_expected (filter_of rules) (flow_policy_of d agree.policy) agree.so.1);
   }
 
   pub many_or_few : (Holds : Sides → Type 0) (line : List ℕ) → OfSides d rules (λ sides. HasManyClasses sides line) → OfSides d rules (λ sides. FewClasses sides × Holds sides) → ⊥
@@ -148,7 +149,7 @@ written_alike dialect d text said network can is reading =
     record {
       policy = keep.policy;
       is_policy = keep.invariants.is_policy;
-      so = subst (λ (f : Filter). ForwardsAsExpected f (site_of d) keep.policy.permitted.flows keep.policy.stateful.flows) filter keep.expected;
+      so = subst (λ (f : Filter). ForwardsAsExpected f (flow_policy_of d keep.policy)) filter keep.expected;
     }
 
 -- ---- the result of the code

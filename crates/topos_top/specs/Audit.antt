@@ -20,7 +20,7 @@ use Rattle.topos_top.specs.declared.status.Status.TheVariants.{Violated, NotEmit
 
 -- The property holds for the policy of the network and the rules.
 abbrev pub OfSides : Network → Rules → (Sides → Type 0) → Type 0
-OfSides d rules Holds = OfPolicy d (λ site p s. Holds (sides_of site p s rules))
+OfSides d rules Holds = OfPolicy d (λ policy. Holds (sides_of policy rules))
 
 -- The number of packet classes is within the limit.
 abbrev pub FewClasses : Sides → Type 0
