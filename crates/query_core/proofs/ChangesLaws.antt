@@ -2,7 +2,8 @@
 use Rattle.std.proofs.Common.{◌≡◌, ℕ, ◌+◌, List, [], ◌∷◌, length, sym, subst, arith}
 use Rattle.std.proofs.lemmas.List.Elements.{All-append, All-cons, All-nil}
 use Rattle.std.specs.Prelude.{All}
-use Rattle.change_core.specs.Changes.{AreChanges, AreChangesBy, AreListedFor, IsListedFor, Policy, all_kinds, names_of}
+use Rattle.pkt_core.specs.FlowPolicy.{FlowPolicy}
+use Rattle.change_core.specs.Changes.{AreChanges, AreChangesBy, AreListedFor, IsListedFor, all_kinds, names_of}
 use Rattle.change_core.specs.Names.{new_names_from, old_names_from}
 use Rattle.change_core.specs.declared.change.Change.{Change}
 use Rattle.change_core.specs.declared.kind.ChangeKind.{ChangeKind}
@@ -33,7 +34,7 @@ module _ (new old : List Host) where
   new_fit i [] is = old_fit 0 old (omega arith)
   new_fit i (h ∷ hs) is = (omega (arith, is), new_fit (i + 1) hs (omega (arith, is)))
 
-module _ (old new : Policy) where
+module _ (old new : FlowPolicy) where
   pair_fits : (kind : ChangeKind) (from to : NamedOwner) → FitsOwner new.site.hosts old.site.hosts from → FitsOwner new.site.hosts old.site.hosts to
       → (one : List Change) → IsListedFor old new kind from to one → All (FitsChange new.site.hosts old.site.hosts) one
   pair_fits kind from to source destination [] is = All-nil (FitsChange new.site.hosts old.site.hosts)

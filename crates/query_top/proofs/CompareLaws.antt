@@ -30,7 +30,7 @@ use Rattle.topos_top.specs.inner.Views.{reply_on}
 module _ (d : Network) (rules : Rules) where
   -- What holds of the sides by one policy of the network holds of those by the other.
   moved : (Holds Other : Sides → Type 0) (p : OfSides d rules Holds) (q : OfSides d rules Other) → Holds (sides_for d rules q.policy)
-  moved Holds Other p q = same_policy d (λ site f s. Holds (sides_of site f s rules)) (λ site f s. Other (sides_of site f s rules)) p q
+  moved Holds Other p q = same_policy d (λ policy. Holds (sides_of policy rules)) (λ policy. Other (sides_of policy rules)) p q
 
   -- Differences are reported in one text.
   text_is_one : (a b : List ℕ) → OfSides d rules (λ sides. ReportsDifferences sides a) → OfSides d rules (λ sides. ReportsDifferences sides b) → a ≡ b
@@ -39,7 +39,7 @@ module _ (d : Network) (rules : Rules) where
       let second = q.so in
       let sides = sides_for d rules q.policy in
       first.written
-      ∙ ap (λ ds. compare_json sides.site.hosts ds) (one_list_of_differences sides first.differences second.differences first.are second.are)
+      ∙ ap (λ ds. compare_json sides.policy.site.hosts ds) (one_list_of_differences sides first.differences second.differences first.are second.are)
       ∙ sym second.written
 
   differ_or_agree : OfSides d rules DifferSomewhere → OfSides d rules AreEquivalent → ⊥
@@ -94,7 +94,7 @@ module _ (d : Network) (rules : Rules) (policy : Policy) (is_policy : IsPolicyOf
   differ_first : (x : Difference) (ds : List Difference) → AreDifferences (sides_for d rules policy) (x ∷ ds) → DifferSomewhere (sides_for d rules policy)
   differ_first x ds are =
       let sides = sides_for d rules policy in
-      at (first_is sides (all_cases (owners_of sides.site.hosts) (owners_of sides.site.hosts)) x ds are)
+      at (first_is sides (all_cases (owners_of sides.policy.site.hosts) (owners_of sides.policy.site.hosts)) x ds are)
     where
       at : (c : Case) × IsDifference (sides_for d rules policy) c x → DifferSomewhere (sides_for d rules policy)
       at first =

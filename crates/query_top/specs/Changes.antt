@@ -1,24 +1,22 @@
 -- `changes OLD NEW`: the packets that only one of the policies of two descriptions permits, or permits answers to.
 use Rattle.std.specs.Prelude.{◌≡◌, ◌↔◌, ℕ, Bool, true, false, not, List, [], ◌∷◌}
-use Rattle.change_core.specs.Changes.{AreChanges, IsComplete, Policy as PolicyBetween, TreatAlike, policy_with}
+use Rattle.change_core.specs.Changes.{AreChanges, IsComplete, TreatAlike}
 use Rattle.change_core.specs.declared.change.Change.{Change}
-use Rattle.net_core.specs.Network.{Network, site_of}
+use Rattle.net_core.specs.Network.{Network}
 use Rattle.net_core.specs.Policies.{IsPolicyOf, Policy}
+use Rattle.pkt_core.specs.FlowPolicy.{FlowPolicy}
 use Rattle.query_core.specs.Json.{is_nothing}
 use Rattle.query_core.specs.ChangesJson.{changes_json}
 use Rattle.query_core.specs.Weakening.{IsWeakening}
 use Rattle.query_core.specs.declared.weakening.Weakening.{Weakening}
+use Rattle.report_core.specs.FlowPolicies.{flow_policy_of}
 use Rattle.topos_top.specs.Outcomes.{Outcome, Outcomes}
 use Rattle.topos_top.specs.declared.status.Status.{Status}
 use Rattle.topos_top.specs.declared.status.Status.TheVariants.{Done, Violated}
 
--- The policy between the hosts of a network.
-abbrev pub policy_between : Network → Policy → PolicyBetween
-policy_between d policy = policy_with (site_of d) policy.permitted.flows policy.stateful.flows
-
 -- The list has all changes from one policy to another: one for each kind and pair of owners of which some packet changes, and no other.
 -- It is empty if and only if the policies permit the same packets, and answers to the same packets.
-pub record AreAllChanges (old new : PolicyBetween) (changes : List Change) : Type 0 where
+pub record AreAllChanges (old new : FlowPolicy) (changes : List Change) : Type 0 where
   pub are : AreChanges old new changes
   pub complete : IsComplete old new changes
   pub exact : (changes ≡ []) ↔ TreatAlike old new
@@ -31,7 +29,7 @@ pub record IsChangesAnswer (old new : Network) (is_weaker : Bool) (text : List �
   pub after : Policy
   pub is_after : IsPolicyOf new after
   pub changes : List Change
-  pub all : AreAllChanges (policy_between old before) (policy_between new after) changes
+  pub all : AreAllChanges (flow_policy_of old before) (flow_policy_of new after) changes
   pub weakening : Weakening
   pub is_weakening : IsWeakening old before new after weakening
   pub some : is_nothing weakening.weaker.items ≡ not is_weaker

@@ -22,7 +22,7 @@ pub record ReportsDifferences (sides : Sides) (text : List ℕ) : Type 0 where
   pub are : AreDifferences sides differences
   pub complete : IsComplete sides differences
   pub some : differences ≡ [] → ⊥
-  pub written : text ≡ compare_json sides.site.hosts differences
+  pub written : text ≡ compare_json sides.policy.site.hosts differences
 
 -- The rules and the policy differ on some list of packets and forget events: all differences are reported.
 abbrev pub difference : Network → Rules → Outcome

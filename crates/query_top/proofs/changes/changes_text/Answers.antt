@@ -1,14 +1,14 @@
 use Rattle.std.proofs.lemmas.Result.{IfOk-weaker}
 use Rattle.query_core.proofs.ChangesLaws.{changes_fit}
 use Rattle.query_core.proofs.WeakeningLaws.{weakening_fits}
-use Rattle.query_top.specs.Changes.{policy_between}
+use Rattle.report_core.specs.FlowPolicies.{flow_policy_of}
 use Rattle.query_top.proofs.changes.changes_text.Goals as goal
 
 pub changes_json-requires-clause-changes : goal.changes_json-requires-clause-changes
 changes_json-requires-clause-changes c =
     let are = rw (c.policy_between.ensures, c.policy_between-2.ensures) at c.in_ok-changes.ensures.changes in
     rw (c.hosts.ensures.value, c.hosts-2.ensures.value, c.deref.ensures.value)
-    (changes_fit (policy_between c.args.old.now c.args.before.now) (policy_between c.args.new.now c.args.after.now) c.in_ok-changes.changes.items are)
+    (changes_fit (flow_policy_of c.args.old.now c.args.before.now) (flow_policy_of c.args.new.now c.args.after.now) c.in_ok-changes.changes.items are)
 
 pub changes_json-requires-clause-weakening : goal.changes_json-requires-clause-weakening
 changes_json-requires-clause-weakening c =
