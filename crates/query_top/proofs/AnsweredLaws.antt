@@ -3,7 +3,7 @@ use Rattle.std.proofs.Common.{◌≡◌, ◌⊎◌, inl, inr, ℕ, List, Option,
 use Rattle.std.specs.Prelude.{IfSome}
 use Rattle.std.specs.FinMap.{get}
 use Rattle.rules_space.specs.Rules.{Rules}
-use Rattle.audit_core.specs.Sides.{AreEquivalent}
+use Rattle.audit_core.specs.Sides.{AreEquivalent, AreSafe}
 use Rattle.edge_io.specs.Observable.{Files}
 use Rattle.host_net.specs.Host.{Host}
 use Rattle.net_core.specs.Network.{Network as Described}
@@ -116,7 +116,7 @@ module _ (s : Status) (shelf : ShelfChange) (out err : SinkChange) (second : Kin
   }
 
 compare_done : (out err : SinkChange) (d : Described) (rules : Rules) → HoldsAtOutcome status.Done out err (compare_outcomes d rules)
-    → OfSides d rules AreEquivalent × Appends out equal_json
+    → OfSides d rules (λ sides. AreEquivalent sides × AreSafe sides) × Appends out equal_json
 compare_done out err d rules at = elim at.1 [
   | inl differ ↦ let other = differ.0.0 in cc other
   | inr rest ↦ elim rest [
@@ -173,7 +173,7 @@ answer_kept shelf out err (Flows dialect file rules) came =
     ((λ e. cc e), (λ e. cc e), (λ e. cc e), (λ e. cc e)) (λ d said. flows_done out err d.hosts ((rule_dialect_of dialect).audited said)) came
 answer_kept shelf out err (Compare dialect file rules) came =
     both_read status.Done shelf out err (kind.Rules dialect) file rules (λ d said. compare_outcomes d ((rule_dialect_of dialect).audited said))
-    (λ d said. OfSides d ((rule_dialect_of dialect).audited said) AreEquivalent × Appends out equal_json)
+    (λ d said. OfSides d ((rule_dialect_of dialect).audited said) (λ sides. AreEquivalent sides × AreSafe sides) × Appends out equal_json)
     ((λ e. cc e), (λ e. cc e), (λ e. cc e), (λ e. cc e)) (λ d said. compare_done out err d ((rule_dialect_of dialect).audited said)) came
 answer_kept shelf out err (Changes old new) came =
     both_read status.Done shelf out err Description old new changes_outcomes (λ before after. Wrote out (IsChangesAnswer before after false))

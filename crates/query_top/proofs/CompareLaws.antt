@@ -7,16 +7,18 @@ use Rattle.audit_core.specs.Findings.{DifferSomewhere}
 use Rattle.audit_core.specs.Pairs.{AreDifferences, Case, IsComplete, IsDifference, all_cases}
 use Rattle.header_space.specs.Owners.{owners_of}
 use Rattle.rules_space.specs.Rules.{Rules, filter_of}
-use Rattle.audit_core.specs.Sides.{AreEquivalent, Sides, sides_of}
+use Rattle.audit_core.specs.Sides.{AreEquivalent, AreSafe, Sides, sides_of}
 use Rattle.rules_space.specs.Verdicts.{GivesOne}
 use Rattle.audit_core.specs.declared.difference.Difference.{Difference}
 use Rattle.net_core.proofs.PolicyLaws.{IsSubset-stateful}
 use Rattle.net_core.specs.Network.{Network}
 use Rattle.net_core.specs.Policies.{IsPolicyOf, Policy}
+use Rattle.pkt_core.proofs.AnyTrackingLaws.{forwards_only_expected}
 use Rattle.query_core.proofs.CompareLaws.{equal_text}
 use Rattle.query_core.specs.CompareJson.{compare_json}
 use Rattle.query_top.specs.Compare.{ReportsDifferences, compare_outcomes, equal_json}
 use Rattle.query_top.specs.inner.Replies.{differences_reply}
+use Rattle.report_core.specs.FlowPolicies.{flow_policy_of}
 use Rattle.topos_top.proofs.AuditLaws.{sides_for}
 use Rattle.topos_top.proofs.OutcomesLaws.{IsSettled}
 use Rattle.topos_top.proofs.RulesLaws.{moved as same_policy}
@@ -46,11 +48,19 @@ module _ (d : Network) (rules : Rules) where
   differ_or_agree differ agree =
       no_difference_where_expected (sides_for d rules agree.policy) agree.so (moved DifferSomewhere AreEquivalent differ agree)
 
+  -- Rules that forward what is expected forward only that with any connection tracking.
+  safe_where_equal : OfSides d rules AreEquivalent → OfSides d rules (λ sides. AreEquivalent sides × AreSafe sides)
+  safe_where_equal agree = record {
+    policy = agree.policy;
+    is_policy = agree.is_policy;
+    so = (agree.so, forwards_only_expected (filter_of rules) (flow_policy_of d agree.policy) agree.so);
+  }
+
   pub settled_comparison : IsSettled (compare_outcomes d rules)
   settled_comparison = record {
     owed = (
       record { status = refl; one = text_is_one; guarantees = λ now text is. is },
-      (record { status = refl; one = λ a b p q. p ∙ sym q; guarantees = λ now text is. (now, is) }, tt),
+      (record { status = refl; one = λ a b p q. p ∙ sym q; guarantees = λ now text is. (safe_where_equal now, is) }, tt),
     );
     apart = ((differ_or_agree, tt), (tt, tt));
   }

@@ -3,6 +3,7 @@ pub mod ParseLaws
 pub mod CommandLaws
 pub mod CompareLaws
 pub mod CompleteLaws
+pub mod FlowsLaws
 pub mod KeptLaws
 pub mod RunLaws
 pub mod WhyLaws

@@ -3,7 +3,7 @@ use Rattle.std.specs.Prelude.{◌≡◌, ℕ, List, [], ◌∷◌, codes}
 use Rattle.audit_core.specs.Findings.{DifferSomewhere}
 use Rattle.audit_core.specs.Pairs.{AreDifferences, IsComplete}
 use Rattle.rules_space.specs.Rules.{Rules}
-use Rattle.audit_core.specs.Sides.{AreEquivalent, Sides}
+use Rattle.audit_core.specs.Sides.{AreEquivalent, AreSafe, Sides}
 use Rattle.audit_core.specs.declared.difference.Difference.{Difference}
 use Rattle.net_core.specs.Network.{Network}
 use Rattle.query_core.specs.CompareJson.{compare_json}
@@ -33,13 +33,13 @@ difference d rules = record {
   guarantees = λ text. OfSides d rules (λ sides. ReportsDifferences sides text);
 }
 
--- The rules forward what the policy and its answers expect: there is no difference.
+-- The rules forward what the policy and its answers expect: there is no difference. With any connection tracking they forward only that.
 abbrev pub agreement : Network → Rules → Outcome
 agreement d rules = record {
   status = Done;
   when = OfSides d rules AreEquivalent;
   is = λ text. text ≡ equal_json;
-  guarantees = λ text. OfSides d rules AreEquivalent × (text ≡ equal_json);
+  guarantees = λ text. OfSides d rules (λ sides. AreEquivalent sides × AreSafe sides) × (text ≡ equal_json);
 }
 
 abbrev pub compare_outcomes : Network → Rules → Outcomes

@@ -2,14 +2,17 @@
 use Rattle.std.specs.Prelude.{ℕ, List}
 use Rattle.net_core.specs.Network.{Network}
 use Rattle.net_core.specs.Policies.{IsPolicyOf, Policy}
+use Rattle.query_core.specs.Gaps.{GapsArePermitted}
 use Rattle.query_core.specs.NetworkText.{IsNetworkText}
 use Rattle.topos_top.specs.Outcomes.{Outcomes, writes}
 
--- The text is the answer by the policy of the network.
+-- The text is the answer by the policy of the network. If the network requested one of the gaps too, it would permit the gap and all flows
+-- that it permits now.
 pub record IsNetworkAnswer (d : Network) (text : List ℕ) : Type 0 where
   pub policy : Policy
   pub is_policy : IsPolicyOf d policy
   pub written : IsNetworkText d policy text
+  pub gaps : GapsArePermitted d policy written.denials
 
 abbrev pub network_outcomes : Network → Outcomes
 network_outcomes d = writes (IsNetworkAnswer d) (IsNetworkAnswer d)

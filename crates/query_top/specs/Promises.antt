@@ -1,6 +1,6 @@
 -- What an operator may rely on. All of it follows from the one reply of a run.
 use Rattle.std.specs.Prelude.{◌≡◌, ℕ, ◌⊎◌, List, true, false, IfSome}
-use Rattle.audit_core.specs.Sides.{AreEquivalent}
+use Rattle.audit_core.specs.Sides.{AreEquivalent, AreSafe}
 use Rattle.edge_io.specs.Counts.{Rose}
 use Rattle.topos_top.specs.Audit.{OfSides}
 use Rattle.topos_top.specs.Dialects.{rule_dialect_of}
@@ -48,14 +48,14 @@ pub record HasCause (ended : Status) (words : List (List ℕ)) (shelf : ShelfCha
 
 -- The answer to a question is on the output: the file, as the run saw it, describes a network, and the answer is for that network and the
 -- other file. A comparison says that rules and policy are equal only if, over every list of events with valid packets, the rules forward what
--- the policy and its answers expect.
+-- the policy and its answers expect, and with any connection tracking only that.
 abbrev pub AnswersQuestion : Command → ShelfChange → (out : SinkChange) → Type 0
 AnswersQuestion (Why file from to) shelf out = WasRead shelf kind.Description file (λ d. Wrote out (IsWhy d from to))
 AnswersQuestion (Network file) shelf out = WasRead shelf kind.Description file (λ d. Wrote out (IsNetworkAnswer d))
 AnswersQuestion (Flows dialect file rules) shelf out = WasRead shelf kind.Description file
     (λ d. WasRead shelf (kind.Rules dialect) rules (λ said. Wrote out (IsFlowsAnswer d.hosts ((rule_dialect_of dialect).audited said))))
 AnswersQuestion (Compare dialect file rules) shelf out = WasRead shelf kind.Description file
-    (λ d. WasRead shelf (kind.Rules dialect) rules (λ said. OfSides d ((rule_dialect_of dialect).audited said) AreEquivalent × Appends out equal_json))
+    (λ d. WasRead shelf (kind.Rules dialect) rules (λ said. OfSides d ((rule_dialect_of dialect).audited said) (λ sides. AreEquivalent sides × AreSafe sides) × Appends out equal_json))
 AnswersQuestion (Changes old new) shelf out = WasRead shelf kind.Description old (λ before. WasRead shelf kind.Description new (λ after. Wrote out (IsChangesAnswer before after false)))
 
 -- The question is a comparison with differences, or one on changes that weaken a flow, and the answer is on the output: the files, as the run

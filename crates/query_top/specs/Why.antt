@@ -4,7 +4,7 @@ use Rattle.flow_set.specs.declared.flow.Flow.{Flow}
 use Rattle.host_net.specs.Host.{Host, host_named}
 use Rattle.net_core.specs.Network.{Network}
 use Rattle.net_core.specs.Policies.{IsPolicyOf, Policy}
-use Rattle.query_core.specs.Explanations.{HasReasons, IsExplanation}
+use Rattle.query_core.specs.Explanations.{HasReasons, IsExplanation, ReasonsHaveFlow}
 use Rattle.query_core.specs.Json.{why_json}
 use Rattle.query_core.specs.declared.explanation.Explanation.{Explanation}
 use Rattle.topos_top.specs.Outcomes.{Outcomes, says_why}
@@ -31,13 +31,15 @@ pub record IsFlowNamed (hosts : List Host) (from to : List ℕ) (f : Flow) : Typ
   pub receiver : host_named hosts to ≡ Some f.to
   pub differ : f.from ≢ f.to
 
--- The text is the JSON of an explanation of the flow by the policy of the network, in which no denial lacks a reason.
+-- The text is the JSON of an explanation of the flow by the policy of the network. No denial lacks a reason, and each reason has the flow or
+-- its answer.
 pub record IsWhyOf (d : Network) (f : Flow) (text : List ℕ) : Type 0 where
   pub policy : Policy
   pub is_policy : IsPolicyOf d policy
   pub explanation : Explanation
   pub explained : IsExplanation d policy f explanation
   pub reasons : HasReasons d explanation
+  pub of_flow : ReasonsHaveFlow explanation
   pub written : text ≡ why_json d explanation
 
 -- The text answers for the flow between the hosts of these names.

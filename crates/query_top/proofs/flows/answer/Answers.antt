@@ -2,6 +2,7 @@ use Rattle.std.proofs.Common.{◌≡◌, ℕ, List, inl, refl, subst, sym, true}
 use Rattle.rules_space.specs.Rules.{Rules}
 use Rattle.host_net.specs.Host.{Host}
 use Rattle.query_core.proofs.FlowsLaws.{flows_fit}
+use Rattle.query_top.proofs.FlowsLaws.{are_complete}
 use Rattle.query_top.specs.Flows.{IsFlowsAnswer, flows_outcomes}
 use Rattle.topos_top.specs.Outcomes.{Answers}
 use Rattle.topos_top.specs.Reply.{Reply}
@@ -24,7 +25,17 @@ flows_json-requires c =
 pub returns : goal.returns
 returns c =
     let are = rw c.audited-rules.ensures at c.in_ok-flows.ensures in
-    let are_dead = rw c.audited-rules.ensures at c.in_ok-dead.ensures in
+    let are_dead = rw c.audited-rules.ensures at c.in_ok-dead.ensures.dead in
+    let removable = rw c.audited-rules.ensures at c.in_ok-dead.ensures.removable in
+    let complete = are_complete (rules_view c.args.rules.now) c.args.hosts.now c.in_ok-flows.flows.items are in
     let written = rw (c.deref.ensures.value, c.deref-2.ensures.value, c.audited-rules.ensures) at c.in_ok-text.ensures in
     answers_flows c.args.hosts.now (rules_view c.args.rules.now) c.in_ok-text.text.items (reply_view c.done.result)
-    (record { flows = c.in_ok-flows.flows.items; are = are; dead = c.in_ok-dead.dead.items; are_dead = are_dead; written = written }) c.done.ensures
+    (record {
+      flows = c.in_ok-flows.flows.items;
+      are = are;
+      complete = complete;
+      dead = c.in_ok-dead.dead.items;
+      are_dead = are_dead;
+      removable = removable;
+      written = written;
+    }) c.done.ensures

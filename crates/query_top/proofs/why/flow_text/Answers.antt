@@ -10,6 +10,7 @@ returns c =
       explanation = c.in_ok-explanation.explanation;
       explained = c.in_ok-explanation.ensures.explained;
       reasons = c.in_ok-explanation.ensures.reasons;
+      of_flow = c.in_ok-explanation.ensures.flow;
       written = written;
     })
     c.why_json.ensures
