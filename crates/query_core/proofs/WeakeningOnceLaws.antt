@@ -1,7 +1,6 @@
 -- Two weakenings by one change have a weaker flow, or neither has one.
 use Rattle.std.proofs.Common.{◌≡◌, ℕ, Bool, true, List, [], ◌∷◌, length, map, not, refl, sym, ◌∙◌, ap, ap₂, subst}
 use Rattle.std.specs.Prelude.{IsTrue, if◌then◌else◌}
-use Rattle.std.specs.List.{Contains}
 use Rattle.rules_space.proofs.ListLaws.{contains_first, contains_none}
 use Rattle.change_core.specs.Weaker.{AreWeaker}
 use Rattle.change_core.specs.declared.weaker.Weaker.{Weaker}
