@@ -1,32 +1,11 @@
-//! The results of rules and invariants, called through their traits.
+//! The results of an invariant, called through its trait.
 
-ghost use Rattle.std.specs.Prelude.{◌≡◌, ◌<◌};
+ghost use Rattle.std.specs.Prelude.{◌<◌};
 ghost use Rattle.flow_set.specs.Flow.{IsFlow};
 
 use flow_set::Flow;
-use inv_law::{EdgeRule, Invariant};
+use inv_law::Invariant;
 use std::alloc::{AllocError, Global};
-
-/// Returns, for each host as the sender, whether its flows to each other host pass.
-pub(crate) fn answers_of<R: EdgeRule>(alloc: Global, rule: &R) -> Result<Vec<bool>, AllocError> {
-    let mut all = Vec::new(alloc);
-    for sender in 0..rule.hosts() {
-        push_answers(&mut all, rule, sender)?;
-    }
-    Ok(all)
-}
-
-/// Appends, for each other host, whether the flow of the sender to it passes.
-fn push_answers<R: EdgeRule>(all: &mut Vec<bool>, rule: &R, sender: u16) -> Result<(), AllocError>
-    requires { sender < R.size_of rule.now }
-{
-    for receiver in 0..rule.hosts() {
-        if receiver != sender {
-            all.push(rule.passes(sender, receiver))?;
-        }
-    }
-    Ok(())
-}
 
 /// Returns whether the flow is admitted, and whether it is after the reset of the host.
 pub(crate) fn before_and_after<I: Invariant + Drop>(

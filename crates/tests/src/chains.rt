@@ -1,11 +1,10 @@
-//! Rule sets that are built from chains: the end of a user chain, and a jump that is refused.
+//! A rule set that is refused: a chain jumps to a built-in chain, which no text can express.
 
 ghost use Rattle.std.specs.Prelude.{◌≡◌, ◌+◌, ◌<◌, None, length, IsTrue};
 ghost use Rattle.ipt_rules.specs.ChainTable.{rule_count};
 ghost use Rattle.ipt_rules.specs.inner.RuleParts.{is_rule};
 
-use host_net::{CtState, Packet};
-use ipt_rules::{BuildRefusal, ChainName, Chains, Filter, Policy, Rule, Ruleset, Target, Verdict};
+use ipt_rules::{BuildRefusal, ChainName, Chains, Policy, Rule, Ruleset, Target};
 use std::alloc::Global;
 use std::process::Abort;
 
@@ -58,26 +57,8 @@ fn rule(target: Target) -> Rule
     }
 }
 
-const PACKET: Packet = Packet {
-    src: 1,
-    dst: 2,
-    proto: 6,
-    sport: 50000,
-    dport: 443,
-};
-
-/// The end of a user chain returns to the rule after the jump, and finally to the policy; a jump to
-/// a built-in chain is refused.
 #[test]
-fn returns_and_refuses(rt: HostRuntime) {
-    let mut chains = dropping(rt.alloc(), &rt);
-    add(&rt, &mut chains, b"empty");
-    push(&rt, &mut chains, 1, rule(Target::Jump(3)));
-    push(&rt, &mut chains, 1, rule(Target::Accept));
-    let rules = Ruleset::build(rt.alloc(), chains).expect(&rt, "a rule set");
-    let filter = Filter::of(rt.alloc(), &rules, 1).expect(&rt, "memory");
-    assert_eq!(rt; filter.verdict(&PACKET, CtState::New), Verdict::Forward);
-
+fn a_jump_to_a_built_in_chain_is_refused(rt: HostRuntime) {
     let mut chains = dropping(rt.alloc(), &rt);
     add(&rt, &mut chains, b"back");
     push(&rt, &mut chains, 3, rule(Target::Jump(2)));
