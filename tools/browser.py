@@ -59,7 +59,7 @@ class Browser:
                 raise SystemExit('the browser ended')
             self.rest += more
         message, _, self.rest = self.rest.partition(b'\0')
-        found = json.loads(message)
+        found: dict[str, Any] = json.loads(message)
         if found.get('method') == 'Network.requestWillBeSent':
             self.requests.append(found['params']['request']['url'])
         return found
@@ -78,7 +78,8 @@ class Browser:
             if found.get('id') == self.number:
                 if 'error' in found:
                     raise SystemExit(f'{method}: {found["error"]}')
-                return found['result']
+                result: dict[str, Any] = found['result']
+                return result
 
     def open(self, path: str) -> None:
         """Opens a file, and waits until it is loaded."""
@@ -102,7 +103,8 @@ class Browser:
     def press(self, key: str) -> None:
         """Presses a key and releases it."""
         text = {'text': '\r'} if key == 'Enter' else {}
-        for kind, more in (('keyDown' if text else 'rawKeyDown', text), ('keyUp', {})):
+        released: dict[str, str] = {}
+        for kind, more in (('keyDown' if text else 'rawKeyDown', text), ('keyUp', released)):
             self.send('Input.dispatchKeyEvent', type=kind, key=key, code=key, windowsVirtualKeyCode=KEYS[key], **more)
 
     def size(self, width: int, height: int, scale: float = 1) -> None:

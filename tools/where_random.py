@@ -84,13 +84,14 @@ unset 1 web
     'description': NET,
 }
 WORDS = {
-    'description': '''"web" "wbe" "a b" web "10.0.0.256" "10.0.0.0/33" "10.0.01.0/24" "10.0.1.10" "10.0.0.1/8" 7 70000 true
-        True "tcp:80" "tcp/90-80" "http" "master" "blpp" "red" [] {} nmae level kind name at = "''',
+    'description': '''"web" "wbe" "a b" web "10.0.0.256" "10.0.0.0/33" "10.0.01.0/24" "10.0.1.10" "10.0.0.1/8" 7 70000
+        true True "tcp:80" "tcp/90-80" "http" "master" "blpp" "red" [] {} nmae level kind name at = "''',
     'edits': 'x # dbb web wbe tcp/80-90 tcp/90-80 a.b { } 17 1 add set "web" "wbe" kind "master"',
     'events': 'x # 10.0.0.256 10.0.0.1/8 10.0.01.1 65536 080 http TCP packets 17 300',
-    'flows': 'x # tp_dst=80 tcp_dst=80 nw_src=10.0.0.0/8 nw_src=10.0.0.1/33 ip udp priority=10 in_port=1 actions=output:2',
-    'rules': '''x ! " # -i eth0 --dports --source -j -s 10.0.0.256 10.0.0.0/33 10.0.01.0/24 10.0.0.0/255.0.0.0 65536 90:80
-        080 http TCP lan lam LOG FORWARD COMMIT *nat 17 -A :lan'''}
+    'flows': 'x # tp_dst=80 tcp_dst=80 nw_src=10.0.0.0/8 nw_src=10.0.0.1/33 ip udp priority=10 in_port=1 '
+             'actions=output:2',
+    'rules': '''x ! " # -i eth0 --dports --source -j -s 10.0.0.256 10.0.0.0/33 10.0.01.0/24 10.0.0.0/255.0.0.0 65536
+        90:80 080 http TCP lan lam LOG FORWARD COMMIT *nat 17 -A :lan'''}
 ENDINGS = '- ACCEPT FORWARD -A -s -d 0.0.0.0/0 tcp 0 NEW "'.split()  # of a line of rules
 ELSEWHERE = ('Loop', 'NoCommit', 'TooMany')  # reasons that are not of a word
 SPLIT = {'flows': r'([, \t]+)', 'description': r'([,\s\[\]{}]+)'}  # what parts words
@@ -125,7 +126,8 @@ class Asked:
         self.kind = kind
         kinds: dict[str, tuple[list[str], list[str]]] = {
             'rules': (['trace', 'iptables', '/dev/stdin', '/dev/null'], []), 'edits': (['edit', '/dev/stdin'], [NET]),
-            'flows': (['trace', 'openflow', '/dev/stdin', '/dev/null'], []), 'description': (['migrate', '/dev/stdin'], []),
+            'flows': (['trace', 'openflow', '/dev/stdin', '/dev/null'], []),
+            'description': (['migrate', '/dev/stdin'], []),
             'events': (['trace', 'iptables', '/dev/stdin'], [EMPTY])}
         words, self.before = kinds[kind]
         self.words = [program, *words]
@@ -334,4 +336,6 @@ def fault_of(program: str, kind: str, seed: int) -> str:
     else:
         fault = f'shown as {first.title}'
     fault = fault or follow_up(asked, text, findings) or command_fault(asked, text, page.sentences)
-    return f'{text}\nline {number}: {name}: {fault}\n{[each.title for each in findings]}\n{first.sentences}' if fault else ''
+    if not fault:
+        return ''
+    return f'{text}\nline {number}: {name}: {fault}\n{[each.title for each in findings]}\n{first.sentences}'
