@@ -1,11 +1,12 @@
 """The smallest files that are refused: each prints a line that docs/FORMATS.md, TEXTS.md or GUIDE.md shows."""
+from collections.abc import Iterable, Iterator
 
 TWO = 'host = [{ name = "a", at = ["10.0.1.1"] }, { name = "b", at = ["10.0.2.1"] }]\n'
 HEAD = 'topos = 1\n' + TWO
 RULES = '*filter\n:INPUT ACCEPT\n:FORWARD DROP\n:OUTPUT ACCEPT\n'
 
 
-def hosts(counts):
+def hosts(counts: Iterable[int]) -> str:
     """A host for each number, with so many addresses."""
     tables = []
     for k, count in enumerate(counts):
@@ -14,11 +15,11 @@ def hosts(counts):
     return f"topos = 1\nhost = [{', '.join(tables)}]\n"
 
 
-def assigns(template, *entries):
+def assigns(template: str, *entries: str) -> str:
     return f'[[invariant]]\ntemplate = "{template}"\nassign = [{", ".join(entries)}]\n'
 
 
-def templates(count, default='"out"', deny='[]'):
+def templates(count: int, default: str = '"out"', deny: str = '[]') -> str:
     """So many tables of the kinds `in` and `out`."""
     return ''.join(f'[[template]]\nname = "t{k}"\nstrategy = "access"\nkinds = ["in", "out"]\n'
                    f'default = {default}\ndeny = {deny}\n' for k in range(count))
@@ -66,7 +67,7 @@ MANY_RULES = 'topos = 2\nanswers = "none"\nflow = [%s]\nhost = [%s, { name = "b"
     ', '.join(f'"10.{1 + i // 256}.{i % 256}.1"' for i in range(412)))
 
 
-def runs():
+def runs() -> Iterator[tuple[list[str], dict[str, str]]]:
     """The words of each run, and the files that it wants."""
     for text in DESCRIPTIONS:
         yield ['check', 'net.toml'], {'net.toml': text}
