@@ -1,0 +1,3 @@
+pub mod ArgumentsLaws
+pub mod PortsLaws
+pub mod PlainLaws
