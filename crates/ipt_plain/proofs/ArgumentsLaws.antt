@@ -1,16 +1,27 @@
 -- A line consists of arguments if and only if the call finds it so.
-use Rattle.std.proofs.Common.{◌≡◌, ◌≢◌, ℕ, Bool, true, false, IsTrue, List, [], ◌∷◌, ◌++◌, refl, sym, ap, subst, ◌∙◌, cond, nat_eq, not, arith}
+use Rattle.std.proofs.Common.{◌≡◌, ◌≢◌, ℕ, Bool, true, false, IsTrue, List, [], ◌∷◌, ◌++◌, refl, sym, ap, subst, ◌∙◌, append-nil, append_assoc, cond, nat_eq, arith}
 use Rattle.std.specs.List.{list_all}
 use Rattle.std.proofs.lemmas.Bool.{and_parts, and_from}
 use Rattle.std.proofs.lemmas.Bool.Decides.{nat_tests}
 use Rattle.text_core.specs.Lines.{is_blank, ends_word}
-use Rattle.ipt_plain.specs.Arguments.{is_token_byte, IsInside, nothing, escaped, plain, AreArguments, none_left, blank, token, quoted}
-use Rattle.ipt_plain.specs.Plain.{HasArguments}
+use Rattle.ipt_plain.specs.Arguments.{is_token_byte, IsInside, nothing, escaped, plain, AreArguments, none_left, blank, token, quoted, HasSameArguments, Outside, InQuotes, unless_empty, taken_from, taken}
 use Rattle.ipt_plain.specs.declared.arguments.Place.{Place}
 use Rattle.ipt_plain.specs.declared.arguments.Place.TheVariants.{Between, Token, Text, Escaped, Behind, Bad}
 use Rattle.ipt_plain.specs.inner.LineSteps.{place_after, may_end, has_arguments}
 
--- 1. What the call accepts.
+-- 1. Tests of bytes.
+
+token_parts : (b : ℕ) → is_token_byte b ≡ true → (is_blank b ≡ false) × (nat_eq b 34 ≡ false)
+token_parts b h = grind (arith, nat_tests)
+
+differs : (b n : ℕ) → b ≢ n → nat_eq b n ≡ false
+differs b n h = grind (arith, nat_tests)
+
+-- 2. What the call accepts.
+
+-- The line consists of arguments.
+abbrev HasArguments : List ℕ → Type 0
+HasArguments line = (arguments : List (List ℕ)) × AreArguments line arguments
 
 -- The end of an argument, and arguments after it.
 record Ends (bs : List ℕ) : Type 0 where
@@ -138,13 +149,52 @@ is_rest : (bs : List ℕ) (place : Place) → has_arguments place bs ≡ true �
 is_rest [] place h = no_more place h
 is_rest (b ∷ bs) place h = one_more place b bs (is_rest bs (place_after place b) h)
 
-pub accepted : (line : List ℕ) → has_arguments Between line ≡ true → HasArguments line
-accepted line h = is_rest line Between h
+-- iptables-restore takes the same arguments.
+token_taken : (w bytes bs : List ℕ) → list_all is_token_byte w ≡ true → taken_from Outside bytes (w ++ bs) ≡ taken_from Outside (bytes ++ w) bs
+token_taken [] bytes bs h = ap (λ (v : List ℕ). taken_from Outside v bs) (sym (append-nil bytes))
+token_taken (b ∷ w) bytes bs h =
+    let parts = and_parts (is_token_byte b) (list_all is_token_byte w) h in
+    byte_taken b (w ++ bs) bytes parts.0 ∙ (token_taken w (bytes ++ b ∷ []) bs parts.1 ∙ ap (λ (v : List ℕ). taken_from Outside v bs) (append_assoc bytes (b ∷ []) w))
+  where
+    byte_taken : (b : ℕ) (bs bytes : List ℕ) → is_token_byte b ≡ true → taken_from Outside bytes (b ∷ bs) ≡ taken_from Outside (bytes ++ b ∷ []) bs
+    byte_taken b bs bytes h = let parts = token_parts b h in rw (parts.1, parts.0) refl
 
--- 2. The call accepts every line that consists of arguments.
+blank_taken : (b : ℕ) (bs bytes : List ℕ) → is_blank b ≡ true → taken_from Outside bytes (b ∷ bs) ≡ unless_empty bytes (taken_from Outside [] bs)
+blank_taken b bs bytes h = rw (no_quote b h, h) refl
+  where
+    no_quote : (b : ℕ) → is_blank b ≡ true → nat_eq b 34 ≡ false
+    no_quote b h = grind (arith, nat_tests)
 
-token_parts : (b : ℕ) → is_token_byte b ≡ true → (is_blank b ≡ false) × (nat_eq b 34 ≡ false)
-token_parts b h = grind (arith, nat_tests)
+text_taken : (inside text bytes bs : List ℕ) → IsInside inside text → taken_from InQuotes bytes (inside ++ (34 ∷ bs)) ≡ (bytes ++ text) ∷ taken_from Outside [] bs
+text_taken _ _ bytes bs nothing = λ i. sym (append-nil bytes) i ∷ taken_from Outside [] bs
+text_taken _ _ bytes bs (escaped {b = b} {bs = inside} {text = text} said) =
+    text_taken inside text (bytes ++ b ∷ []) bs said ∙ (λ i. append_assoc bytes (b ∷ []) text i ∷ taken_from Outside [] bs)
+text_taken _ _ bytes bs (plain {b = b} {bs = inside} {text = text} slash quote said) =
+    byte_in_text b (inside ++ (34 ∷ bs)) bytes slash quote
+    ∙ (text_taken inside text (bytes ++ b ∷ []) bs said ∙ (λ i. append_assoc bytes (b ∷ []) text i ∷ taken_from Outside [] bs))
+  where
+    byte_in_text : (b : ℕ) (bs bytes : List ℕ) → b ≢ 92 → b ≢ 34 → taken_from InQuotes bytes (b ∷ bs) ≡ taken_from InQuotes (bytes ++ b ∷ []) bs
+    byte_in_text b bs bytes slash quote = rw (differs b 92 slash, differs b 34 quote) refl
+
+-- An argument that a blank or the end of the line follows.
+argument_taken : (b : ℕ) (w bs : List ℕ) → ends_word bs ≡ true → taken_from Outside (b ∷ w) bs ≡ (b ∷ w) ∷ taken bs
+argument_taken b w [] ends = refl
+argument_taken b w (c ∷ bs) ends = blank_taken c bs (b ∷ w) ends ∙ (λ i. (b ∷ w) ∷ sym (blank_taken c bs [] ends) i)
+
+same_taken : (line : List ℕ) (arguments : List (List ℕ)) → AreArguments line arguments → taken line ≡ arguments
+same_taken _ _ none_left = refl
+same_taken _ _ (blank {b = b} {bs = bs} {others = others} h given) = blank_taken b bs [] h ∙ same_taken bs others given
+same_taken _ _ (token {b = b} {w = w} {bs = bs} {others = others} bytes ends given) =
+    token_taken (b ∷ w) [] bs bytes ∙ (argument_taken b w bs ends ∙ (λ i. (b ∷ w) ∷ same_taken bs others given i))
+same_taken _ _ (quoted {inside = inside} {text = text} {bs = bs} {others = others} said ends given) =
+    text_taken inside text [] bs said ∙ (λ i. text ∷ same_taken bs others given i)
+
+pub accepted : (line : List ℕ) → has_arguments Between line ≡ true → HasSameArguments line
+accepted line h =
+    let given : HasArguments line = is_rest line Between h in
+    record { arguments = given.0; here = given.1; there = same_taken line given.0 given.1 }
+
+-- 3. The call accepts every line that consists of arguments.
 
 token_stays : (b : ℕ) → is_token_byte b ≡ true → place_after Token b ≡ Token
 token_stays b h = let parts = token_parts b h in rw (parts.0, parts.1) refl
@@ -158,16 +208,13 @@ token_goes (b ∷ w) bs h =
     let parts = and_parts (is_token_byte b) (list_all is_token_byte w) h in
     ap (λ (place : Place). has_arguments place (w ++ bs)) (token_stays b parts.0) ∙ token_goes w bs parts.1
 
-differs : (b n : ℕ) → b ≢ n → nat_eq b n ≡ false
-differs b n h = grind (arith, nat_tests)
-
 text_stays : (b : ℕ) → b ≢ 92 → b ≢ 34 → place_after Text b ≡ Text
 text_stays b slash quote = rw (differs b 92 slash, differs b 34 quote) refl
 
 text_goes : (inside text bs : List ℕ) → IsInside inside text → has_arguments Text (inside ++ (34 ∷ bs)) ≡ has_arguments Behind bs
 text_goes _ _ bs nothing = refl
 text_goes _ _ bs (escaped {bs = inside} {text = text} said) = text_goes inside text bs said
-text_goes _ _ bs (plain {b = b} {bs = inside} {text = text} slash quote said) = 
+text_goes _ _ bs (plain {b = b} {bs = inside} {text = text} slash quote said) =
     ap (λ (place : Place). has_arguments place (inside ++ (34 ∷ bs))) (text_stays b slash quote) ∙ text_goes inside text bs said
 
 ends_token : (bs : List ℕ) → ends_word bs ≡ true → has_arguments Between bs ≡ true → has_arguments Token bs ≡ true

@@ -1,12 +1,12 @@
 -- The call returns the first line that is read otherwise, or nothing if and only if the text is read in the same way.
-use Rattle.std.proofs.Common.{◌≡◌, ◌<◌, ◌≤◌, ◌+◌, ℕ, zero, suc, ◌⊎◌, inl, inr, Bool, true, false, not, ◌||◌, cond, nat_lt, IsTrue, IsFalse, List, [], ◌∷◌, ◌++◌, Option, Some, None, length, get_or, refl, sym, ap, subst, ◌∙◌, arith}
-use Rattle.std.specs.Prelude.{All, Contains, IfNone, IfSome, codes, bytes_eq, ◌==◌}
-use Rattle.std.specs.List.{list_any}
+use Rattle.std.proofs.Common.{◌≡◌, ◌<◌, ◌+◌, ℕ, zero, suc, ◌⊎◌, inl, inr, Bool, true, false, not, ◌||◌, cond, nat_lt, List, [], ◌∷◌, ◌++◌, Option, Some, None, length, get_or, refl, sym, ap, subst, ◌∙◌, arith}
+use Rattle.std.specs.Prelude.{All, IfNone, IfSome, codes, ◌==◌}
 use Rattle.std.proofs.lemmas.Bool.{or_cases, or_left, or_right, or_parts}
 use Rattle.std.proofs.lemmas.Bool.Decides.{nat_tests}
 use Rattle.text_core.specs.Lines.{lines, words, is_comment}
-use Rattle.text_core.proofs.StepsLaws.{bytes_same, bytes_own, split_bool}
-use Rattle.ipt_plain.specs.Plain.{IsShort, HasZero, HasArguments, NegatesAllPorts, IsPlainLine, IsOtherwise, long, zero_byte, inner_quote, all_ports, HasForward, IsPlain, HasPlainFault, at_line, no_forward}
+use Rattle.text_core.proofs.StepsLaws.{bytes_same, bytes_own}
+use Rattle.ipt_plain.specs.Arguments.{HasSameArguments}
+use Rattle.ipt_plain.specs.Plain.{IsShort, HasZero, IsPlainLine, IsOtherwise, long, zero_byte, inner_quote, all_ports, HasForward, IsPlain, HasPlainFault, at_line, no_forward}
 use Rattle.ipt_plain.specs.declared.arguments.Place.TheVariants.{Between}
 use Rattle.ipt_plain.specs.declared.fault.PlainFault.{PlainFault}
 use Rattle.ipt_plain.specs.declared.fault.PlainWhy.{PlainWhy}
@@ -20,7 +20,7 @@ use Rattle.ipt_plain.proofs.PortsLaws.{found, found_said}
 zero_said : (line : List ℕ) → has_zero line ≡ true → HasZero line
 zero_said [] h = cc
 zero_said (b ∷ bs) h = elim (or_cases (b == 0) (has_zero bs) h) [
-  inl now ↦ (0, omega arith, is_zero b now)
+  | inl now ↦ (0, omega arith, is_zero b now)
   | inr later ↦ let there = zero_said bs later in (suc there.0, omega (arith, there.1), there.2)
 ]
   where
@@ -43,7 +43,7 @@ no_zero : (line : List ℕ) → has_zero line ≡ false → HasZero line → ⊥
 no_zero line h there = let found = zero_at line there.0 there.1 there.2 in cc
 
 by_ports : (line : List ℕ) (t : Bool) → negates_all_ports [] [] (words line) ≡ t → IsShort line → (HasZero line → ⊥) → is_comment line ≡ false
-    → HasArguments line → Says line (cond t (Some AllPorts) None)
+    → HasSameArguments line → Says line (cond t (Some AllPorts) None)
 by_ports line true h short no_zero comment arguments = all_ports short no_zero comment arguments (found_said (words line) h)
 by_ports line false h short no_zero comment arguments = record {
   short = short;
@@ -55,7 +55,7 @@ by_ports line false h short no_zero comment arguments = record {
 by_arguments : (line : List ℕ) (t : Bool) → has_arguments Between line ≡ t → IsShort line → (HasZero line → ⊥) → is_comment line ≡ false
     → Says line (cond (not t) (Some InnerQuote) (cond (negates_all_ports [] [] (words line)) (Some AllPorts) None))
 by_arguments line true h short no_zero comment = by_ports line (negates_all_ports [] [] (words line)) refl short no_zero comment (accepted line h)
-by_arguments line false h short no_zero comment = inner_quote short no_zero comment (λ given. let also = accepts line given.0 given.1 in cc)
+by_arguments line false h short no_zero comment = inner_quote short no_zero comment (λ given. let also = accepts line given.arguments given.here in cc)
 
 by_comment : (line : List ℕ) (t : Bool) → is_comment line ≡ t → IsShort line → (HasZero line → ⊥) → Says line (cond t None (rule_fault line))
 by_comment line true h short no_zero = record {
@@ -144,7 +144,7 @@ along n forward ls why a b e h = subst (λ (m : ℕ). SaysText n forward ls (Som
 one_before : (n : ℕ) (forward : Bool) (l : List ℕ) (ls : List (List ℕ)) (o : Option PlainFault) → IsPlainLine l
     → SaysText (n + 1) (forward || is_forward l) ls o → SaysText n forward (l ∷ ls) o
 one_before n forward l ls _ good (all_plain each given) = all_plain (all_more l ls good each) (elim given [
-  inl e ↦ elim (or_cases forward (is_forward l) e) [ inl a ↦ inl a | inr a ↦ inr (forward_here l ls a) ]
+  | inl e ↦ elim (or_cases forward (is_forward l) e) [ inl a ↦ inl a | inr a ↦ inr (forward_here l ls a) ]
   | inr there ↦ inr (forward_later l ls there)
 ])
 one_before n forward l ls _ good (faulty {why = why} front behind line parts each bad) =
@@ -191,8 +191,8 @@ plain_goes (l ∷ ls) n forward each given =
     let here : line_fault l ≡ None = line_plain l (each 0 l (omega arith)) in
     let later : All IsPlainLine ls = λ k d within. each (suc k) d (omega arith) in
     rw here (plain_goes ls (n + 1) (forward || is_forward l) later (elim given [
-      inl e ↦ inl (or_left forward (is_forward l) e)
-    | inr there ↦ elim (forward_parts l ls there) [ inl a ↦ inl (or_right forward (is_forward l) a) | inr a ↦ inr a ]
+      | inl e ↦ inl (or_left forward (is_forward l) e)
+      | inr there ↦ elim (forward_parts l ls there) [ inl a ↦ inl (or_right forward (is_forward l) a) | inr a ↦ inr a ]
     ]))
 
 plain_none : (bytes : List ℕ) → IsPlain bytes → text_fault false 1 (lines bytes) ≡ None

@@ -1,24 +1,24 @@
 -- Tokens negate a match on all ports if and only if the call finds them so.
-use Rattle.std.proofs.Common.{◌≡◌, ℕ, ◌⊎◌, inl, inr, Bool, true, false, ◌&&◌, ◌||◌, IsTrue, List, [], ◌∷◌, refl, sym, subst}
+use Rattle.std.proofs.Common.{◌≡◌, ℕ, inl, inr, true, false, ◌&&◌, ◌||◌, List, [], ◌∷◌, refl, sym, subst}
 use Rattle.std.specs.Prelude.{codes, bytes_eq}
 use Rattle.std.proofs.lemmas.Bool.{and_parts, and_from, or_cases, or_left, or_right}
-use Rattle.text_core.proofs.StepsLaws.{bytes_same, bytes_own}
+use Rattle.text_core.proofs.StepsLaws.{bytes_same}
 use Rattle.ipt_plain.specs.Plain.{IsPortOption, AreAllPorts, NegatesAllPorts, here, further}
 use Rattle.ipt_plain.specs.inner.LineSteps.{is_bang, is_port_option, is_all_ports, is_negated_match, negates_all_ports}
 
 option_said : (w : List ℕ) → is_port_option w ≡ true → IsPortOption w
 unfolding is_port_option
 option_said w h = elim (or_cases (bytes_eq w (codes "--sport")) (bytes_eq w (codes "--dport")) h) [
-  inl a ↦ inl (bytes_same w (codes "--sport") a)
+  | inl a ↦ inl (bytes_same w (codes "--sport") a)
   | inr a ↦ inr (bytes_same w (codes "--dport") a)
 ]
 
 ports_said : (w : List ℕ) → is_all_ports w ≡ true → AreAllPorts w
 unfolding is_all_ports
 ports_said w h = elim (or_cases (bytes_eq w (codes "0:65535") || bytes_eq w (codes "0:")) (bytes_eq w (codes ":65535")) h) [
-  inl a ↦ elim (or_cases (bytes_eq w (codes "0:65535")) (bytes_eq w (codes "0:")) a) [
-    inl b ↦ inl (bytes_same w (codes "0:65535") b)
-  | inr b ↦ inr (inl (bytes_same w (codes "0:") b))
+  | inl a ↦ elim (or_cases (bytes_eq w (codes "0:65535")) (bytes_eq w (codes "0:")) a) [
+    | inl b ↦ inl (bytes_same w (codes "0:65535") b)
+    | inr b ↦ inr (inl (bytes_same w (codes "0:") b))
   ]
   | inr a ↦ inr (inr (bytes_same w (codes ":65535") a))
 ]
@@ -36,7 +36,7 @@ match_said a b c ws h =
 pub negated : (a b : List ℕ) (ws : List (List ℕ)) → negates_all_ports a b ws ≡ true → NegatesAllPorts (a ∷ b ∷ ws)
 negated a b [] h = cc
 negated a b (c ∷ ws) h = elim (or_cases (is_negated_match a b c) (negates_all_ports b c ws) h) [
-  inl now ↦ match_said a b c ws now
+  | inl now ↦ match_said a b c ws now
   | inr later ↦ further (negated b c ws later)
 ]
 

@@ -1,8 +1,8 @@
 -- Rules texts that iptables-restore reads as ipt_read does (iptables-restore(8), version 1.8.9, both back ends), and the first line that
 -- it may read otherwise.
-use Rattle.std.specs.Prelude.{◌≡◌, ◌<◌, ◌≤◌, ◌+◌, ◌⊎◌, ℕ, IsFalse, List, [], ◌∷◌, ◌++◌, All, Contains, codes, length}
+use Rattle.std.specs.Prelude.{◌≡◌, ◌<◌, ◌≤◌, ◌+◌, ◌⊎◌, ℕ, IsFalse, List, ◌∷◌, ◌++◌, All, Contains, codes, length}
 use Rattle.text_core.specs.Lines.{lines, words, is_comment}
-use Rattle.ipt_plain.specs.Arguments.{AreArguments}
+use Rattle.ipt_plain.specs.Arguments.{HasSameArguments}
 use Rattle.ipt_plain.specs.declared.fault.PlainWhy.{PlainWhy}
 use Rattle.ipt_plain.specs.declared.fault.PlainWhy.TheVariants.{LongLine, ZeroByte, InnerQuote, AllPorts, NoForward}
 
@@ -16,10 +16,6 @@ IsShort line = length line ≤ 10239
 -- A byte 0 ends a line of iptables-restore.
 abbrev pub HasZero : List ℕ → Type 0
 HasZero line = Contains line 0
-
--- The line consists of arguments.
-abbrev pub HasArguments : List ℕ → Type 0
-HasArguments line = (arguments : List (List ℕ)) × AreArguments line arguments
 
 -- The option of a port match.
 abbrev pub IsPortOption : List ℕ → Type 0
@@ -36,20 +32,20 @@ pub data NegatesAllPorts : List (List ℕ) → Type 0 where
       → NegatesAllPorts (codes "!" ∷ option ∷ ports ∷ ws)
   further : {w : List ℕ} {ws : List (List ℕ)} → NegatesAllPorts ws → NegatesAllPorts (w ∷ ws)
 
--- iptables-restore reads the line as ipt_read does: it is short and has no byte 0; and it is a comment, or it consists of arguments and
--- negates no match on all ports.
+-- iptables-restore reads the line as ipt_read does: it is short and has no byte 0; and it is a comment, or both take the same
+-- arguments from it and none negates a match on all ports.
 pub record IsPlainLine (line : List ℕ) : Type 0 where
   pub short : IsShort line
   pub no_zero : HasZero line → ⊥
-  pub arguments : IsFalse (is_comment line) → HasArguments line
+  pub arguments : IsFalse (is_comment line) → HasSameArguments line
   pub ports : IsFalse (is_comment line) → NegatesAllPorts (words line) → ⊥
 
 -- The reason why iptables-restore may read a line otherwise: the first of these that holds.
 pub data IsOtherwise (line : List ℕ) : PlainWhy → Type 0 where
   long : 10239 < length line → IsOtherwise line LongLine
   zero_byte : IsShort line → HasZero line → IsOtherwise line ZeroByte
-  inner_quote : IsShort line → (HasZero line → ⊥) → IsFalse (is_comment line) → (HasArguments line → ⊥) → IsOtherwise line InnerQuote
-  all_ports : IsShort line → (HasZero line → ⊥) → IsFalse (is_comment line) → HasArguments line → NegatesAllPorts (words line)
+  inner_quote : IsShort line → (HasZero line → ⊥) → IsFalse (is_comment line) → (HasSameArguments line → ⊥) → IsOtherwise line InnerQuote
+  all_ports : IsShort line → (HasZero line → ⊥) → IsFalse (is_comment line) → HasSameArguments line → NegatesAllPorts (words line)
       → IsOtherwise line AllPorts
 
 -- 2. Texts.

@@ -60,7 +60,11 @@ fn after_blank(byte: u8) -> Place
     if is_blank(byte) {
         return Place::Between;
     }
-    if byte == b'"' { Place::Text } else { Place::Token }
+    if byte == b'"' {
+        Place::Text
+    } else {
+        Place::Token
+    }
 }
 
 fn in_token(byte: u8) -> Place
@@ -69,7 +73,11 @@ fn in_token(byte: u8) -> Place
     if is_blank(byte) {
         return Place::Between;
     }
-    if byte == b'"' { Place::Bad } else { Place::Token }
+    if byte == b'"' {
+        Place::Bad
+    } else {
+        Place::Token
+    }
 }
 
 fn in_text(byte: u8) -> Place
@@ -85,5 +93,9 @@ fn in_text(byte: u8) -> Place
 fn after_text(byte: u8) -> Place
     ensures { result ≡ place_after Place.Behind byte }
 {
-    if is_blank(byte) { Place::Between } else { Place::Bad }
+    if is_blank(byte) {
+        Place::Between
+    } else {
+        Place::Bad
+    }
 }
