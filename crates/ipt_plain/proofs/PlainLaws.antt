@@ -1,7 +1,7 @@
 -- The call returns the first line that is read otherwise, or nothing if and only if the text is read in the same way.
 use Rattle.std.proofs.Common.{◌≡◌, ◌<◌, ◌+◌, ℕ, zero, suc, ◌⊎◌, inl, inr, Bool, true, false, not, ◌||◌, cond, nat_lt, List, [], ◌∷◌, ◌++◌, Option, Some, None, length, get_or, refl, sym, ap, subst, ◌∙◌, arith}
 use Rattle.std.specs.Prelude.{All, IfNone, IfSome, codes, ◌==◌}
-use Rattle.std.proofs.lemmas.Bool.{or_cases, or_left, or_right, or_parts}
+use Rattle.std.proofs.lemmas.Bool.{or_cases, or_left, or_right, or_parts, or_from}
 use Rattle.std.proofs.lemmas.Bool.Decides.{nat_tests}
 use Rattle.text_core.specs.Lines.{lines, words, is_comment}
 use Rattle.text_core.proofs.StepsLaws.{bytes_same, bytes_own}
@@ -218,3 +218,95 @@ fault_if_some bytes o e = some_of bytes o (answers bytes o e)
 
 pub none_if_plain : (bytes : List ℕ) (o : Option PlainFault) → o ≡ text_fault false 1 (lines bytes) → IsPlain bytes → o ≡ None
 none_if_plain bytes o e given = e ∙ plain_none bytes given
+
+-- 5. A text has at most one fault, and none if it is plain.
+
+-- The first reason of some tests on a line.
+abbrev first_reason : (too_long dirty comment arguments ports : Bool) → Option PlainWhy
+first_reason too_long dirty comment arguments ports =
+    cond too_long (Some LongLine) (cond dirty (Some ZeroByte) (cond comment None (cond (not arguments) (Some InnerQuote) (cond ports (Some AllPorts) None))))
+
+tested : (line : List ℕ)
+    → line_fault line ≡ first_reason (nat_lt 10239 (length line)) (has_zero line) (is_comment line) (has_arguments Between line) (negates_all_ports [] [] (words line))
+unfolding line_fault
+tested line = refl
+
+is_short : (line : List ℕ) → IsShort line → nat_lt 10239 (length line) ≡ false
+is_short line h = grind (arith, nat_tests)
+
+is_long : (line : List ℕ) → 10239 < length line → nat_lt 10239 (length line) ≡ true
+is_long line h = grind (arith, nat_tests)
+
+has_no_zero : (line : List ℕ) (t : Bool) → has_zero line ≡ t → (HasZero line → ⊥) → has_zero line ≡ false
+has_no_zero line true h none = absurd (none (zero_said line h))
+has_no_zero line false h none = h
+
+has_none : (line : List ℕ) (t : Bool) → has_arguments Between line ≡ t → (HasSameArguments line → ⊥) → has_arguments Between line ≡ false
+has_none line true h none = absurd (none (accepted line h))
+has_none line false h none = h
+
+otherwise_is : (line : List ℕ) (why : PlainWhy) → IsOtherwise line why → line_fault line ≡ Some why
+otherwise_is line _ (long h) =
+    tested line ∙ (λ i. first_reason (is_long line h i) (has_zero line) (is_comment line) (has_arguments Between line) (negates_all_ports [] [] (words line)))
+otherwise_is line _ (zero_byte short there) =
+    let zero_is = zero_at line there.0 there.1 there.2 in
+    tested line ∙ (λ i. first_reason (is_short line short i) (zero_is i) (is_comment line) (has_arguments Between line) (negates_all_ports [] [] (words line)))
+otherwise_is line _ (inner_quote short clean comment none) =
+    let zero_is = has_no_zero line (has_zero line) refl clean in
+    let arguments_are = has_none line (has_arguments Between line) refl none in
+    tested line ∙ (λ i. first_reason (is_short line short i) (zero_is i) (comment i) (arguments_are i) (negates_all_ports [] [] (words line)))
+otherwise_is line _ (all_ports short clean comment given ports) =
+    let zero_is = has_no_zero line (has_zero line) refl clean in
+    let arguments_are = accepts line given.arguments given.here in
+    let ports_are = found (words line) ports in
+    tested line ∙ (λ i. first_reason (is_short line short i) (zero_is i) (comment i) (arguments_are i) (ports_are i))
+
+abbrev fault_at : ℕ → PlainWhy → Option PlainFault
+fault_at n why = Some (record { line = n; why = why })
+
+renumbered : (a b : ℕ) (why : PlainWhy) → a ≡ b → fault_at a why ≡ fault_at b why
+renumbered a b why e = ap (λ (n : ℕ). fault_at n why) e
+
+fault_goes : (front behind : List (List ℕ)) (line : List ℕ) (n : ℕ) (forward : Bool) (why : PlainWhy) → All IsPlainLine front → IsOtherwise line why
+    → text_fault forward n (front ++ (line ∷ behind)) ≡ fault_at (n + length front) why
+fault_goes [] behind line n forward why each bad =
+    ap (λ (o : Option PlainWhy). fault_or o n (text_fault (forward || is_forward line) (n + 1) behind)) (otherwise_is line why bad)
+    ∙ renumbered n (n + length {A = List ℕ} []) why (omega arith)
+fault_goes (l ∷ front) behind line n forward why each bad =
+    let here : line_fault l ≡ None = line_plain l (each 0 l (omega arith)) in
+    let later : All IsPlainLine front = λ k d within. each (suc k) d (omega arith) in
+    ap (λ (o : Option PlainWhy). fault_or o n (text_fault (forward || is_forward l) (n + 1) (front ++ (line ∷ behind)))) here
+    ∙ (fault_goes front behind line (n + 1) (forward || is_forward l) why later bad ∙ renumbered (n + 1 + length front) (n + length (l ∷ front)) why (omega arith))
+
+missing_goes : (ls : List (List ℕ)) (n : ℕ) (forward : Bool) → All IsPlainLine ls → forward ≡ false → (HasForward ls → ⊥)
+    → text_fault forward n ls ≡ fault_at (n + length ls) NoForward
+missing_goes [] n forward each none_before none_there = rw none_before (renumbered n (n + length {A = List ℕ} []) NoForward (omega arith))
+missing_goes (l ∷ ls) n forward each none_before none_there =
+    let here : line_fault l ≡ None = line_plain l (each 0 l (omega arith)) in
+    let later : All IsPlainLine ls = λ k d within. each (suc k) d (omega arith) in
+    let not_here = no_forward_line l ls (is_forward l) refl none_there in
+    ap (λ (o : Option PlainWhy). fault_or o n (text_fault (forward || is_forward l) (n + 1) ls)) here
+    ∙ (missing_goes ls (n + 1) (forward || is_forward l) later (or_from forward (is_forward l) none_before not_here) (λ there. none_there (forward_later l ls there))
+    ∙ renumbered (n + 1 + length ls) (n + length (l ∷ ls)) NoForward (omega arith))
+  where
+    no_forward_line : (l : List ℕ) (ls : List (List ℕ)) (t : Bool) → is_forward l ≡ t → (HasForward (l ∷ ls) → ⊥) → is_forward l ≡ false
+    no_forward_line l ls true h none = absurd (none (forward_here l ls h))
+    no_forward_line l ls false h none = h
+
+fault_is : (bytes : List ℕ) (n : ℕ) (why : PlainWhy) → HasPlainFault bytes n why → text_fault false 1 (lines bytes) ≡ fault_at n why
+fault_is bytes _ why (at_line front behind line parts each bad) = ap (λ (ls : List (List ℕ)). text_fault false 1 ls) parts ∙ fault_goes front behind line 1 false why each bad
+fault_is bytes _ _ (no_forward each none_there) = missing_goes (lines bytes) 1 false each refl none_there
+
+pub one_plain_fault : (bytes : List ℕ) (n m : ℕ) (v w : PlainWhy) → HasPlainFault bytes n v → HasPlainFault bytes m w → (n ≡ m) × (v ≡ w)
+one_plain_fault bytes n m v w first other =
+    let same = inner (record { line = n; why = v }) (record { line = m; why = w }) (sym (fault_is bytes n v first) ∙ fault_is bytes m w other) in
+    (ap (λ (fault : PlainFault). fault.line) same, ap (λ (fault : PlainFault). fault.why) same)
+  where
+    inner : (a b : PlainFault) → Some a ≡ Some b → a ≡ b
+    inner a b e = cc
+
+pub not_plain_with_fault : (bytes : List ℕ) (n : ℕ) (why : PlainWhy) → IsPlain bytes → HasPlainFault bytes n why → ⊥
+not_plain_with_fault bytes n why given fault =
+    let one = plain_none bytes given in
+    let other = fault_is bytes n why fault in
+    cc
