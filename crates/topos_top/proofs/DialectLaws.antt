@@ -9,6 +9,8 @@ use Rattle.emit_core.proofs.WritableLaws.{layout_short, layout_writable}
 use Rattle.flow_set.specs.declared.flow.Flow.{Flow}
 use Rattle.host_net.specs.Packet.{IsPacket}
 use Rattle.host_net.specs.inner.Site.{IsSite}
+use Rattle.ipt_plain.specs.Plain.{HasPlainFault, name as plain_reason}
+use Rattle.ipt_plain.proofs.PlainLaws.{one_plain_fault, not_plain_with_fault}
 use Rattle.ipt_read.proofs.AgainLaws.{text_read_again}
 use Rattle.ipt_read.proofs.FaultLaws.{one_reading, one_fault, no_reading_with_fault}
 use Rattle.ipt_read.specs.TextLines.{HasFault as HasFaultInRules, name as rules_reason}
@@ -31,12 +33,15 @@ use Rattle.topos_top.specs.inner.Forms.{dialect_named}
 use Rattle.topos_top.proofs.TextFaultLaws.{same_line}
 
 -- The laws of a dialect. Bytes parse to unique rules, or have a unique line that reports their fault. Rules forward a packet or do not, in an
--- audit too. The rules of a policy enforce it and parse back, or a unique line gives the reason why they cannot be emitted.
+-- audit too. A text that other programs read in the same way has no line that they may read otherwise, and another one a unique first such
+-- line. The rules of a policy enforce it and parse back, or a unique line gives the reason why they cannot be emitted.
 pub record IsLawful (language : RuleDialect) : Type 1 where
   pub one_reading : (bytes : List ℕ) (rules others : language.Rules) → language.IsReading bytes rules → language.IsReading bytes others
       → rules ≡ others
   pub reads_or_refuses : (bytes line : List ℕ) (rules : language.Rules) → language.IsReading bytes rules → language.Refuses bytes line → ⊥
   pub refuses_once : (bytes a b : List ℕ) → language.Refuses bytes a → language.Refuses bytes b → a ≡ b
+  pub plain_or_otherwise : (bytes line : List ℕ) → language.IsPlain bytes → language.IsOtherwise bytes line → ⊥
+  pub otherwise_once : (bytes a b : List ℕ) → language.IsOtherwise bytes a → language.IsOtherwise bytes b → a ≡ b
   pub too_long : (bytes : List ℕ) → language.byte_limit < length bytes → language.Refuses bytes (fault_line (codes "rules") 0 (codes "TooLong"))
   pub answers_once : (bytes : List ℕ) (rules : language.Rules) → language.IsReading bytes rules → AnswersOnce IsPacket (language.filter rules)
   pub audited_filter : (rules : language.Rules) → filter_of (language.audited rules) ≡ language.filter rules
@@ -54,6 +59,8 @@ iptables_laws = record {
   one_reading = one_reading;
   reads_or_refuses = λ bytes line chains read refused. no_reading_with_fault bytes chains refused.number refused.why refused.fault read;
   refuses_once = λ bytes. same_line (codes "rules") rules_reason HasFaultInRules bytes (one_fault bytes);
+  plain_or_otherwise = λ bytes line plain otherwise. not_plain_with_fault bytes otherwise.number otherwise.why plain otherwise.fault;
+  otherwise_once = λ bytes. same_line (codes "rules") plain_reason HasPlainFault bytes (one_plain_fault bytes);
   too_long = λ bytes long. record { number = 0; why = RulesTooLong; fault = too_long long; told = refl };
   answers_once = λ bytes chains read state p a b known. chains_answer_once chains state p a b tt;
   audited_filter = λ chains. refl;
@@ -88,6 +95,8 @@ openflow_laws = record {
   one_reading = one_reading_of_flows;
   reads_or_refuses = λ bytes line entries read refused. no_flows_with_fault bytes entries refused.number refused.why refused.fault read;
   refuses_once = λ bytes. same_line (codes "rules") flows_reason HasFaultInFlows bytes (one_fault_in_flows bytes);
+  plain_or_otherwise = λ bytes line plain otherwise. absurd otherwise;
+  otherwise_once = λ bytes a b first other. absurd first;
   too_long = λ bytes long. record { number = 0; why = FlowsTooLong; fault = too_long long; told = refl };
   answers_once = λ bytes entries read. table_answers_once entries (reading_is_table bytes entries read);
   audited_filter = λ entries. refl;

@@ -9,6 +9,7 @@ use Rattle.emit_core.specs.Layout.{layout}
 use Rattle.emit_core.specs.OtherStates.{HaveNoOtherState}
 use Rattle.emit_core.specs.PortRanges.{HasNoRange, IsFirstRange}
 use Rattle.flow_set.specs.declared.flow.Flow.{Flow}
+use Rattle.ipt_plain.specs.Plain.{IsPlain as IsPlainRules, HasPlainFault, name as plain_reason}
 use Rattle.ipt_read.specs.TextLines.{IsReading as IsReadingOfRules, HasFault as HasFaultInRules, name as rules_reason, rules_text}
 use Rattle.ipt_rules.specs.Chain.{Chain}
 use Rattle.ipt_rules.specs.ChainTable.{rule_count}
@@ -28,8 +29,9 @@ use Rattle.topos_top.specs.declared.dialect.Dialect.{Dialect}
 use Rattle.topos_top.specs.declared.dialect.Dialect.TheVariants.{Iptables, OpenFlow}
 
 -- A dialect: its name on the command line, the type of its rules, their text, the size limit of the parser, the rules that a text parses
--- to, the reasons to reject a text, the packets that rules forward in each state, the rules in the form of an audit, the treatment of
--- other frames, and of states besides NEW and ESTABLISHED; and, for a policy, its rules, if they can be emitted, and the line that gives the
+-- to, the reasons to reject a text, the texts that other programs read in the same way, and the line that reports the first line of a text
+-- that they may read otherwise; the packets that rules forward in each state, the rules in the form of an audit, the treatment of other
+-- frames, and of states besides NEW and ESTABLISHED; and, for a policy, its rules, if they can be emitted, and the line that gives the
 -- reason otherwise (docs/TEXTS.md).
 pub record RuleDialect : Type 1 where
   pub word : List ℕ
@@ -38,6 +40,8 @@ pub record RuleDialect : Type 1 where
   pub byte_limit : ℕ
   pub IsReading : List ℕ → Rules → Type 0
   pub Refuses : (bytes line : List ℕ) → Type 0
+  pub IsPlain : List ℕ → Type 0
+  pub IsOtherwise : (bytes line : List ℕ) → Type 0
   pub filter : Rules → Filter
   pub audited : Rules → AuditedRules
   pub OtherFrames : Rules → Type 0
@@ -60,6 +64,8 @@ iptables = record {
   byte_limit = rules_text.byte_limit;
   IsReading = IsReadingOfRules;
   Refuses = ReportsFault (codes "rules") rules_reason HasFaultInRules;
+  IsPlain = IsPlainRules;
+  IsOtherwise = ReportsFault (codes "rules") plain_reason HasPlainFault;
   filter = PassesChains;
   audited = Chains;
   OtherFrames = λ chains. Unit {0};
@@ -88,6 +94,8 @@ openflow = record {
   byte_limit = flows_text.byte_limit;
   IsReading = IsReadingOfFlows;
   Refuses = ReportsFault (codes "rules") flows_reason HasFaultInFlows;
+  IsPlain = λ bytes. Unit {0};
+  IsOtherwise = λ bytes line. ⊥;
   filter = PassesTable;
   audited = Entries;
   OtherFrames = ForwardsArpAlone;

@@ -1,5 +1,5 @@
 -- The file formats: the parse result of a file of each kind, and the reasons to reject it.
-use Rattle.std.specs.Prelude.{◌≡◌, ℕ, List, Ok, Err, codes}
+use Rattle.std.specs.Prelude.{◌≡◌, ◌⊎◌, ℕ, List, Ok, Err, codes}
 use Rattle.desc_core.specs.Conditions.{byte_limit}
 use Rattle.desc_core.specs.Description.{described}
 use Rattle.desc_core.specs.Migrated.{IsMigrated}
@@ -12,11 +12,11 @@ use Rattle.pkt_core.specs.EventsText.{IsReading as IsReadingOfEvents, IsRefused 
 use Rattle.pkt_core.specs.declared.event.Event.{Event}
 use Rattle.report_core.specs.RefusalLine.{refusal_text}
 use Rattle.toml.specs.Data.{Members}
-use Rattle.topos_top.specs.Dialects.{rule_dialect_of}
+use Rattle.topos_top.specs.Dialects.{RuleDialect, rule_dialect_of}
 use Rattle.topos_top.specs.Reply.{Reply, error}
 use Rattle.topos_top.specs.TextFault.{ReportsFault, list_reason}
 use Rattle.topos_top.specs.declared.kind.Kind.{Kind}
-use Rattle.topos_top.specs.declared.kind.Kind.TheVariants.{Description, Rules, Events, Document, Edited, Edits}
+use Rattle.topos_top.specs.declared.kind.Kind.TheVariants.{Description, Rules, PlainRules, Events, Document, Edited, Edits}
 use Rattle.topos_top.specs.declared.status.Status.{Status}
 use Rattle.topos_top.specs.declared.status.Status.TheVariants as status
 
@@ -41,10 +41,17 @@ description Said Reads = record { Said = Said; most = byte_limit; Reads = Reads;
 abbrev pub text : (Said : Type 0) → ℕ → (List ℕ → Said → Type 0) → (Refuses : (bytes line : List ℕ) → Type 0) → FileFormat
 text Said most Reads Refuses = record { Said = Said; most = most; Reads = Reads; Refuses = Refuses; refused_as = status.BadText }
 
+-- Rules of a dialect, from a text that other programs read in the same way.
+abbrev pub plain_rules : RuleDialect → FileFormat
+plain_rules dialect =
+    text dialect.Rules dialect.byte_limit (λ bytes rules. dialect.IsReading bytes rules × dialect.IsPlain bytes)
+    (λ bytes line. dialect.Refuses bytes line ⊎ ((rules : dialect.Rules) × dialect.IsReading bytes rules × dialect.IsOtherwise bytes line))
+
 -- The format of each kind of file.
 abbrev pub format_of : Kind → FileFormat
 format_of Description = description Network (λ bytes d. described bytes ≡ Ok d)
 format_of (Rules dialect) = text (rule_dialect_of dialect).Rules (rule_dialect_of dialect).byte_limit (rule_dialect_of dialect).IsReading (rule_dialect_of dialect).Refuses
+format_of (PlainRules dialect) = plain_rules (rule_dialect_of dialect)
 format_of Events = text (List Event) events_text.byte_limit IsReadingOfEvents (ReportsFault (codes "events") list_reason IsRefusedInEvents)
 format_of Document = description (List ℕ) IsMigrated
 format_of Edited = description Members (λ bytes table. IsStarted bytes (Ok table))

@@ -6,7 +6,7 @@ ghost use Rattle.rules_space.specs.Rules.{filter_of};
 ghost use Rattle.rules_space.specs.RulesView.{rules_of};
 ghost use Rattle.report_core.specs.Trace.{IsTrace};
 ghost use Rattle.topos_top.specs.Dialects.{rule_dialect_of};
-ghost use Rattle.topos_top.specs.inner.DialectCalls.{IsLayout, IsRead};
+ghost use Rattle.topos_top.specs.inner.DialectCalls.{IsLayout, IsRead, IsReadPlainly};
 ghost use Rattle.topos_top.specs.inner.Forms.{dialect_named};
 ghost use Rattle.topos_top.specs.inner.Views.{rules_lines, rules_view};
 
@@ -59,6 +59,16 @@ impl Dialect {
         match self {
             Dialect::Iptables => chains::read(alloc, bytes),
             Dialect::OpenFlow => flows::read(alloc, bytes),
+        }
+    }
+
+    /// Parses rules from a text that other programs read in the same way.
+    pub fn read_plain(self, alloc: Global, bytes: &[u8]) -> Result<Rules, RulesFault>
+        ensures { IsReadPlainly self bytes.now result }
+    {
+        match self {
+            Dialect::Iptables => chains::read_plain(alloc, bytes),
+            Dialect::OpenFlow => flows::read_plain(alloc, bytes),
         }
     }
 

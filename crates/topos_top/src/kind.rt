@@ -21,6 +21,8 @@ pub enum Kind {
     Description,
     /// Rules of a dialect.
     Rules(Dialect),
+    /// Rules of a dialect, in a text that other programs read in the same way.
+    PlainRules(Dialect),
     /// A list of events.
     Events,
     /// A description to be migrated.
@@ -40,6 +42,7 @@ impl Kind {
         match self {
             Kind::Description | Kind::Document | Kind::Edited => desc_core::BYTE_LIMIT,
             Kind::Rules(dialect) => dialect.byte_limit(),
+            Kind::PlainRules(dialect) => dialect.byte_limit(),
             Kind::Events => EVENTS_BYTE_LIMIT,
             Kind::Edits => EDITS_BYTE_LIMIT,
         }
@@ -54,6 +57,7 @@ impl Kind {
             Kind::Document => too_long_description(),
             Kind::Edited => too_long_description(),
             Kind::Rules(_) => Answer::bad_text(b"rules", 0, b"TooLong"),
+            Kind::PlainRules(_) => Answer::bad_text(b"rules", 0, b"TooLong"),
             Kind::Events => Answer::bad_text(b"events", 0, b"TooLong"),
             Kind::Edits => Answer::bad_text(b"edits", 0, b"TooLong"),
         }

@@ -38,6 +38,6 @@ pub use ending::deliver;
 pub use flow_policy::policy_between;
 pub use local::no_host_line;
 pub use program::run;
-pub use reading::{read_description, read_rules};
+pub use reading::{read_description, read_plain_rules, read_rules};
 pub use status::{Status, Stream};
 pub use text::Text;

@@ -1,7 +1,7 @@
 //! Reading and parsing a file of each kind. A file that is not accepted ends the run with its
 //! reply.
 
-ghost use Rattle.topos_top.specs.inner.Reads.{MayTake, MayRead, MayReadRules};
+ghost use Rattle.topos_top.specs.inner.Reads.{MayTake, MayRead, MayReadRules, MayReadPlainRules};
 ghost use Rattle.topos_top.specs.Shelf.{shelf_change};
 ghost use Rattle.topos_top.specs.inner.Views.{outcome_view, items_view, rules_outcome, session_view, edits_view};
 
@@ -41,6 +41,24 @@ pub fn read_rules<'a, H: Shelf>(
 {
     let bytes = take(alloc, Kind::Rules(dialect), name, shelf)?;
     match dialect.read(alloc, &bytes) {
+        Ok(rules) => Ok(rules),
+        Err(RulesFault::Refused(line, reason)) => Err(Answer::bad_text(b"rules", line, reason)),
+        Err(RulesFault::Memory) => Err(Answer::no_memory()),
+    }
+}
+
+/// Reads the rules of a file that other programs read in the same way: `iptables-restore`, for
+/// chains.
+pub fn read_plain_rules<'a, H: Shelf>(
+    alloc: Global,
+    dialect: Dialect,
+    name: &'a str,
+    shelf: &mut H,
+) -> Result<Rules, Answer<'a>>
+    ensures { MayReadPlainRules dialect name.now (shelf_change H.Shelf shelf.old shelf.new) (rules_outcome result) }
+{
+    let bytes = take(alloc, Kind::PlainRules(dialect), name, shelf)?;
+    match dialect.read_plain(alloc, &bytes) {
         Ok(rules) => Ok(rules),
         Err(RulesFault::Refused(line, reason)) => Err(Answer::bad_text(b"rules", line, reason)),
         Err(RulesFault::Memory) => Err(Answer::no_memory()),

@@ -5,10 +5,12 @@ use Rattle.std.specs.Global.{Global}
 use Rattle.std.specs.declared.vec.Vec.{Vec}
 use Rattle.pkt_core.specs.FlowPolicy.{FlowPolicy}
 use Rattle.topos_top.specs.Dialects.{rule_dialect_of}
+use Rattle.topos_top.specs.FileFormats.{format_of}
 use Rattle.topos_top.specs.TextFault.{fault_line}
 use Rattle.topos_top.specs.inner.Views.{rules_lines, rules_view}
 use Rattle.topos_top.specs.declared.dialect.Dialect.{Dialect}
 use Rattle.topos_top.specs.declared.dialect.Rules.{Rules}
+use Rattle.topos_top.specs.declared.kind.Kind.TheVariants.{PlainRules}
 use Rattle.topos_top.specs.declared.dialect.RulesFault.{RulesFault}
 use Rattle.topos_top.specs.declared.dialect.RulesFault.TheVariants.{Refused, Memory}
 
@@ -21,6 +23,16 @@ IsFault dialect bytes Memory = Unit {0}
 abbrev pub IsRead : Dialect → (bytes : List ℕ) → Result Rules RulesFault → Type 0
 IsRead dialect bytes (Ok rules) = (said : (rule_dialect_of dialect).Rules) × (rules_view rules ≡ (rule_dialect_of dialect).audited said) × (rule_dialect_of dialect).IsReading bytes said
 IsRead dialect bytes (Err fault) = IsFault dialect bytes fault
+
+-- The same for rules that other programs read in the same way.
+abbrev pub IsPlainFault : Dialect → (bytes : List ℕ) → RulesFault → Type 0
+IsPlainFault dialect bytes (Refused line reason) = (format_of (PlainRules dialect)).Refuses bytes (fault_line (codes "rules") line reason.now)
+IsPlainFault dialect bytes Memory = Unit {0}
+
+abbrev pub IsReadPlainly : Dialect → (bytes : List ℕ) → Result Rules RulesFault → Type 0
+IsReadPlainly dialect bytes (Ok rules) =
+    (said : (rule_dialect_of dialect).Rules) × (rules_view rules ≡ (rule_dialect_of dialect).audited said) × (format_of (PlainRules dialect)).Reads bytes said
+IsReadPlainly dialect bytes (Err fault) = IsPlainFault dialect bytes fault
 
 -- The result of the layout of a policy in a dialect: its rules, by their text, or the line with the reason why they cannot be emitted.
 abbrev pub IsLayout : Dialect → FlowPolicy → Result Rules (Vec ℕ Global) → Type 0

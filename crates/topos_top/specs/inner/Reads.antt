@@ -8,7 +8,7 @@ use Rattle.topos_top.specs.Reply.{Reply}
 use Rattle.topos_top.specs.Shelf.{ShelfChange, ObservesFile, ConsumesBytes}
 use Rattle.topos_top.specs.declared.dialect.Dialect.{Dialect}
 use Rattle.topos_top.specs.declared.kind.Kind.{Kind}
-use Rattle.topos_top.specs.declared.kind.Kind.TheVariants.{Rules}
+use Rattle.topos_top.specs.declared.kind.Kind.TheVariants.{Rules, PlainRules}
 
 -- The bytes of a file were read.
 pub record ConsumesFile (shelf : ShelfChange) (kind : Kind) (file bytes : List ℕ) : Type 0 where
@@ -33,3 +33,13 @@ pub record ReadRules (shelf : ShelfChange) (dialect : Dialect) (file : List ℕ)
 abbrev pub MayReadRules : Dialect → (file : List ℕ) → ShelfChange → Result AuditedRules Reply → Type 0
 MayReadRules dialect file shelf (Ok rules) = ReadRules shelf dialect file rules
 MayReadRules dialect file shelf (Err given) = StopsRunAt shelf (Rules dialect) file given
+
+-- The same for rules that other programs read in the same way.
+pub record ReadPlainRules (shelf : ShelfChange) (dialect : Dialect) (file : List ℕ) (rules : AuditedRules) : Type 0 where
+  pub said : (rule_dialect_of dialect).Rules
+  pub told : rules ≡ (rule_dialect_of dialect).audited said
+  pub read : MayRead (PlainRules dialect) file shelf (Ok said)
+
+abbrev pub MayReadPlainRules : Dialect → (file : List ℕ) → ShelfChange → Result AuditedRules Reply → Type 0
+MayReadPlainRules dialect file shelf (Ok rules) = ReadPlainRules shelf dialect file rules
+MayReadPlainRules dialect file shelf (Err given) = StopsRunAt shelf (PlainRules dialect) file given

@@ -1,12 +1,13 @@
 //! Chains of iptables: their parse, and the chains of a policy.
 
-ghost use Rattle.std.specs.Prelude.{IfOk};
+ghost use Rattle.std.specs.Prelude.{IfOk, Ok};
 ghost use Rattle.topos_top.specs.declared.dialect.Dialect.TheVariants.{Iptables};
-ghost use Rattle.topos_top.specs.inner.DialectCalls.{IsLayout, IsRead};
+ghost use Rattle.topos_top.specs.inner.DialectCalls.{IsLayout, IsRead, IsReadPlainly};
 
 use crate::dialect::{Rules, RulesFault};
 use crate::hindrance::count_line;
 use emit_core::{NoChains, iptables_layout};
+use ipt_plain::plain_fault;
 use ipt_read::IptFault;
 use pkt_core::FlowPolicy;
 use std::alloc::{AllocError, Global};
@@ -19,6 +20,27 @@ pub fn read(alloc: Global, bytes: &[u8]) -> Result<Rules, RulesFault>
         Ok(chains) => Ok(Rules::Chains(chains)),
         Err(IptFault::Refused { line, why }) => Err(RulesFault::Refused(line, why.name())),
         Err(IptFault::Memory) => Err(RulesFault::Memory),
+    }
+}
+
+/// Parses chains from a text that `iptables-restore` reads in the same way.
+pub fn read_plain(alloc: Global, bytes: &[u8]) -> Result<Rules, RulesFault>
+    ensures { IsReadPlainly Iptables bytes.now result }
+{
+    match read(alloc, bytes) {
+        Ok(rules) => if_plain(rules, bytes),
+        Err(fault) => Err(fault),
+    }
+}
+
+/// Returns the parsed chains if `iptables-restore` reads the text in the same way.
+fn if_plain(rules: Rules, bytes: &[u8]) -> Result<Rules, RulesFault>
+    requires { IsRead Iptables bytes.now (Ok rules) }
+    ensures { IsReadPlainly Iptables bytes.now result }
+{
+    match plain_fault(bytes) {
+        None => Ok(rules),
+        Some(fault) => Err(RulesFault::Refused(fault.line, fault.why.name())),
     }
 }
 

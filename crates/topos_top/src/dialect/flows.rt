@@ -2,7 +2,7 @@
 
 ghost use Rattle.std.specs.Prelude.{IfOk};
 ghost use Rattle.topos_top.specs.declared.dialect.Dialect.TheVariants.{OpenFlow};
-ghost use Rattle.topos_top.specs.inner.DialectCalls.{IsLayout, IsRead};
+ghost use Rattle.topos_top.specs.inner.DialectCalls.{IsLayout, IsRead, IsReadPlainly};
 
 use crate::dialect::{Rules, RulesFault};
 use crate::hindrance::{count_line, flow_line};
@@ -19,6 +19,16 @@ pub fn read(alloc: Global, bytes: &[u8]) -> Result<Rules, RulesFault>
         Ok(table) => Ok(Rules::Table(table)),
         Err(OfpFault::Refused { line, why }) => Err(RulesFault::Refused(line, why.name())),
         Err(OfpFault::Memory) => Err(RulesFault::Memory),
+    }
+}
+
+/// Parses a flow table from a text that other programs read in the same way, which each is.
+pub fn read_plain(alloc: Global, bytes: &[u8]) -> Result<Rules, RulesFault>
+    ensures { IsReadPlainly OpenFlow bytes.now result }
+{
+    match read(alloc, bytes) {
+        Ok(rules) => Ok(rules),
+        Err(fault) => Err(fault),
     }
 }
 
