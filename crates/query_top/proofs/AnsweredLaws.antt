@@ -168,11 +168,11 @@ answer_kept shelf out err (Why file from to) came =
     wrote shelf out err file (λ d. why_outcomes d from to) (λ d. IsWhy d from to) (λ d. why_done d from to) came
 answer_kept shelf out err (Network file) came = wrote shelf out err file network_outcomes IsNetworkAnswer network_done came
 answer_kept shelf out err (Flows dialect file rules) came =
-    both_read status.Done shelf out err (kind.Rules dialect) file rules (λ d said. flows_outcomes d.hosts ((rule_dialect_of dialect).audited said))
+    both_read status.Done shelf out err (kind.PlainRules dialect) file rules (λ d said. flows_outcomes d.hosts ((rule_dialect_of dialect).audited said))
     (λ d said. Wrote out (IsFlowsAnswer d.hosts ((rule_dialect_of dialect).audited said)))
     ((λ e. cc e), (λ e. cc e), (λ e. cc e), (λ e. cc e)) (λ d said. flows_done out err d.hosts ((rule_dialect_of dialect).audited said)) came
 answer_kept shelf out err (Compare dialect file rules) came =
-    both_read status.Done shelf out err (kind.Rules dialect) file rules (λ d said. compare_outcomes d ((rule_dialect_of dialect).audited said))
+    both_read status.Done shelf out err (kind.PlainRules dialect) file rules (λ d said. compare_outcomes d ((rule_dialect_of dialect).audited said))
     (λ d said. OfSides d ((rule_dialect_of dialect).audited said) (λ sides. AreEquivalent sides × AreSafe sides) × Appends out equal_json)
     ((λ e. cc e), (λ e. cc e), (λ e. cc e), (λ e. cc e)) (λ d said. compare_done out err d ((rule_dialect_of dialect).audited said)) came
 answer_kept shelf out err (Changes old new) came =
@@ -241,7 +241,7 @@ never_violated_by_rules : (shelf : ShelfChange) (out err : SinkChange) (dialect 
 never_violated_by_rules shelf out err dialect file rules (inl stopped) =
     stop_of (since shelf.before shelf) file (λ t. t ≡ status.Violated → ⊥) stopped.0 (λ e. cc e) (λ e. cc e) (λ e. cc e) stopped.1 stopped.2
 never_violated_by_rules shelf out err dialect file rules (inr on) = elim on.next [
-  | inl stopped ↦ not_at_file status.Violated shelf err (kind.Rules dialect) rules on.after ((λ e. cc e), (λ e. cc e), (λ e. cc e), (λ e. cc e)) stopped
+  | inl stopped ↦ not_at_file status.Violated shelf err (kind.PlainRules dialect) rules on.after ((λ e. cc e), (λ e. cc e), (λ e. cc e), (λ e. cc e)) stopped
   | inr went ↦ elim (flows_ends on.said.hosts ((rule_dialect_of dialect).audited went.said) status.Violated went.next.1.0 went.next.1.1) [ inl is ↦ cc is | inr is ↦ cc is ]
 ]
 
@@ -251,7 +251,7 @@ differences_kept shelf out err (Why file from to) came = never_violated shelf ou
 differences_kept shelf out err (Network file) came = never_violated shelf out err file network_outcomes network_ends came
 differences_kept shelf out err (Flows dialect file rules) came = absurd (never_violated_by_rules shelf out err dialect file rules came)
 differences_kept shelf out err (Compare dialect file rules) came =
-    both_read status.Violated shelf out err (kind.Rules dialect) file rules (λ d said. compare_outcomes d ((rule_dialect_of dialect).audited said))
+    both_read status.Violated shelf out err (kind.PlainRules dialect) file rules (λ d said. compare_outcomes d ((rule_dialect_of dialect).audited said))
     (λ d said. Wrote out (λ text. OfSides d ((rule_dialect_of dialect).audited said) (λ sides. ReportsDifferences sides text)))
     ((λ e. cc e), (λ e. cc e), (λ e. cc e), (λ e. cc e)) (λ d said. compare_differs out err d ((rule_dialect_of dialect).audited said)) came
 differences_kept shelf out err (Changes old new) came =

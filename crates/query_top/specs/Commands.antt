@@ -13,7 +13,7 @@ abbrev pub plan_of : Command → CommandPlan
 plan_of (Why file from to) = reads kind.Description file (λ d. ends (why_outcomes d from to))
 plan_of (Network file) = reads kind.Description file (λ d. ends (network_outcomes d))
 plan_of (Flows dialect file rules) =
-    reads kind.Description file (λ d. reads (kind.Rules dialect) rules (λ said. ends (flows_outcomes d.hosts ((rule_dialect_of dialect).audited said))))
+    reads kind.Description file (λ d. reads (kind.PlainRules dialect) rules (λ said. ends (flows_outcomes d.hosts ((rule_dialect_of dialect).audited said))))
 plan_of (Compare dialect file rules) =
-    reads kind.Description file (λ d. reads (kind.Rules dialect) rules (λ said. ends (compare_outcomes d ((rule_dialect_of dialect).audited said))))
+    reads kind.Description file (λ d. reads (kind.PlainRules dialect) rules (λ said. ends (compare_outcomes d ((rule_dialect_of dialect).audited said))))
 plan_of (Changes old new) = reads kind.Description old (λ before. reads kind.Description new (λ after. ends (changes_outcomes before after)))

@@ -53,16 +53,16 @@ abbrev pub AnswersQuestion : Command → ShelfChange → (out : SinkChange) → 
 AnswersQuestion (Why file from to) shelf out = WasRead shelf kind.Description file (λ d. Wrote out (IsWhy d from to))
 AnswersQuestion (Network file) shelf out = WasRead shelf kind.Description file (λ d. Wrote out (IsNetworkAnswer d))
 AnswersQuestion (Flows dialect file rules) shelf out = WasRead shelf kind.Description file
-    (λ d. WasRead shelf (kind.Rules dialect) rules (λ said. Wrote out (IsFlowsAnswer d.hosts ((rule_dialect_of dialect).audited said))))
+    (λ d. WasRead shelf (kind.PlainRules dialect) rules (λ said. Wrote out (IsFlowsAnswer d.hosts ((rule_dialect_of dialect).audited said))))
 AnswersQuestion (Compare dialect file rules) shelf out = WasRead shelf kind.Description file
-    (λ d. WasRead shelf (kind.Rules dialect) rules (λ said. OfSides d ((rule_dialect_of dialect).audited said) (λ sides. AreEquivalent sides × AreSafe sides) × Appends out equal_json))
+    (λ d. WasRead shelf (kind.PlainRules dialect) rules (λ said. OfSides d ((rule_dialect_of dialect).audited said) (λ sides. AreEquivalent sides × AreSafe sides) × Appends out equal_json))
 AnswersQuestion (Changes old new) shelf out = WasRead shelf kind.Description old (λ before. WasRead shelf kind.Description new (λ after. Wrote out (IsChangesAnswer before after false)))
 
 -- The question is a comparison with differences, or one on changes that weaken a flow, and the answer is on the output: the files, as the run
 -- saw them, describe a network and have rules, or describe two networks, and the answer has all differences, or all changes and weaker flows.
 abbrev pub OutputsDifferences : Command → ShelfChange → (out : SinkChange) → Type 0
 OutputsDifferences (Compare dialect file rules) shelf out = WasRead shelf kind.Description file
-    (λ d. WasRead shelf (kind.Rules dialect) rules (λ said. Wrote out (λ text. OfSides d ((rule_dialect_of dialect).audited said) (λ sides. ReportsDifferences sides text))))
+    (λ d. WasRead shelf (kind.PlainRules dialect) rules (λ said. Wrote out (λ text. OfSides d ((rule_dialect_of dialect).audited said) (λ sides. ReportsDifferences sides text))))
 OutputsDifferences (Changes old new) shelf out = WasRead shelf kind.Description old (λ before. WasRead shelf kind.Description new (λ after. Wrote out (IsChangesAnswer before after true)))
 OutputsDifferences _ shelf out = ⊥
 

@@ -21,7 +21,7 @@ use host_net::Hosts;
 use net_core::policy_of;
 use query_core::compare_json;
 use std::alloc::{AllocError, Global};
-use topos_top::{Answer, Dialect, Rules, Text, policy_between, read_description, read_rules};
+use topos_top::{Answer, Dialect, Rules, Text, policy_between, read_description, read_plain_rules};
 
 /// Returns the answer for the network that the file describes and the rules of the other file.
 pub fn reply<'a, H: Shelf>(
@@ -46,10 +46,10 @@ fn reply_for<'a, H: Shelf>(
     rules: &'a str,
     shelf: &mut H,
 ) -> Result<Answer<'a>, Answer<'a>>
-    ensures { IsPossibleReply true (reads (kind.Rules dialect) rules.now (λ said. ends (compare_outcomes description.now ((rule_dialect_of dialect).audited said))))
+    ensures { IsPossibleReply true (reads (kind.PlainRules dialect) rules.now (λ said. ends (compare_outcomes description.now ((rule_dialect_of dialect).audited said))))
         (shelf_change H.Shelf shelf.old shelf.new) (reply_in result) }
 {
-    let rules = read_rules(alloc, dialect, rules, shelf)?;
+    let rules = read_plain_rules(alloc, dialect, rules, shelf)?;
     Answer::of_outcomes(answer(alloc, description, &rules))
 }
 

@@ -17,7 +17,7 @@ use edge_io::Shelf;
 use host_net::Hosts;
 use query_core::flows_json;
 use std::alloc::{AllocError, Global};
-use topos_top::{Answer, Dialect, Rules, Text, read_description, read_rules};
+use topos_top::{Answer, Dialect, Rules, Text, read_description, read_plain_rules};
 
 /// Returns the answer for the hosts that the file describes and the rules of the other file.
 pub fn reply<'a, H: Shelf>(
@@ -42,10 +42,10 @@ fn reply_for<'a, H: Shelf>(
     rules: &'a str,
     shelf: &mut H,
 ) -> Result<Answer<'a>, Answer<'a>>
-    ensures { IsPossibleReply true (reads (kind.Rules dialect) rules.now (λ said. ends (flows_outcomes hosts.now ((rule_dialect_of dialect).audited said))))
+    ensures { IsPossibleReply true (reads (kind.PlainRules dialect) rules.now (λ said. ends (flows_outcomes hosts.now ((rule_dialect_of dialect).audited said))))
         (shelf_change H.Shelf shelf.old shelf.new) (reply_in result) }
 {
-    let rules = read_rules(alloc, dialect, rules, shelf)?;
+    let rules = read_plain_rules(alloc, dialect, rules, shelf)?;
     Answer::of_outcomes(answer(alloc, hosts, &rules))
 }
 

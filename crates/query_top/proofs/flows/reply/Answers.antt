@@ -4,7 +4,7 @@ use Rattle.topos_top.specs.Dialects.{rule_dialect_of}
 use Rattle.query_top.specs.Flows.{flows_outcomes}
 use Rattle.topos_top.specs.CommandPlan.{reads, ends}
 use Rattle.topos_top.specs.inner.Views.{reply_in}
-use Rattle.topos_top.specs.declared.kind.Kind.TheVariants.{Description, Rules}
+use Rattle.topos_top.specs.declared.kind.Kind.TheVariants.{Description, PlainRules}
 use Rattle.topos_top.proofs.CommandPlanLaws.{went_on}
 use Rattle.query_top.proofs.flows.reply.Goals as goal
 
@@ -15,5 +15,5 @@ returns-in_err-description g c =
 
 pub returns : goal.returns
 returns g c =
-    went_on true Description c.args.file.now (λ x. reads (Rules c.args.dialect) c.args.rules.now (λ said. ends (flows_outcomes x.hosts ((rule_dialect_of c.args.dialect).audited said)))) _ _ _
+    went_on true Description c.args.file.now (λ x. reads (PlainRules c.args.dialect) c.args.rules.now (λ said. ends (flows_outcomes x.hosts ((rule_dialect_of c.args.dialect).audited said)))) _ _ _
     c.in_ok-description.description (reply_in c.reply_for.result) c.in_ok-description.ensures (rw c.hosts.ensures.value at c.reply_for.ensures)
