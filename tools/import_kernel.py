@@ -4,19 +4,21 @@ A packet goes into the interface that its sender is behind, and is read from the
 IPv6, which no rule sees: once it is out, a packet that is not out was dropped.
 """
 import ctypes
-import importlib.util
 import os
 import select
 import shutil
 import struct
 import subprocess
-from types import ModuleType
+import sys
 
 from import_random import Packet
 from topos_tools.import_sets import address_text, prefix_text, prefixes
 from topos_tools.import_tables import Interfaces
 
-REAL = os.path.join(os.path.dirname(os.path.dirname(os.path.realpath(__file__))), 'checks', 'real')
+sys.path.append(os.path.join(os.path.dirname(os.path.dirname(os.path.realpath(__file__))), 'checks', 'real'))
+import box
+import packets
+
 TOOLS = ('ip', 'conntrack', 'iptables-nft-restore', 'iptables-legacy-restore')
 SYN, SYN_ACK, ACK = 0x02, 0x12, 0x10
 SETTINGS = {
@@ -25,18 +27,6 @@ SETTINGS = {
     'netfilter/nf_conntrack_tcp_be_liberal': '1', 'netfilter/nf_conntrack_tcp_loose': '1'}
 # flags, type of ICMP, number and number of what is acknowledged: of a first packet, its answer, a later packet
 PHASES = ((SYN, 8, 1000, 0), (SYN_ACK, 0, 5000, 1001), (ACK, 8, 1001, 5001))
-
-
-def of_checks(name: str) -> ModuleType:
-    """Returns a module of checks/real."""
-    specification = importlib.util.spec_from_file_location(f'checks_real_{name}', os.path.join(REAL, name + '.py'))
-    assert specification and specification.loader
-    module = importlib.util.module_from_spec(specification)
-    specification.loader.exec_module(module)
-    return module
-
-
-box, packets = of_checks('box'), of_checks('packets')
 
 
 class Kernel:
@@ -120,8 +110,9 @@ def read_all(opened: int) -> list[bytes]:
 
 def raw_packet(packet: Packet, phase: int, number: int) -> bytes:
     """Returns the bytes of a packet in a phase of its connection."""
-    sender, receiver, protocol, *ports = packet
-    event = packets.Event(False, address_text(sender), address_text(receiver), protocol, tuple(ports))
+    sender, receiver, protocol, *_ = packet
+    ports = packet[3], packet[4]
+    event = packets.Event(False, address_text(sender), address_text(receiver), protocol, ports)
     flags, kind, sent, got = PHASES[phase]
     if protocol == packets.TCP:
         head = struct.pack('!HHIIBBHHH', *ports, sent, got, 0x50, flags, 8192, 0, 0)
