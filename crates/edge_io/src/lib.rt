@@ -6,6 +6,7 @@
 
 mod begun;
 mod dir_shelf;
+mod error_sink;
 mod fault_plan;
 mod faults;
 mod mem_shelf;
@@ -17,6 +18,7 @@ mod take;
 mod traits;
 
 pub use dir_shelf::DirShelf;
+pub use error_sink::ErrorSink;
 pub use faults::{Failed, TakeFault, WriteFault};
 pub use mem_shelf::MemShelf;
 pub use mem_sink::MemSink;

@@ -1,7 +1,8 @@
 //! The program: its command-line arguments, the files of the operating system, and both streams.
 #![tactic(auto)]
 
-use edge_io::{DirShelf, StreamSink};
+use edge_io::{DirShelf, ErrorSink, StreamSink};
+use std::io::IsTerminal;
 use std::process::ExitCode;
 use std::rt::Env;
 use std::{env, io};
@@ -19,7 +20,9 @@ fn main(rt: HostRuntime) -> ExitCode {
     };
     let mut shelf = DirShelf::new(&rt);
     let mut out = StreamSink::new(rt.stdout());
-    let mut err = StreamSink::new(rt.stderr());
+    let errors = rt.stderr();
+    let is_terminal = errors.is_terminal();
+    let mut err = ErrorSink::new(errors, is_terminal);
     let status = topos_top::run(rt.alloc(), &words, &mut shelf, &mut out, &mut err);
     ExitCode::from(status.number())
 }

@@ -1,8 +1,9 @@
 //! The program `topos-query`: the words of its command line, the files of the system, and both streams.
 #![tactic(auto)]
 
-use edge_io::{DirShelf, StreamSink};
+use edge_io::{DirShelf, ErrorSink, StreamSink};
 use query_top::Status;
+use std::io::IsTerminal;
 use std::process::ExitCode;
 use std::rt::Env;
 use std::{env, io};
@@ -18,7 +19,9 @@ fn main(rt: HostRuntime) -> ExitCode {
     };
     let mut shelf = DirShelf::new(&rt);
     let mut out = StreamSink::new(rt.stdout());
-    let mut err = StreamSink::new(rt.stderr());
+    let errors = rt.stderr();
+    let is_terminal = errors.is_terminal();
+    let mut err = ErrorSink::new(errors, is_terminal);
     let status = query_top::run(rt.alloc(), &words, &mut shelf, &mut out, &mut err);
     ExitCode::from(status.number())
 }
