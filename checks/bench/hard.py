@@ -1,0 +1,131 @@
+"""Networks and rules that are hard for questions on all packets: many addresses, rules on several fields at once."""
+import random
+from collections.abc import Iterable, Iterator
+from dataclasses import dataclass
+
+from descriptions import quoted, small_description
+
+WIDTHS_WIDE = (16, 24, 24, 25, 26, 28, 30, 32, 32, 32)
+WIDTHS_NARROW = (24, 26, 28, 30, 32, 32, 32)
+PORTS = (22, 53, 80, 443)
+
+
+def address(number: int) -> str:
+    return '.'.join(str(number >> shift & 255) for shift in (24, 16, 8, 0))
+
+
+def prefix(number: int, width: int) -> str:
+    """The prefix of a width that an address has."""
+    return f'{address(number >> 32 - width << 32 - width)}/{width}'
+
+
+def rules_text(lines: Iterable[str], chains: Iterable[str] = ()) -> str:
+    heads = ['*filter', ':INPUT ACCEPT [0:0]', ':FORWARD DROP [0:0]', ':OUTPUT ACCEPT [0:0]']
+    return '\n'.join([*heads, *(f':{chain} - [0:0]' for chain in chains), *lines, 'COMMIT']) + '\n'
+
+
+def network(count: int, flows: str = '') -> str:
+    """A description of hosts of one class C each, and a rest host."""
+    hosts = [f'{{ name = "h{number}", at = ["{prefix((10 << 24) + (number << 8), 24)}"] }},\n'
+             for number in range(count)]
+    return small_description(flows, [*hosts, '{ name = "world", rest = true },\n'], version=2)
+
+
+def some_flows(chance: random.Random, count: int, flows: int, services: int) -> str:
+    """Flows between hosts, each with services of random ports."""
+    pairs = [(one, other) for one in range(count) for other in range(count) if one != other]
+    listed = ([f'h{one}', f'h{other}', *(f'tcp/{port}' for port in chance.sample(range(1, 65536), services))]
+              for one, other in chance.sample(pairs, flows))
+    return ''.join(quoted(flow) + ',' for flow in listed)
+
+
+def single_addresses(addresses: int, rules: int) -> tuple[str, str]:
+    """One host of single addresses, no two adjacent, and rules that accept one port each."""
+    at = quoted(address((10 << 24) + 2 * number + 1) for number in range(addresses))
+    lines = [f'-A FORWARD -p tcp -m tcp --dport {2 * number + 1} -j ACCEPT' for number in range(rules)]
+    hosts = [f'{{ name = "h", at = {at} }},\n', '{ name = "world", rest = true },\n']
+    return small_description('', hosts, version=2), rules_text(lines)
+
+
+def four_fields(rules: int) -> tuple[str, str]:
+    """Rules that drop by source, by destination, by receiver's port and by sender's port; then all is accepted."""
+    chance = random.Random(rules)
+    forms = ('-s {0}/32', '-d {0}/32', '-p tcp -m tcp --dport {1}', '-p tcp -m tcp --sport {1}')
+    lines = [f'-A FORWARD {form.format(address(chance.getrandbits(32)), chance.randrange(65536))} -j DROP'
+             for form in forms for _ in range(rules // 4)]
+    host = ['{ name = "h", at = ["10.0.0.0/8"] },\n', '{ name = "world", rest = true },\n']
+    return small_description('', host, version=2), rules_text([*lines, '-A FORWARD -j ACCEPT'])
+
+
+def ports(chance: random.Random) -> str:
+    """A port, or a range of ports."""
+    low = chance.choice((*PORTS, chance.randrange(1024), chance.randrange(65536)))
+    return str(low) if chance.random() < .7 else f'{low}:{min(65535, low + chance.randrange(2000))}'
+
+
+@dataclass(frozen=True)
+class Shape:
+    """What random rules look like: the share of rules with each match, widths of prefixes, and user chains."""
+    source: float = .9
+    destination: float = .9
+    sender_port: float = 0.
+    port: float = .95
+    state: float = .1
+    negated: float = 0.
+    widths: tuple[int, ...] = WIDTHS_NARROW
+    chains: int = 0
+    accepted: float = .67
+
+
+def random_rules(chance: random.Random, shape: Shape, count: int, hosts: int) -> str:
+    """Rules in FORWARD and in user chains, each of which jumps to later ones alone."""
+    names = [f'C{number}' for number in range(shape.chains)]
+    chains = ['FORWARD', *names]
+    lines = [f'-A {chain} {random_rule(chance, shape, hosts)} -j {target(chance, shape, names[place:], place > 0)}'
+             for place, chain in enumerate(chains) for _ in range(count // len(chains))]
+    return rules_text(lines, names)
+
+
+def random_rule(chance: random.Random, shape: Shape, hosts: int) -> str:
+    return ' '.join(matches(chance, shape, hosts))
+
+
+def matches(chance: random.Random, shape: Shape, hosts: int) -> Iterator[str]:
+    for option, share in (('-s', shape.source), ('-d', shape.destination)):
+        if chance.random() < share:
+            number = (10 << 24) + (chance.randrange(hosts) << 8) + chance.randrange(256)
+            negation = '! ' if chance.random() < shape.negated else ''
+            yield f'{negation}{option} {prefix(number, chance.choice(shape.widths))}'
+    both = ('--sport', shape.sender_port), ('--dport', shape.port)
+    sides = [side for side, share in both if chance.random() < share]
+    if sides:
+        protocol = chance.choice(('tcp', 'tcp', 'udp'))
+        yield f'-p {protocol} -m {protocol} ' + ' '.join(f'{side} {ports(chance)}' for side in sides)
+    if chance.random() < shape.state:
+        yield f'-m conntrack --ctstate {chance.choice(("NEW", "ESTABLISHED"))}'
+
+
+def target(chance: random.Random, shape: Shape, later: list[str], in_chain: bool) -> str:
+    if later and chance.random() < .1:
+        return chance.choice(later)
+    if in_chain and chance.random() < .1:
+        return 'RETURN'
+    return 'ACCEPT' if chance.random() < shape.accepted else 'DROP'
+
+
+def specific(hosts: int, rules: int) -> tuple[str, str]:
+    """Rules on small prefixes and ports in one chain: few of them cover others."""
+    chance = random.Random(f'specific {hosts} {rules}')
+    return network(hosts, some_flows(chance, hosts, 200, 3)), random_rules(chance, Shape(), rules, hosts)
+
+
+def wide(hosts: int, rules: int, chains: int) -> tuple[str, str]:
+    """Rules of which many cover others, in user chains."""
+    chance = random.Random(f'wide {hosts} {rules}')
+    shape = Shape(.75, .75, .12, .6, .15, .04, WIDTHS_WIDE, chains, .55)
+    return network(hosts, some_flows(chance, hosts, 200, 2)), random_rules(chance, shape, rules, hosts)
+
+
+def served(hosts: int) -> str:
+    """Every flow between hosts, each with 16 services."""
+    return network(hosts, some_flows(random.Random(5), hosts, hosts * (hosts - 1), 16))
