@@ -15,6 +15,8 @@ import signal
 import stat
 import sys
 
+from .limits import OPTION, OPTION_TEXT, Budget, Progress, limit_memory, seconds_of
+
 TYPE_CHECKING = False  # as typing.TYPE_CHECKING, without the import
 if TYPE_CHECKING:
     from collections.abc import Callable, Iterable, Iterator, Mapping, Sequence
@@ -31,8 +33,6 @@ NO_FILE, NO_OUTPUT = 6, 7  # statuses that `topos` uses for the same causes
 REFUSED = 3  # the status of the programs for a description that they refuse
 DIFFERS = 2  # the status of `topos-query` for an answer that lists differences
 LONGEST = 1_048_576  # bytes of a description
-MEMORY = 2 << 30  # bytes that a tool may use
-SECONDS = 600  # that a tool may run
 VERSION = 1  # of the answers of `topos-query`
 READS_ANSWERS = f', reads answers of topos-query in version {VERSION}'  # of the version of a tool
 NOTHING: dict[int, str] = {}
@@ -48,6 +48,9 @@ class Stopped(Exception):
 
 class TimedOut(Stopped):
     """The time limit is reached."""
+
+
+BUDGET, PROGRESS = Budget(TimedOut), Progress()
 
 
 def find_program(given: str | None) -> str:
@@ -191,6 +194,7 @@ class Question:
             for file in files:
                 os.set_inheritable(file.fileno(), True)
             self.process = _spawn(self.words, [(os.POSIX_SPAWN_DUP2, file.fileno(), place) for place, file in streams])
+        BUDGET.share(self.process)
         for file in files:
             file.close()
 
@@ -203,6 +207,7 @@ class Question:
             os.waitpid(self.process, 0)
             raise
         status = os.waitstatus_to_exitcode(ended)
+        BUDGET.check(status)
         with self.output as output, self.errors as errors:
             if status not in statuses:
                 line = _content(errors).strip()
@@ -347,25 +352,13 @@ def need_words(words: list[str], count: int, missing: str, most: int = 0) -> Non
         raise Stopped(f'{word}: unexpected argument', USAGE)
 
 
-def limit(seconds: int = SECONDS) -> None:
-    """Limits the memory and the time of this process."""
-    def end(*_: object) -> None:
-        raise TimedOut(f'this took longer than {seconds} seconds')
-    _, hard = resource.getrlimit(resource.RLIMIT_AS)
-    most = MEMORY if hard == resource.RLIM_INFINITY else min(MEMORY, hard)
-    resource.setrlimit(resource.RLIMIT_AS, (most, hard))
-    signal.signal(signal.SIGALRM, end)
-    signal.alarm(seconds)
-
-
-def tell_when_slow(name: str) -> None:
-    """Prints on a terminal, a second after the start of a tool, that it is still running."""
-    def tell(*_: object) -> None:
-        sys.stderr.write(f'{name}: asking topos and topos-query ..\n')
-        limit(SECONDS - 1)
-    if sys.stderr.isatty():
-        signal.signal(signal.SIGALRM, tell)
-        signal.alarm(1)
+def allow(word: str) -> None:
+    """Allows the processor time that --limit names."""
+    seconds = seconds_of(word)
+    if seconds is None:
+        raise Stopped(f'{OPTION} {word}: no number of seconds', USAGE)
+    BUDGET.seconds = seconds
+    BUDGET.start()
 
 
 def set_streams() -> None:
@@ -383,12 +376,14 @@ class Tool:
     """
 
     def __init__(self, version: str, usage: str, valued: set[str], plain: set[str], work: Work) -> None:
-        self.name, self.version, self.usage, self.work = version.split()[0], version, usage, work
-        self.valued, self.plain = valued, plain | {'--help', '--version'}
+        self.name, self.version, self.usage, self.work = version.split()[0], version, usage + OPTION_TEXT, work
+        self.valued, self.plain = valued | {OPTION}, plain | {'--help', '--version'}
 
     def answer(self, given: list[str]) -> int:
         """Does what the words of a command line say, and returns the status."""
         values, options, words = read_words(given, self.valued, self.plain)
+        if OPTION in values:
+            allow(values.pop(OPTION))
         if options.isdisjoint({'--help', '--version'}):
             return self.work(values, options, words)
         write_text(None, self.usage if '--help' in options else f'{self.version}\n')
@@ -398,8 +393,9 @@ class Tool:
         """Runs the tool on the words of the command line, and ends the process with its status."""
         set_streams()
         try:
-            limit()
-            tell_when_slow(self.name)
+            limit_memory()
+            BUDGET.start()
+            PROGRESS.start(self.name)
             status = self.answer(sys.argv[1:])
             sys.stdout.flush()
             sys.exit(status)

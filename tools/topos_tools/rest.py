@@ -9,7 +9,7 @@ import re
 from ipaddress import IPv4Network
 
 from .import_sets import Numbers, difference, intersection, joined, prefix, prefixes
-from .query import (READS_ANSWERS, USAGE, Programs, Stopped, Tool, data_text, limit, need_words, read_bytes, text_of,
+from .query import (BUDGET, READS_ANSWERS, USAGE, Programs, Stopped, Tool, data_text, need_words, read_bytes, text_of,
                     write_text)
 
 TYPE_CHECKING = False
@@ -65,12 +65,12 @@ def others(programs: Programs, text: bytes, name: str) -> list[dict[str, Any]]:
 def moved(text: bytes, name: str, refused: Stopped) -> bytes:
     """Returns the description with the host of this name elsewhere."""
     import tomllib
-    limit(LONGEST_READING)
+    BUDGET.start(LONGEST_READING)
     try:
         table = tomllib.loads(text.decode())
     except (ValueError, RecursionError):
         raise refused from None
-    limit()
+    BUDGET.start()
     named = [host for host in table.get('host', []) if host.get('name') == name] if is_form(table) else []
     if len(named) != 1:
         raise refused
