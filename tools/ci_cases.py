@@ -27,10 +27,10 @@ packet 198.51.100.7 10.0.1.10 tcp 50001 22
 '''
 GIT = {'GIT_AUTHOR_NAME': 'a', 'GIT_AUTHOR_EMAIL': 'a@example.net', 'GIT_COMMITTER_NAME': 'a',
        'GIT_COMMITTER_EMAIL': 'a@example.net', 'GIT_CONFIG_GLOBAL': '/dev/null', 'GIT_CONFIG_NOSYSTEM': '1'}
-HARMLESS = '**no invariant is weaker, no gap is new, no invariant fails**\n'
+HARMLESS = '**no invariant is weaker, no gap is new, no invariant fails, no flow is wider**\n'
 OPENED = '''## Changes
 
-**no invariant is weaker, no gap is new, no invariant fails**
+**no invariant is weaker, no gap is new, no invariant fails, 1 flow is wider: inet -\\> web: everything, was tcp/443**
 
 Flows that come or change:
 
@@ -42,7 +42,7 @@ Flows that come or change:
 '''
 WEAKER = '''## Changes
 
-**1 invariant is weaker, 1 gap is new, no invariant fails**
+**1 invariant is weaker, 1 gap is new, no invariant fails, no flow is wider**
 
 Invariants that are weaker:
 
@@ -62,7 +62,7 @@ FAILS = '''## Not accepted
       inet -> db
 ## Changes
 
-**no invariant is weaker, no gap is new, 1 invariant fails**
+**no invariant is weaker, no gap is new, 1 invariant fails, no flow is wider**
 
 Invariants that fail:
 
@@ -129,6 +129,8 @@ class Review:
         self.prepare()
         nothing = '## Changes\n\n**nothing differs**\n'
         self.judge('a comment', 0, nothing, {'net.toml': f'# shop\n{NET}'})
+        wider = OPENED[:OPENED.index('\n## Packets')]
+        self.judge('wider', 1, wider, {'net.toml': NET.replace(', "tcp/443"', ''), 'must-not.events': '# none\n'})
         self.judge('opened', 2, OPENED, {'net.toml': NET.replace(', "tcp/443"', '')})
         self.judge('weaker', 1, WEAKER, {'net.toml': NET.replace('["web"] }', '["web", "inet"] }')})
         self.judge('fails', 2, FAILS, {'net.toml': NET.replace('["inet", "web"', '["inet", "db"], ["inet", "web"')})

@@ -67,7 +67,8 @@ REQUEST = [
     ('{ host = "lab1", kind = "lab" }', '{ host = "lab1", kind = "lab" }, { host = "hpc", kind = "lab" }')]
 
 # unlisted, which had the addresses of hpc, was a master with an empty list and of the kind outside.
-REQUEST_TEXT = '''3 invariants are weaker, 3 gaps are new, no invariant fails
+REQUEST_TEXT = '''3 invariants are weaker, 3 gaps are new, no invariant fails, 1 flow is wider: eduroam -> printers: \
+everything, was tcp/443 tcp/631
 weaker: invariant 2 "Management": students lab1 admin -> hpc (hpc was unlisted)
 weaker: invariant 3 "Zones": hpc -> lab1 (hpc was unlisted)
 weaker: invariants 1 "Storage" and 3 "Zones": hpc -> storp (hpc was unlisted)
@@ -80,7 +81,8 @@ new gap: hpc -> lab1
 ~ invariant 1 "Storage": storp: from adds hpc
 ~ invariant 3 "Zones": hpc is added (lab)
 '''
-REQUEST_MARKDOWN = r'''**3 invariants are weaker, 3 gaps are new, no invariant fails**
+REQUEST_MARKDOWN = '**3 invariants are weaker, 3 gaps are new, no invariant fails, 1 flow is wider: ' + \
+    r'''eduroam -\> printers: everything, was tcp/443 tcp/631**
 
 Invariants that are weaker:
 
@@ -110,7 +112,7 @@ Invariants and settings:
 '''
 
 # Back from the merge request: what opened is closed.
-BACK_TEXT = '''no invariant is weaker, no gap is new, no invariant fails
+BACK_TEXT = '''no invariant is weaker, no gap is new, no invariant fails, no flow is wider
 ~ flow eduroam -> printers: tcp/443 tcp/631, was everything
 - flow students -> hpc: tcp/22
 - flow hpc -> storp: tcp/3300
@@ -143,25 +145,26 @@ CASES: list[tuple[str, list[tuple[str, str]], int, str]] = [
          '{ name = "db", at = ["10.0.2.21", "10.0.2.20"] }, { name = "web", at = ["10.0.1.10"] }')],
      0, 'nothing differs\n'),
     ('a renamed host', [('"db"', '"data"')], 0,
-     'no invariant is weaker, no gap is new, no invariant fails\n~ host db: now data\n'),
+     'no invariant is weaker, no gap is new, no invariant fails, no flow is wider\n~ host db: now data\n'),
     ('a flow that an invariant denies', [('["inet", "web"]', '["inet", "web"], ["inet", "db"]')], 1,
-     'no invariant is weaker, no gap is new, 1 invariant fails\nfails: invariant 1 partners: inet -> db\n'),
+     'no invariant is weaker, no gap is new, 1 invariant fails, no flow is wider\n'
+     'fails: invariant 1 partners: inet -> db\n'),
     ('an invariant that is gone', [
         (INVARIANT, '')], 1,
-     '''1 invariant is weaker, 1 gap is new, no invariant fails
+     '''1 invariant is weaker, 1 gap is new, no invariant fails, no flow is wider
 weaker: invariant 1 partners (removed): inet -> db
 new gap: inet -> db
 - invariant 1 partners: partners with 1 entry
 '''),
     ('an entry that lets others in', [('from = ["web"]', 'from = ["web", "inet"]')], 1,
-     '''1 invariant is weaker, 1 gap is new, no invariant fails
+     '''1 invariant is weaker, 1 gap is new, no invariant fails, no flow is wider
 weaker: invariant 1 partners: inet -> db
 new gap: inet -> db
 ~ invariant 1 partners: db: from adds inet
 '''),
     # A sink sends nothing, not even answers. web -> inet, db -> web and db -> inet were gaps.
     ('answers that a new invariant denies', SINK, 0,
-     '''no invariant is weaker, no gap is new, no invariant fails
+     '''no invariant is weaker, no gap is new, no invariant fails, no flow is wider
 answers go: web -> db: tcp/5432, denied by invariant 1 sink, so TCP fails
 stricter: invariant 1 sink (new): db -> web inet
 closed gap: db -> web inet (2)
@@ -169,7 +172,7 @@ closed gap: db -> web inet (2)
 '''),
     # What web sent to 10.0.2.21 is no gap of OLD, and is one now; so is what db sends there. inet may send to web.
     ('an address that goes to the rest host', [(', "10.0.2.21"', '')], 1,
-     '''no invariant is weaker, 2 gaps are new, no invariant fails
+     '''no invariant is weaker, 2 gaps are new, no invariant fails, no flow is wider
 new gap: web db -> inet (2)
 + flow inet -> web: everything, in part (was db -> web)
 - flow web -> db: tcp/5432, in part (now web -> inet)
@@ -177,20 +180,26 @@ closed gap: db -> web inet (2)
 ~ host db loses 10.0.2.21, now inet
 '''),
     ('a host that is the rest host no more', [('rest = true', 'at = ["128.0.0.0/1"]')], 0,
-     '''no invariant is weaker, no gap is new, no invariant fails
+     '''no invariant is weaker, no gap is new, no invariant fails, no flow is wider
 - flow inet (old addresses) -> web: everything
 closed gap: web db -> inet (2)
 ~ host inet loses 0.0.0.0/5 8.0.0.0/7 10.0.0.0/24 10.0.1.0/29 and 34 more, now no host
 '''),
-    ('other services', [('"tcp/5432"', '"tcp/5432", "icmp"')], 0,
-     '''no invariant is weaker, no gap is new, no invariant fails
+    ('other services', [('"tcp/5432"', '"tcp/5432", "icmp"')], 1,
+     '''no invariant is weaker, no gap is new, no invariant fails, 1 flow is wider: web -> db: tcp/5432 icmp, was \
+tcp/5432
 ~ flow web -> db: tcp/5432 icmp, was tcp/5432
+'''),
+    ('a service in place of another one', [
+        ('["web", "db", "tcp/5432"], ["inet", "web"]', '["web", "db", "tcp/22"], ["inet", "web"]')], 1,
+     '''no invariant is weaker, no gap is new, no invariant fails, 1 flow is wider: web -> db: tcp/22, was tcp/5432
+~ flow web -> db: tcp/22, was tcp/5432
 '''),
     # Without its flow the host is open to web by nothing but the list.
     ('a host that goes', [
         (', { name = "db", at = ["10.0.2.20", "10.0.2.21"] }', ''), ('["web", "db", "tcp/5432"], ', ''),
         (INVARIANT, '')], 1,
-     '''no invariant is weaker, 1 gap is new, no invariant fails
+     '''no invariant is weaker, 1 gap is new, no invariant fails, no flow is wider
 new gap: web -> inet
 + flow inet -> web: everything, in part (was db -> web)
 - flow web -> db: tcp/5432
@@ -199,6 +208,23 @@ closed gap: db -> web inet (2)
 - invariant 1 partners: partners with 1 entry
 '''),
 ]
+
+# Eight flows that get more services: those from the rest host come first, and none is cut.
+WIDE = '''topos = 2
+flow = [["a", "b", "tcp/1"], ["a", "c", "tcp/1"], ["b", "a", "tcp/1"], ["b", "c", "tcp/2"], ["c", "a", "tcp/1"],
+        ["c", "b", "tcp/3"], ["d", "a", "tcp/22"], ["d", "b", "tcp/22"]]
+host = [{ name = "a", at = ["10.0.1.1"] }, { name = "b", at = ["10.0.1.2"] }, { name = "c", at = ["10.0.1.3"] },
+        { name = "d", rest = true }]
+'''
+WIDENED = [('"a", "b", "tcp/1"', '"a", "b"'), ('"a", "c", "tcp/1"', '"a", "c", "tcp/1-9"'),
+           ('"b", "a", "tcp/1"', '"b", "a", "tcp/1-8"'), ('"b", "c", "tcp/2"', '"b", "c", "tcp/2-8"'),
+           ('"c", "a", "tcp/1"', '"c", "a", "tcp/1-6"'), ('"c", "b", "tcp/3"', '"c", "b", "tcp/3-6"'),
+           ('"d", "a", "tcp/22"', '"d", "a", "tcp/22", "tcp/3389"'),
+           ('"d", "b", "tcp/22"', '"d", "b", "tcp/22", "tcp/443"')]
+WIDENED_FLOWS = [
+    'd -> a: tcp/22 tcp/3389, was tcp/22', 'd -> b: tcp/22 tcp/443, was tcp/22', 'a -> b: everything, was tcp/1',
+    'a -> c: tcp/1-9, was tcp/1', 'b -> a: tcp/1-8, was tcp/1', 'b -> c: tcp/2-8, was tcp/2',
+    'c -> a: tcp/1-6, was tcp/1', 'c -> b: tcp/3-6, was tcp/3']
 
 # Connections: what is shown, more words, the lines, the status, and the text.
 

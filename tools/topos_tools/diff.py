@@ -9,8 +9,8 @@ USAGE_TEXT = '''usage: topos-diff [--program TOPOS] [--all] [--markdown | --json
        --all        cuts no list
        --markdown   writes Markdown, for the description of a merge request
        --json       writes the data
-       exit status 0: no invariant fails or is weaker, and no gap is new; 1: one does, or it is not known;
-       2: a description is refused
+       exit status 0: no invariant fails or is weaker, no gap is new, and no flow is wider; 1: one does or is,
+       or it is not known; 2: a description is refused
        topos-query is the program in TOPOS_QUERY, else the one next to topos, else the one on the PATH
 '''
 

@@ -5,8 +5,7 @@ from typing import Any
 
 from .diff_hosts import NOBODY, Owned, owned_by, owners
 from .diff_words import arrow, invariant_names, products
-from .flows_against import size
-from .flows_services import number_of, of_words, told_services
+from .flows_services import number_of, of_words, size, told_services
 from .import_sets import ALL_ADDRESSES, Numbers, difference, intersection, joined
 from .report_model import Flow, Source
 
@@ -25,6 +24,7 @@ class FlowChange:
     part: list[Flow] = field(default_factory=list)  # if some packets change: their flows in the other description
     has_old_names: bool = False  # whether `flow` has names of OLD, and `part` those of NEW
     weight: int = 0  # services that are opened
+    is_wider: bool = False  # whether a flow that OLD permits gets more services
 
     def text(self, most: int | None) -> str:
         """Returns what follows the flow on a line."""
@@ -82,10 +82,12 @@ class Changes:
         return name
 
     def flows(self) -> list[FlowChange]:
-        """Lists the changes, those that open the most services first."""
+        """Lists the changes: wider flows, those from the rest host first, then those that open the most services."""
+        rest = {host['name'] for host in self.new.network.hosts if host['rest']}
         found = [change for pair, kinds in self.pairs.items() for change in self._of_pair(pair, kinds)]
         found += [change for flow in self.lost for change in self._losses(flow)]
-        return sorted(found, key=lambda change: -change.weight)
+        return sorted(found, key=lambda each: (not each.is_wider, each.is_wider and each.flow[0] not in rest,
+                                               -each.weight))
 
     def _of_pair(self, pair: Flow, kinds: dict[str, Numbers]) -> Iterator[FlowChange]:
         now, past = self.new.services(pair), self.old.flows_of(*(self.owned[end] for end in pair))
@@ -93,7 +95,7 @@ class Changes:
         comes, goes = kinds.get('flow comes', ()), kinds.get('flow goes', ())
         if now and was and (comes or goes):
             yield FlowChange(pair, 'changes', told_services(now), told_services(was), self._silence(pair),
-                             weight=size(comes))
+                             weight=size(comes), is_wider=bool(comes))
         else:
             if comes:
                 yield from self._coming(pair, comes, past)
@@ -110,7 +112,7 @@ class Changes:
             gaining = [flow for flow in past if gained[flow] == services]
             part = [] if len(gaining) == len(past) else gaining
             yield FlowChange(pair, 'comes', told_services(services), '', self._silence(pair), part,
-                             weight=size(services))
+                             weight=size(services), is_wider=any(map(self.old.services, gaining)))
 
     def _lose(self, pair: Flow, goes: Numbers, past: list[Flow]) -> None:
         """Remembers which old flows lose services, of which other flows the packets belong to a pair too."""

@@ -67,9 +67,13 @@ class Difference:
             return None
         return sorted({number for each in self.opened.judged for number in each.denied_by})
 
+    def wider(self) -> list[FlowChange]:
+        """Returns the flows that get more services, those from the rest host first."""
+        return [each for each in self.flows if each.is_wider]
+
     def status(self) -> int:
         is_known_harmless = self.opened is not None and not self.opened.judged and not self.opened.gaps
-        return 0 if is_known_harmless and not self.fails else REVIEW
+        return 0 if is_known_harmless and not self.fails and not self.wider() else REVIEW
 
     def is_empty(self) -> bool:
         """Whether nothing at all differs."""

@@ -10,6 +10,7 @@ from .report_model import Flow, Source
 from .report_words import counted
 
 MOST_LINES = 6  # of a section
+GAINS = 'Flows that come or change'
 UNKNOWN = 'this topos-query does not report which invariants are weaker and which gaps are new'
 MARKS = {'comes': '+ flow', 'goes': '- flow', 'changes': '~ flow', 'answers come': 'answers come:',
          'answers go': 'answers go:'}
@@ -18,14 +19,16 @@ SPECIAL = re.compile(r'([\\`*_{}\[\]<>()#+|~&!])')
 
 @dataclass
 class Section:
-    """A heading, and its lines."""
+    """A heading, and its lines, of which some are never cut."""
     title: str
     lines: list[str]
+    uncut: int = 0
 
     def shown(self, is_whole: bool) -> list[str]:
-        if is_whole or len(self.lines) <= MOST_LINES + 1:
+        most = max(MOST_LINES, self.uncut)
+        if is_whole or len(self.lines) <= most + 1:
             return self.lines
-        return [*self.lines[:MOST_LINES], f'and {len(self.lines) - MOST_LINES} more lines (--all)']
+        return [*self.lines[:most], f'and {len(self.lines) - most} more lines (--all)']
 
 
 class View:
@@ -58,20 +61,29 @@ class View:
         known = [UNKNOWN] if weaker is None or opened is None else [
             _sentence(len(weaker), 'invariant is weaker', 'invariants are weaker'),
             _sentence(len(opened.gaps), 'gap is new', 'gaps are new')]
-        return ', '.join([*known, _sentence(len(difference.fails), 'invariant fails', 'invariants fail')])
+        return ', '.join([*known, _sentence(len(difference.fails), 'invariant fails', 'invariants fail'),
+                          self.wider()])
+
+    def wider(self) -> str:
+        """Returns the part of the first line on flows that get more services: it names all of them."""
+        found = self.difference.wider()
+        told = '; '.join(f'{flows}: {services}' for _, flows, services in self.grouped(found, None))
+        return _sentence(len(found), 'flow is wider', 'flows are wider') + (told and f': {told}')
 
     def sections(self) -> Iterator[Section]:
         """Yields the sections that have lines."""
         difference = self.difference
         opened, closed = difference.opened, difference.closed
         gains = [each for each in difference.flows if each.change in ('comes', 'changes')]
+        others = [each for each in gains if not each.is_wider]
         rest = [each for each in difference.flows if each not in gains]
+        wider = list(self.flows(difference.wider(), None))
         for title, lines in (
                 ('Invariants that fail', self.failing()),
                 ('Invariants that are weaker', self.judged('weaker', opened.judged if opened else [], self.old_names)),
                 ('New gaps', self.gaps('new gap', opened.gaps if opened else [])),
-                ('Flows that come or change', self.flows(gains)),
-                ('Flows and answers that go, answers that come', self.flows(rest)),
+                (GAINS, [*wider, *self.flows(others, self.most)]),
+                ('Flows and answers that go, answers that come', self.flows(rest, self.most)),
                 ('Invariants that are stricter',
                  self.judged('stricter', closed.judged if closed else [], self.new_names)),
                 ('Gaps that are closed', self.gaps('closed gap', closed.gaps if closed else [])),
@@ -79,7 +91,7 @@ class View:
                 ('Invariants and settings', self.settings())):
             found = list(lines)
             if found:
-                yield Section(title, found)
+                yield Section(title, found, len(wider) if title == GAINS else 0)
 
     def failing(self) -> Iterator[str]:
         for each in self.difference.fails:
@@ -116,16 +128,21 @@ class View:
             count = len(product[0]) * len(product[1])
             yield f'{word}: {arrow(product, self.most)}' + (f' ({count})' if count > 1 else '')
 
-    def flows(self, found: Iterable[FlowChange]) -> Iterator[str]:
+    def flows(self, found: Iterable[FlowChange], most: int | None) -> Iterator[str]:
         """Yields a line for flows that change in the same way."""
+        for change, flows, told in self.grouped(found, most):
+            yield f'{MARKS[change]} {flows}: {told}'
+
+    def grouped(self, found: Iterable[FlowChange], most: int | None) -> Iterator[tuple[str, str, str]]:
+        """Yields a change, the flows that it is of, and what follows them; of a list, the most names are shown."""
         groups: dict[tuple[str, str], list[Flow]] = {}
         for each in found:
             source = self.difference.old if each.change == 'goes' else self.difference.new
-            told = each.text(self.most) + _quoted(source.page.flow(*each.flow).title)
+            told = each.text(most) + _quoted(source.page.flow(*each.flow).title)
             groups.setdefault((each.change, told), []).append(each.flow)
         for (change, told), flows in groups.items():
             for product in products(flows):
-                yield f'{MARKS[change]} {arrow(product, self.most)}: {told}'
+                yield change, arrow(product, most), told
 
     def hosts(self) -> Iterator[str]:
         for each in self.difference.hosts:
