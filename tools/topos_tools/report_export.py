@@ -9,6 +9,13 @@ from .report_words import ANSWERED, DENIED, ONE_WAY, PERMITTED, SHORT
 EDGE = {ANSWERED: 'color="#0072b2"', ONE_WAY: 'color="#0072b2", style=dashed',
         DENIED: 'color="#c8420b", penwidth=2.5'}
 
+FORMULA = ('=', '+', '-', '@', '\t', '\r')  # how a formula begins in a spreadsheet
+
+
+def cell(value: object) -> object:
+    """Returns a cell that no spreadsheet reads as a formula: such a text has a quote before it."""
+    return f"'{value}" if isinstance(value, str) and value.startswith(FORMULA) else value
+
 
 def csv_text(report: Report) -> str:
     """Returns a line for each pair of hosts, with a head (RFC 4180)."""
@@ -26,7 +33,7 @@ def csv_text(report: Report) -> str:
         if before is not None:
             same = '' if flow[0] in added or flow[1] in added else network.states[flow]
             row.append(SHORT.get(before.get(flow, same), ''))
-        lines.writerow(row)
+        lines.writerow(map(cell, row))
     return output.getvalue()
 
 

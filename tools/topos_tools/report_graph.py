@@ -102,7 +102,8 @@ def ring(view: View, nodes: list[list[int]], edges: dict[tuple[int, int], str]) 
                    f'markerUnits="userSpaceOnUse" orient="auto"><path d="M0 0L10 5L0 10z" fill="{colour}"/></marker>'
                    for name, colour in TIPS.items())
     many = ' many' if sum(state == DENIED for state in edges.values()) > MANY_DENIED else ''
-    return (f'<svg id="ring" class="ring{many}" style="max-height:{min(900, 360 + 18 * count)}px" role="group" '
+    view.styles.append(f'#ring {{ max-height:{min(900, 360 + 18 * count)}px }}')
+    return (f'<svg id="ring" class="ring{many}" role="group" '
             f'viewBox="{-half:.0f} {-half:.0f} {2 * half:.0f} {2 * half:.0f}" aria-label="Hosts and flows">'
             f'<defs>{tips}</defs><g>{paths}</g>{drawn}</svg>')
 

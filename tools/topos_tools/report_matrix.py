@@ -53,8 +53,8 @@ def grid(view: View, side: int) -> str:
     tops = ''.join(f'<th scope="col"{roles["columnheader"]} data-host="{number}"><span>{esc(name)}</span></th>'
                    for number, name in enumerate(view.names))
     rows = '\n'.join(row(view, number, roles) for number in range(view.size))
-    sides = f'--c:{side}px;--print:{printed_side(view.size)}px'
-    return f'''<table class="matrix"{roles['table']} id="cells" style="{sides}">
+    view.styles.append(f'#cells {{ --c:{side}px;--print:{printed_side(view.size)}px }}')
+    return f'''<table class="matrix"{roles['table']} id="cells">
 <caption>Rows open connections to columns.</caption>
 <thead{roles['rowgroup']}><tr{roles['row']}><th scope="col"{roles['columnheader']}>from / to</th>{tops}</tr></thead>
 <tbody{roles['rowgroup']}>

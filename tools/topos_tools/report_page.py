@@ -1,4 +1,6 @@
 """The page of a report: one HTML text that loads nothing."""
+import base64
+import hashlib
 import json
 import os
 from typing import Any
@@ -10,12 +12,18 @@ from .report_view import View, table
 from .report_words import esc
 
 HERE = os.path.dirname(os.path.realpath(__file__))
-POLICY = "default-src 'none'; style-src 'unsafe-inline'; script-src 'unsafe-inline'; img-src data:"
+POLICY = ("default-src 'none'; style-src {style}; script-src {script}; img-src data:; base-uri 'none'; "
+          "form-action 'none'")
 
 
 def read_part(name: str) -> str:
     with open(os.path.join(HERE, name), encoding='utf-8') as file:
         return file.read()
+
+
+def source(text: str) -> str:
+    """Returns how a policy of contents names the text of an element: by its SHA-256."""
+    return f"'sha256-{base64.b64encode(hashlib.sha256(text.encode()).digest()).decode()}'"
 
 
 def script_json(value: object) -> str:
@@ -44,8 +52,8 @@ def head(view: View, title: str) -> str:
 
 def program_words(program: dict[str, Any]) -> str:
     """Returns the digest of a program, and whether the list of proved programs has it."""
-    listed = ('The list <code>topos.proved</code> beside the program has this digest: the program is proved.'
-              if program['proved'] else
+    listed = ('The list <code>topos.proved</code> beside the program lists this digest as proved. Who can write this '
+              'folder can write the list.' if program['proved'] else
               'No list <code>topos.proved</code> beside the program has this digest: a trial build is not excluded.')
     return f'SHA-256 <span class="mono">{program["sha256"]}</span><br>{listed}'
 
@@ -105,15 +113,17 @@ def page_text(report: Report) -> str:
                 'invariants': ('Invariants', report_invariants.section(view)),
                 'hosts': ('Hosts', report_hosts.section(view)), 'proved': ('What is proved', proved(view))}
     shown = {name: each for name, each in sections.items() if each[1]}
+    style, script = '\n'.join(['', read_part('report.css'), *view.styles, '']), f'\n{read_part("report.js")}'
+    policy = POLICY.format(style=source(style), script=source(script))
     links = ''.join(f'<li><a href="#{name}">{words}</a></li>' for name, (words, _) in shown.items())
     return '\n'.join([
         '<!DOCTYPE html>', '<html lang="en">', '<head>', '<meta charset="utf-8">',
         '<meta name="viewport" content="width=device-width, initial-scale=1">',
-        f'<meta http-equiv="Content-Security-Policy" content="{POLICY}">',
-        f'<title>{esc(title)}</title>', f'<style>\n{read_part("report.css")}</style>', '</head>', '<body>',
+        f'<meta http-equiv="Content-Security-Policy" content="{policy}">',
+        f'<title>{esc(title)}</title>', f'<style>{style}</style>', '</head>', '<body>',
         '<a class="skip" href="#matrix">Skip to the matrix</a>', head(view, title),
         f'<nav aria-label="Sections"><ul>{links}</ul></nav>',
         '<main>', *(text for _, text in shown.values()), '</main>',
         '<footer>Written by topos-report. The page is one file and loads nothing.</footer>',
         f'<script type="application/json" id="data">{script_json(script_data(view, drawn))}</script>',
-        f'<script>\n{read_part("report.js")}</script>', '</body>', '</html>', ''])
+        f'<script>{script}</script>', '</body>', '</html>', ''])

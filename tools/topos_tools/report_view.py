@@ -38,6 +38,7 @@ class View:
         self.rows = report.network.rows
         self.columns = [''.join(column) for column in zip(*self.rows)]
         self.is_small = self.size <= MOST_LINKED
+        self.styles: list[str] = []  # of single elements: an attribute would need a weaker policy of contents
         self.links = {name: f'<a href="#host-{esc(name)}">{esc(name)}</a>' if self.is_small else esc(name)
                       for name in self.names}
 
