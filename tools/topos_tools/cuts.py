@@ -5,7 +5,7 @@ from .cuts_judge import Cut, Judge, Judgement, without_ports
 from .cuts_read import Connection, Saved, read_connections
 from .import_sets import Numbers, intersection, joined, single
 from .import_words import address
-from .query import NO_FILE, USAGE, Programs, Stopped, Tool, data_text, need_words, write_text
+from .query import NO_FILE, USAGE, Programs, Stopped, Tool, data_text, need_words, plain, write_text
 from .report_model import Source
 from .report_words import counted, verb
 
@@ -59,9 +59,9 @@ def note(path: str, saved: Saved) -> None:
     if saved.unread:
         count = len(saved.unread)
         lines = f'{counted(count, "line")} {verb(count, "is", "are")} no connection'
-        sys.stderr.write(f'topos-cuts: note: {path}: {lines}, the first is line {saved.unread[0]}\n')
+        sys.stderr.write(f'topos-cuts: note: {plain(path)}: {lines}, the first is line {saved.unread[0]}\n')
     if saved.other_family:
-        sys.stderr.write(f'topos-cuts: note: {path}: {counted(saved.other_family, "line")} of IPv6 left out\n')
+        sys.stderr.write(f'topos-cuts: note: {plain(path)}: {counted(saved.other_family, "line")} of IPv6 left out\n')
 
 
 def listed(cuts: list[Cut], head: str, is_whole: bool) -> list[str]:

@@ -403,7 +403,7 @@ class Tool:
             sys.stderr.write(f'{self.name}: the file is nested too deeply, or needs too much memory\n')
             sys.exit(UNAVAILABLE)
         except Stopped as stopped:
-            line = str(stopped)
+            line = '\n'.join(map(plain, str(stopped).split('\n')))  # the name of a file may have codes for a terminal
             sys.stderr.write((line if line.startswith('topos: ') else f'{self.name}: {line}') + '\n')
             if stopped.status == USAGE:
                 sys.stderr.write(self.usage)

@@ -63,12 +63,12 @@ def others(programs: Programs, text: bytes, name: str) -> list[dict[str, Any]]:
 
 
 def moved(text: bytes, name: str, refused: Stopped) -> bytes:
-    """Returns the description with the host of this name elsewhere."""
-    import tomllib
+    """Returns the description with the host of this name elsewhere. A key of many parts is slow for `tomllib`."""
+    from .toml_places import Fault, Scanner
     BUDGET.start(LONGEST_READING)
     try:
-        table = tomllib.loads(text.decode())
-    except (ValueError, RecursionError):
+        table = Scanner(text.decode()).document().plain()
+    except (Fault, ValueError, RecursionError):
         raise refused from None
     BUDGET.start()
     named = [host for host in table.get('host', []) if host.get('name') == name] if is_form(table) else []

@@ -2,6 +2,7 @@
 import io
 import re
 import sys
+from typing import NoReturn
 
 from .query import LONGEST as MOST
 from .query import (NO_REFUSAL, UNAVAILABLE, Stopped, TimedOut, Tool, data_text, find_program, need_words, read_bytes,
@@ -21,10 +22,10 @@ from .where_toml import Edited, NoToml
 
 USAGE_TEXT = '''usage: topos-where [--all] [--json] [--program TOPOS] FILE [DESCRIPTION]
   FILE            the description, rules, flows, events or edits that topos refused; the refusal is on the
-                  standard input
+                  standard input, else the program is asked about FILE
   DESCRIPTION     what the edits in FILE are for
 options
-  --all           go on past each fault in a copy of FILE; without a refusal on the standard input FILE is asked about
+  --all           go on past each fault in a copy of FILE
   --json          print the places as JSON
   --program TOPOS the program topos; else $TOPOS, the one beside this script, the one that is built, or `topos`
   --help, --version
@@ -63,6 +64,9 @@ class Search:
             said = f'refuses it as {where}'
         return Stopped(f'the refusal is none of {self.page.name}: topos {said} now', NO_REFUSAL)
 
+    def accepted(self) -> NoReturn:
+        raise Stopped(f'topos accepts {self.page.name}: there is no refusal to show', NO_REFUSAL)
+
     def status(self, accepted: bool) -> int:
         """Adds the number of places, and returns the exit status."""
         if not self.is_whole:
@@ -97,8 +101,8 @@ class Search:
                 raise Stopped(f'line {refusal.line}: {refusal.name}: name the description of the edits, '
                               f'topos-where {self.page.name} DESCRIPTION', NO_REFUSAL)
             raise self.other_answer(now)
-        if refusal is not None and not self.is_whole:
-            self.page.show(text.shown(refusal)[0])
+        if not self.is_whole:
+            self.page.show(text.shown(now or self.accepted())[0])
             return 0
         hidden, is_hidden = list[int](), False
         while now is not None and len(self.page.findings) + len(hidden) < LINE_ROUNDS:
@@ -122,6 +126,8 @@ class Search:
         now, edited = self.program.description(data), Edited(self.page.text)
         if refusal is not None and refusal != now:
             raise self.other_answer(now)
+        if now is None and not self.is_whole:
+            self.accepted()
         if now is not None and now.number == 1:
             self.page.show(Finding('1 TooLong at document', [],
                                    [f'{self.page.name} has {len(data):,} bytes, and a description {MOST:,} at most. '
@@ -184,10 +190,10 @@ class Search:
 
 
 def search(words: list[str], program: Program, page: Page, data: bytes, is_whole: bool) -> int:
-    found = []
-    if sys.stdin and not (is_whole and sys.stdin.isatty()):
-        found = refusals_in(sys.stdin.buffer.read(LONGEST).decode(errors='replace'))
-    if not found and not is_whole:
+    is_told = sys.stdin is not None and not sys.stdin.isatty()
+    told = sys.stdin.buffer.read(LONGEST).decode(errors='replace') if is_told else ''
+    found = refusals_in(told)
+    if told.strip() and not found and not is_whole:
         raise Stopped('no refusal of topos on the standard input: topos check FILE 2>&1 | topos-where FILE', NO_REFUSAL)
     refusal = found[0] if found else None
     what, task = refusal.what if refusal else kind_of(page.text), Search(program, page, is_whole)

@@ -76,7 +76,8 @@ class Page:
         for mark in finding.marks:
             by_line.setdefault(self.line_of(mark.start), []).append(mark)
         first = next(iter(by_line), 0)
-        print(f'{self.name}:{first}: {finding.title}' if first else f'{self.name}: {finding.title}')
+        name = visible(self.name)
+        print(f'{name}:{first}: {finding.title}' if first else f'{name}: {finding.title}')
         wide = len(str(max(by_line, default=0)))
         for number, marks in by_line.items():
             self.show_line(number, marks, wide)
