@@ -1,31 +1,39 @@
 """Lists the flows that the rules of a firewall let pass between the hosts of a description."""
-from .flows_against import differences, permitted
-from .flows_answer import ask_flows, is_imported, texts_of
+from dataclasses import dataclass, field
+
+from .flows_against import Differences, permitted
+from .flows_answer import Flows, ask_flows, is_imported, texts_of
+from .flows_dead import DeadRule, dead_rules
+from .flows_groups import Groups
 from .flows_hosts import interfaces_of_hosts, owned_addresses, parts_of_hosts, proposal
 from .flows_list import Listing
+from .flows_rules import Rules
 from .flows_services import of_list
 from .import_files import file_name, import_save, read_text
-from .import_report import caveats, remedies
+from .import_report import caveats, remedies, shown
 from .import_save import Save
 from .import_sets import Numbers
-from .query import (READS_ANSWERS, USAGE, Programs, Stopped, Tool, data_text, keep_inputs, lines_text, need_words,
-                    plain, read_bytes, write_text)
+from .query import (PROGRESS, READS_ANSWERS, USAGE, Programs, Stopped, TimedOut, Tool, data_text, keep_inputs,
+                    lines_text, need_words, plain, read_bytes, write_text)
 
 USAGE_TEXT = '''usage: topos-flows [--program TOPOS] [..] DESCRIPTION RULES
-           lists the flows that RULES, of iptables-save or topos-import, let pass between the hosts of DESCRIPTION
+           lists the flows that RULES, of iptables-save or topos-import, let pass between the hosts of DESCRIPTION, by
+           the rules that let them pass, and the rules that no packet meets
+       topos-flows --list [--program TOPOS] [..] DESCRIPTION RULES
+           lists these flows for a description, each with the lines that let it pass
        topos-flows --against [--program TOPOS] [..] DESCRIPTION RULES
            lists what RULES let pass and DESCRIPTION does not permit, and the other way round
        topos-flows --hosts --interfaces FILE [..] RULES
            proposes hosts: the networks behind interfaces, and the addresses that rules single out
        --interfaces FILE, --sets FILE, --syn   as of topos-import
-       --json OUT          writes the list as JSON too
-       --in-part           lists services that pass in part as flows, too
+       --json OUT          writes both lists as JSON too
+       --in-part           with --list: lists services that pass in part as flows, too
        --omit SERVICES     leaves services out, as icmp,udp/123, except where all services pass
        --lower             lists what surely passes, in place of what may pass
        the program topos-query is that of TOPOS_QUERY, else the one beside topos, else that of the path
 '''
 VALUED = {'--program', '--interfaces', '--sets', '--json', '--omit'}
-PLAIN = {'--against', '--hosts', '--in-part', '--lower', '--syn'}
+PLAIN = {'--against', '--hosts', '--in-part', '--list', '--lower', '--syn'}
 DIFFERS = 2
 
 
@@ -54,28 +62,64 @@ def omitted_services(values: dict[str, str]) -> Numbers:
 
 
 def notes_on(save: Save, owned: dict[str, Numbers]) -> list[str]:
-    """Returns comments on hosts that rules split, on missing files, and on what the bounds leave out."""
+    """Returns lines on hosts that rules split, on missing files, and on what the bounds leave out."""
     told = [*remedies(save, save.all_rules()), *caveats(save)]
-    return [*parts_of_hosts(save, owned), *(f'# {plain(each)}' for each in told)]
+    return [*parts_of_hosts(save, owned), *map(plain, told)]
+
+
+@dataclass
+class Answers:
+    """What topos-query answers on both bounds and on dead rules, as far as it is known when the time is over."""
+    upper: Flows
+    lower: Flows
+    dead: list[DeadRule] = field(default_factory=list)
+    stopped: TimedOut | None = None
+    missing: str = ''  # what is not known
+
+    def notes(self) -> list[str]:
+        return [f'not known, since {self.stopped}: {self.missing}'] if self.stopped else []
+
+
+def ask_all(programs: Programs, description: bytes, text: str, save: Save | None, omitted: Numbers) -> Answers:
+    """Asks about both bounds, and then about dead rules. Without the lower bound everything is in doubt."""
+    texts = texts_of(text, save)
+    PROGRESS.doing = 'asking topos-query what the upper bound lets pass'
+    upper = ask_flows(programs, description, texts[0]).without(omitted)
+    found = Answers(upper, Flows({}) if texts[1:] else upper, missing='what is in doubt, and dead rules')
+    try:
+        PROGRESS.doing = 'asking topos-query what the lower bound lets pass'
+        for each in texts[1:]:
+            found.lower = ask_flows(programs, description, each).without(omitted)
+        found.missing = 'dead rules'
+        found.dead = dead_rules(programs, text, save) if save else []
+    except TimedOut as stopped:
+        found.stopped = stopped
+    return found
 
 
 def list_flows(words: list[str], values: dict[str, str], options: set[str]) -> int:
     programs, description, text = Programs.find(values.get('--program')), read_bytes(words[0]), read_text(words[1])
     hosts = {each['name']: each.get('at', []) for each in programs.table(description).get('host', [])}
-    save, owned = read_save(text, values, options), owned_addresses(hosts)
-    omitted = omitted_services(values)
-    answers = [ask_flows(programs, description, each).without(omitted) for each in texts_of(text, save)]
-    shown = answers[-1] if '--lower' in options else answers[0]
-    listing = Listing(list(hosts), shown, answers[-1], '--in-part' in options, interfaces_of_hosts(save, owned))
+    save, owned, omitted = read_save(text, values, options), owned_addresses(hosts), omitted_services(values)
+    found = ask_all(programs, description, text, save, omitted)
+    is_list = options.isdisjoint({'--against', '--lower'})
+    if found.stopped and not (is_list and '--json' not in values):
+        raise found.stopped
+    listing = Listing(list(hosts), found.lower if '--lower' in options else found.upper, found.lower,
+                      '--in-part' in options, interfaces_of_hosts(save, owned), found.dead)
+    rules = Rules(file_name(words[1]), {rule.line: shown(rule) for rule in save.all_rules()} if save else {})
     if '--json' in values:
-        write_text(values['--json'], data_text(listing.tree()))
+        write_text(values['--json'], data_text({**listing.tree(), 'by_rule': Groups(listing).tree()}))
     if '--against' in options:
-        found = differences(listing, permitted(programs, description, omitted), omitted, owned)
-        write_text(None, lines_text(found or ['equal']))
-        return DIFFERS if found else 0
-    notes = notes_on(save, owned) if save else []
-    notes += [f'# left out, except where all services pass: {values["--omit"]}'] if omitted else []
-    write_text(None, listing.text(file_name(words[1]), file_name(words[0]), notes))
+        lines = Differences(listing, permitted(programs, description, omitted), omitted, owned).text(rules)
+        write_text(None, lines_text(lines or ['equal']))
+        return DIFFERS if lines else 0
+    notes = [*found.notes(), *(notes_on(save, owned) if save else [])]
+    notes += [f'left out, except where all services pass: {values["--omit"]}'] if omitted else []
+    form = listing.text if options & {'--list', '--in-part'} else Groups(listing).text
+    write_text(None, form(rules, file_name(words[0]), notes))
+    if found.stopped:
+        raise found.stopped
     return 0
 
 

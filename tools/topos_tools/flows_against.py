@@ -1,10 +1,14 @@
-"""Compares what rules let pass with what a description permits, by pairs of hosts."""
+"""Compares what rules let pass with what a description permits."""
 from collections.abc import Iterator
+from dataclasses import dataclass, field
 
 from .flows_answer import Pair
-from .flows_list import Listing, lines_text
-from .flows_services import ALL_SERVICES, of_words, told_services
+from .flows_groups import Ends
+from .flows_list import Listing, grouped
+from .flows_rules import Rules
+from .flows_services import ALL_SERVICES, brief_services, of_words, size
 from .import_sets import Numbers, difference, intersection, joined
+from .names import arrow, products
 from .query import Programs
 
 
@@ -19,33 +23,73 @@ def permitted(programs: Programs, description: bytes, omitted: Numbers) -> dict[
     return found
 
 
-def size(numbers: Numbers) -> int:
-    return sum(high - low + 1 for low, high in numbers)
+@dataclass(frozen=True)
+class Surplus:
+    """Services that only the rules of some lines let pass, or, without lines, only the description permits."""
+    lines: tuple[int, ...] | None
+    services: Numbers
+    note: str
+
+    def told(self) -> str:
+        return f'{brief_services(self.services)}{self.note}'
 
 
-def differences(listing: Listing, flows: dict[Pair, Numbers], omitted: Numbers, owned: dict[str, Numbers]) -> list[str]:
-    """Returns a line for each pair that differs: most services first, then most senders, on either side."""
-    found: list[tuple[bool, int, int, str]] = []
-    for pair in listing.pairs():
-        for services, line in lines_of(listing, pair, flows.get(pair, ()), omitted):
-            found.append((line.startswith('description'), -size(services), -size(owned[pair[0]]), line))
-    return [each[-1] for each in sorted(found, key=lambda each: each[:-1])]
+@dataclass
+class Pairs:
+    """The pairs of hosts with the same surplus, the size of the greatest sender, and a packet that passes."""
+    pairs: list[Ends] = field(default_factory=list)
+    senders: int = 0
+    example: str = ''
 
 
-def lines_of(listing: Listing, pair: tuple[str, str], services: Numbers,
-             omitted: Numbers) -> Iterator[tuple[Numbers, str]]:
-    """Yields what the rules may let pass and the description does not permit, and the other way round."""
-    arrow = f'{pair[0]} -> {pair[1]}'
-    left_out = () if listing.upper.whole(pair) == ALL_SERVICES else omitted
-    open_ = difference(listing.upper.any(pair), joined(services + left_out))
-    if open_:
-        parts = [part for part in listing.upper.pairs[pair] if intersection(part.services, open_)]
-        lines = lines_text({line for part in parts for line in part.lines})
-        example = next((f', as {each}' for part in parts if (each := part.example(open_))), '')
-        yield open_, f'rules alone: {arrow}: {told_services(open_)}{limits(listing, pair, open_)} ({lines}){example}'
-    closed = difference(services, listing.lower.whole(pair))
-    if closed:
-        yield closed, f'description alone: {arrow}: {told_services(closed)}{limits(listing, pair, closed)}'
+class Differences:
+    """What rules and a description treat in different ways."""
+
+    def __init__(self, listing: Listing, flows: dict[Pair, Numbers], omitted: Numbers,
+                 owned: dict[str, Numbers]) -> None:
+        self.listing, self.owned = listing, owned
+        self.found: dict[Surplus, Pairs] = {}
+        for pair in listing.pairs():
+            services = flows.get(pair, ())
+            for surplus, example in (*self.opened(pair, services, omitted), *self.closed(pair, services)):
+                group = self.found.setdefault(surplus, Pairs())
+                group.pairs.append(pair)
+                group.senders = max(group.senders, size(owned[pair[0]]))
+                group.example = group.example or example
+
+    def opened(self, pair: Ends, services: Numbers, omitted: Numbers) -> Iterator[tuple[Surplus, str]]:
+        """Yields what the rules may let pass and the description does not permit, by rules."""
+        left_out = () if self.listing.upper.whole(pair) == ALL_SERVICES else omitted
+        open_ = difference(self.listing.upper.any(pair), joined(services + left_out))
+        for lines, parts in grouped(self.listing.upper.pairs[pair]).items() if open_ else ():
+            shared = intersection(joined(each for part in parts for each in part.services), open_)
+            example = next((f', as {each}' for part in parts if (each := part.example(shared))), '')
+            if shared:
+                yield Surplus(lines, shared, limits(self.listing, pair, shared)), example
+
+    def closed(self, pair: Ends, services: Numbers) -> Iterator[tuple[Surplus, str]]:
+        """Yields what the description permits and the rules do not surely let pass."""
+        found = difference(services, self.listing.lower.whole(pair))
+        if found:
+            yield Surplus(None, found, limits(self.listing, pair, found)), ''
+
+    def ordered(self) -> list[tuple[Surplus, Pairs]]:
+        """Lists the differences: what only rules let pass first, then most services, then most senders."""
+        return sorted(self.found.items(), key=lambda each: (each[0].lines is None, -size(each[0].services),
+                                                            -each[1].senders))
+
+    def text(self, rules: Rules) -> list[str]:
+        """Returns the differences for a reader, those of the same rules below these."""
+        sections: dict[tuple[int, ...] | None, list[str]] = {}
+        for surplus, group in self.ordered():
+            sections.setdefault(surplus.lines, []).extend(
+                f'  {arrow(senders, receivers, self.listing.hosts)}: {surplus.told()}{group.example}'
+                for senders, receivers in products(group.pairs))
+        found: list[str] = []
+        for lines, told in sections.items():
+            heads = ['description alone'] if lines is None else rules.heads(lines)
+            found += [f'rules alone: {each}' if lines is not None else each for each in heads] + told
+        return found
 
 
 def limits(listing: Listing, pair: tuple[str, str], services: Numbers) -> str:

@@ -37,16 +37,18 @@ class Range:
 
 @dataclass
 class Flows:
-    """What one text lets pass, by pairs, and the lines of the save of which no rule is ever met."""
+    """What one text lets pass, by pairs."""
     pairs: dict[Pair, list[Range]]
-    lines: set[int]
-    dead: set[int]
 
     def whole(self, pair: Pair) -> Numbers:
         return joined(each for part in self.pairs.get(pair, ()) if part.drops is None for each in part.services)
 
     def any(self, pair: Pair) -> Numbers:
         return joined(each for part in self.pairs.get(pair, ()) for each in part.services)
+
+    def meets(self, pair: Pair, services: Numbers) -> bool:
+        """Whether some packet of the services passes."""
+        return bool(intersection(self.any(pair), services))
 
     def without(self, omitted: Numbers) -> 'Flows':
         """Returns the flows without the services, which stay where all services pass."""
@@ -56,7 +58,7 @@ class Flows:
             return [part for part in parts if not is_subset(part.services, omitted)]
 
         pairs = {pair: left(pair, parts) for pair, parts in self.pairs.items()}
-        return Flows({pair: parts for pair, parts in pairs.items() if parts}, self.lines, self.dead)
+        return Flows({pair: parts for pair, parts in pairs.items() if parts})
 
 
 Places = dict[tuple[str, int], int]  # the line of the save by chain and number of the rule
@@ -92,11 +94,8 @@ def ask_flows(programs: Programs, description: bytes, text: str) -> Flows:
     """Returns what `topos-query flows` answers on one text."""
     answer = programs.ask_flows(description, text.encode(errors='surrogateescape'))
     places = places_of(text)
-    pairs = {(each['from'], each['to']): [range_of(part, places) for part in each['services']]
-             for each in answer['pairs']}
-    dead = {(each['chain'], each['rule']) for each in answer.get('dead', [])}
-    met = {line for place, line in places.items() if place not in dead}
-    return Flows(pairs, set(places.values()), set(places.values()) - met)
+    return Flows({(each['from'], each['to']): [range_of(part, places) for part in each['services']]
+                  for each in answer['pairs']})
 
 
 def range_of(part: dict[str, Any], places: Places) -> Range:

@@ -27,12 +27,12 @@ def named_sets(save: Save) -> dict[Numbers, list[int]]:
 
 
 def parts_of_hosts(save: Save, hosts: dict[str, Numbers]) -> Iterator[str]:
-    """Yields a comment for each set that a rule names and of which a host has other addresses too."""
+    """Yields a line for each set that a rule names and of which a host has other addresses too."""
     for numbers, lines in named_sets(save).items():
         cut = [host for host, owned in hosts.items() if is_part(intersection(numbers, owned), owned)]
         if cut:
             verb = 'name' if len(lines) > 1 else 'names'
-            yield f'# {lines_text(lines)} {verb} {told(numbers)}, a part of {" ".join(cut)}'
+            yield f'{lines_text(lines)} {verb} {told(numbers)}, a part of {" ".join(cut)}'
 
 
 def is_part(part: Numbers, whole: Numbers) -> bool:

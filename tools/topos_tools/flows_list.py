@@ -4,6 +4,8 @@ from collections.abc import Iterator
 from dataclasses import dataclass, field
 
 from .flows_answer import POLICY, Flows, Pair, Range
+from .flows_dead import DeadRule
+from .flows_rules import Rules
 from .flows_services import ALL_SERVICES, MOST_OF_FLOW, other_words, told_services, words_of_services
 from .import_sets import Numbers, difference, intersection, joined
 
@@ -18,6 +20,7 @@ class Listing:
     lower: Flows
     has_parts: bool = False  # whether services that pass in part are listed too
     interfaces: dict[str, str] = field(default_factory=dict)  # of hosts that are behind one
+    dead: list[DeadRule] = field(default_factory=list)
 
     def pairs(self) -> Iterator[tuple[str, str]]:
         for sender in self.hosts:
@@ -29,20 +32,27 @@ class Listing:
         """Returns the services that only `upper` lets pass."""
         return difference(services, self.lower.whole(pair))
 
-    def dead(self) -> list[int]:
-        """Lists the lines of which no rule of either text is met."""
-        met = (self.upper.lines - self.upper.dead) | (self.lower.lines - self.lower.dead)
-        return sorted((self.upper.lines | self.lower.lines) - met)
-
     # The text.
 
-    def text(self, rules: str, description: str, notes: list[str]) -> str:
-        counts = [sum(bool(found) for found in map(kind, self.pairs())) for kind in (self.upper.whole, self.parts)]
-        lines = [f'# New connections that {rules} lets pass between the hosts of {description}: {counts[0]} flows,',
-                 f'# {counts[1]} in part. Behind a flow are the lines of {rules} that let it pass.', 'flow = [']
+    def text(self, rules: Rules, description: str, notes: list[str]) -> str:
+        """Returns the list of flows as it goes into a description."""
+        lines = [*(f'# {line}' for line in self.head(rules.name, description)),
+                 f'# Behind a flow are the lines of {rules.name} that let it pass.', 'flow = [']
         for pair in self.pairs():
             lines += self.entries(pair)
-        return '\n'.join([*lines, ']', *self.inner_lines(), *self.nobody_lines(), *self.dead_lines(), *notes, ''])
+        return '\n'.join([*lines, ']', *(f'# {line}' for line in (*self.other_lines(rules), *notes)), ''])
+
+    def head(self, rules: str, description: str) -> list[str]:
+        counts = [sum(bool(found) for found in map(kind, self.pairs())) for kind in (self.upper.whole, self.parts)]
+        return [f'New connections that {rules} lets pass between the hosts of {description}: {counts[0]} flows, '
+                f'{counts[1]} in part.']
+
+    def other_lines(self, rules: Rules) -> Iterator[str]:
+        """Yields lines on what passes in other ways than between two hosts, and on dead rules."""
+        yield from self.inner_lines()
+        yield from self.nobody_lines()
+        for each in self.dead:
+            yield from rules.dead(each.rule.line, each.takers)
 
     def parts(self, pair: Pair) -> list[Range]:
         return [part for part in self.upper.pairs.get(pair, ()) if part.drops is not None]
@@ -80,29 +90,25 @@ class Listing:
         for host in self.hosts:
             services = self.upper.any((host, host))
             if services:
-                yield f'# within {host}: {self.told((host, host))}'
+                yield f'within {host}: {self.told((host, host))}'
 
     def nobody_lines(self) -> Iterator[str]:
         """Yields lines on addresses of no host."""
         for pair in self.upper.pairs:
             if None in pair:
                 ends = [host or 'no host' for host in pair]
-                yield f'# from {ends[0]} to {ends[1]}: {self.told(pair)}, as {self.upper.pairs[pair][0].passes}'
+                yield f'from {ends[0]} to {ends[1]}: {self.told(pair)}, as {self.upper.pairs[pair][0].passes}'
 
     def told(self, pair: Pair) -> str:
         lines = {line for part in self.upper.pairs[pair] for line in part.lines}
         in_part = ', in part' if self.parts(pair) else ''
         return f'{told_services(self.upper.any(pair))}{in_part} ({lines_text(lines)})'
 
-    def dead_lines(self) -> Iterator[str]:
-        dead = self.dead()
-        if dead:
-            yield '# no new or established packet meets the rules of ' + lines_text(dead, len(dead))
-
     # The data.
 
     def tree(self) -> dict[str, object]:
-        return {'version': 1, 'pairs': [self.pair_tree(pair) for pair in self.upper.pairs], 'dead': self.dead()}
+        return {'version': 1, 'pairs': [self.pair_tree(pair) for pair in self.upper.pairs], 'dead': [each.rule.line for each in self.dead],
+                'dead_rules': [each.tree() for each in self.dead]}
 
     def pair_tree(self, pair: Pair) -> dict[str, object]:
         whole = self.upper.whole(pair)

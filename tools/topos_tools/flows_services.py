@@ -1,5 +1,5 @@
 """Services as sets of numbers: 65,536 times the protocol, plus the destination port."""
-from .import_sets import MOST_PORT, MOST_PROTOCOL, Numbers, difference, intersection, is_subset, joined
+from .import_sets import MOST_PORT, MOST_PROTOCOL, Numbers, complement, difference, intersection, is_subset, joined
 
 PORTS = MOST_PORT + 1
 MOST_SERVICE = (MOST_PROTOCOL + 1) * PORTS - 1
@@ -69,6 +69,20 @@ def other_words(services: Numbers) -> list[str]:
         words.append(f'protocol {name}' if (low % PORTS, high % PORTS) == (0, MOST_PORT) else
                      f'protocol {name} of port {low % PORTS} to {high % PORTS}')
     return words
+
+
+def brief_services(services: Numbers) -> str:
+    """Returns the services for a reader, or those that are missing if these are fewer."""
+    missing = complement(services, MOST_SERVICE)
+    words, others = (words_of_services(each) + other_words(each) for each in (services, missing))
+    if missing and len(others) < len(words):
+        return f'everything but {" ".join(others)}'
+    return told_services(services)
+
+
+def size(numbers: Numbers) -> int:
+    """Returns how many services these are."""
+    return sum(high - low + 1 for low, high in numbers)
 
 
 def told_services(services: Numbers) -> str:
