@@ -5,6 +5,7 @@ breaks no invariant.
 """
 from __future__ import annotations
 
+from .names import told_hosts
 from .query import (READS_ANSWERS, USAGE, Programs, Stopped, Tool, data_text, lines_text, need_words, read_bytes, toml,
                     write_text)
 
@@ -15,7 +16,7 @@ if TYPE_CHECKING:
 
 USAGE_TEXT = '''usage: topos-gaps [--program TOPOS] [--json] FILE
            prints a line for each receiver: its name, the number of hosts that only the list of flows denies, and their
-           names
+           names, or `all but` and the names of the others if these are fewer
        topos-gaps [--program TOPOS] --open FILE
            prints the description without its key `flow`: for `topos policy`, never to load
        --json   prints the receivers as JSON
@@ -55,12 +56,14 @@ def main(values: dict[str, str], options: set[str], words: list[str]) -> int:
     if '--open' in options:
         write_text(None, lines_text(open_lines(programs.table(text))))
         return 0
-    found = senders(programs.ask(text, 'network'))
+    answer = programs.ask(text, 'network')
+    found, hosts = senders(answer), [host['name'] for host in answer['hosts']]
     if '--json' in options:
         receivers = [{'to': receiver, 'from': names} for receiver, names in found.items()]
         write_text(None, data_text({'schema': SCHEMA, 'receivers': receivers}))
     else:
-        lines = (f'{receiver} {len(names)} from {" ".join(names)}' for receiver, names in found.items())
+        lines = (f'{receiver} {len(names)} from {told_hosts(names, hosts, [receiver])}'
+                 for receiver, names in found.items())
         write_text(None, lines_text(lines))
     return 0
 
