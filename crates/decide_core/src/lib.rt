@@ -12,8 +12,6 @@ mod marked;
 mod rule_marks;
 mod ruleset_walk;
 mod service_block;
-#[cfg(test)]
-mod tests;
 
 pub use between::deciders_between;
 pub use dead::{dead_entries, dead_places};

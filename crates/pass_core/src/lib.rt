@@ -13,8 +13,6 @@ mod passing;
 mod passing_range;
 mod service;
 mod survey;
-#[cfg(test)]
-mod tests;
 
 pub use dead::dead_rules;
 pub use pairs::{PairServices, services_by_pairs};
