@@ -1,29 +1,35 @@
 -- Laws of gaps: a gap is new if and only if the old network has no gap between some owners of its hosts.
-use Rattle.std.proofs.Common.{◌≡◌, ◌↔◌, ℕ, Bool, true, false, cond, ◌&&◌, ◌||◌, List, [], ◌∷◌, ◌++◌, Option, Some, None, refl, sym, ap, ◌∙◌}
+use Rattle.std.proofs.Common.{◌≡◌, ◌↔◌, ℕ, ◌<◌, ◌^◌, Bool, true, false, cond, ◌&&◌, ◌||◌, List, [], ◌∷◌, ◌++◌, Option, Some, None, refl, sym, ap, ◌∙◌, lit<}
 use Rattle.std.specs.Prelude.{IsTrue}
-use Rattle.std.specs.List.{Contains, list_any}
 use Rattle.std.specs.Option.{is_none}
 use Rattle.std.specs.Global.{Global}
 use Rattle.std.specs.declared.vec.Vec.{Vec}
 use Rattle.std.proofs.lemmas.Bool.{and_parts}
-use Rattle.std.proofs.lemmas.List.Folds.{Any-from_list_any, list_any-from_Any}
+use Rattle.host_net.specs.declared.packet.Packet.{Packet}
 use Rattle.host_net.specs.Host.{Host, owner_of}
 use Rattle.flow_set.specs.declared.flow.Flow.{Flow}
 use Rattle.flow_set.specs.Flow.{same_flow}
 use Rattle.flow_set.specs.FlowSet.{SetOfFlows, has, with_flow}
 use Rattle.flow_set.specs.laws.FlowLaws.{has-append, has-with_flow, same_test}
-use Rattle.change_core.specs.Weaker.{IsNewGap}
+use Rattle.change_core.specs.Weaker.{IsNewGap, IsOfFlow}
 use Rattle.change_core.specs.inner.Listing.{is_new, lacks_from, lacks_some}
 use Rattle.change_core.specs.inner.Sharing.{AreShared, Shares, flow_in, row_at}
-use Rattle.change_core.proofs.WeakerLaws.{flow_of, flow_there, of_flow_between, packet_between}
+use Rattle.change_core.proofs.ServingLaws.{passes_some, some_passes}
+use Rattle.change_core.proofs.WeakerLaws.{flow_of, flow_there}
 
--- 1. A test for some element of a list.
+-- 1. Packets between hosts.
 
-some_passes : {X : Type 0} (test : X → Bool) (xs : List X) → list_any test xs ≡ true → (x : X) × Contains xs x × (test x ≡ true)
-some_passes test xs found = let any = Any-from_list_any test xs found in (any.1, (any.0, any.2, any.3), any.4)
+-- A packet between two addresses.
+abbrev packet_between : ℕ → ℕ → Packet
+packet_between a b = record { src = a; dst = b; proto = 0; sport = 0; dport = 0 }
 
-passes_some : {X : Type 0} (test : X → Bool) (xs : List X) (x : X) → Contains xs x → test x ≡ true → list_any test xs ≡ true
-passes_some test xs x there passes = list_any-from_Any test xs (there.0, x, there.1, there.2, passes)
+of_flow_between : (hosts : List Host) (f : Flow) (a b : ℕ) → a < 2 ^ 32 → b < 2 ^ 32 → owner_of hosts a ≡ Some f.from → owner_of hosts b ≡ Some f.to
+    → IsOfFlow hosts f (packet_between a b)
+of_flow_between hosts f a b source destination from to = record {
+  packet = (source, destination, lit< tt, lit< tt, lit< tt);
+  src = from;
+  dst = to;
+}
 
 none_where : (o : Option Flow) → is_none o ≡ true → o ≡ None
 none_where None is = refl

@@ -11,6 +11,7 @@ mod kind;
 mod named;
 mod named_owner;
 mod policy_flows;
+mod services;
 mod sharing;
 mod weaker;
 
