@@ -6,6 +6,7 @@ pub mod FlowsLaws
 mod GapLaws
 pub mod OffenceLaws
 pub mod OneAnswerLaws
+mod PlaceLaws
 mod PushLaws
 pub mod WeakeningLaws
 pub mod WeakeningOnceLaws

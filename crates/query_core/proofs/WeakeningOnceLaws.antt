@@ -11,8 +11,8 @@ use Rattle.explain_core.proofs.ReasonLaws.{failing_is_one, finding_parts, findin
 use Rattle.flow_set.specs.EveryFlow.{every_flow}
 use Rattle.flow_set.specs.FlowSet.{with_flow}
 use Rattle.flow_set.specs.declared.flow.Flow.{Flow}
-use Rattle.host_net.specs.Host.{Host}
-use Rattle.net_core.specs.Network.{Network}
+use Rattle.host_net.specs.Site.{Site}
+use Rattle.net_core.specs.Network.{Network, site_of}
 use Rattle.net_core.specs.Policies.{Policy, holds_on}
 use Rattle.query_core.specs.Json.{is_nothing}
 use Rattle.query_core.specs.Weakening.{AreAllDenials, IsWeakening, flows_where, is_denied, is_free}
@@ -55,25 +55,34 @@ one_free d policy xs ys a b = same_flows_where is_free (λ parts. is_nothing par
 -- ---- two lists of weaker flows
 
 -- If one list of all weaker flows has none, so has every other.
-none_too : (old : List Host) (denied : List Flow) (new : List Host) (free : List Flow) (vs ws : List Weaker) → AreWeaker old denied new free vs
+none_too : (old : Site) (denied : List Flow) (new : Site) (free : List Flow) (vs ws : List Weaker) → AreWeaker old denied new free vs
     → AreWeaker old denied new free ws → IsTrue (is_nothing vs) → IsTrue (is_nothing ws)
 none_too old denied new free vs [] a b none = refl
 none_too old denied new free [] (w ∷ ws) a b none = absurd (contains_none w ((a.exact w).1 ((b.exact w).0 (contains_first w ws w refl))))
 none_too old denied new free (v ∷ vs) (w ∷ ws) a b none = cc none
 
-weaker_alike : (old : List Host) (denied : List Flow) (new : List Host) (free : List Flow) (vs ws : List Weaker) → AreWeaker old denied new free vs
+weaker_alike : (old : Site) (denied : List Flow) (new : Site) (free : List Flow) (vs ws : List Weaker) → AreWeaker old denied new free vs
     → AreWeaker old denied new free ws → is_nothing vs ≡ is_nothing ws
 weaker_alike old denied new free vs ws a b =
     both_imply (is_nothing vs) (is_nothing ws) (none_too old denied new free vs ws a b) (none_too old denied new free ws vs b a)
+
+-- A mapped list is empty if the list is.
+nothing_mapped : {X Y : Type 0} (f : X → Y) (xs : List X) → is_nothing (map f xs) ≡ is_nothing xs
+nothing_mapped f [] = refl
+nothing_mapped f (x ∷ xs) = refl
 
 -- Two weakenings by one change both have a weaker flow, or both have none.
 pub weakens_once : (old : Network) (before : Policy) (new : Network) (after : Policy) (v w : Weakening) → IsWeakening old before new after v
     → IsWeakening old before new after w → is_nothing v.weaker.items ≡ is_nothing w.weaker.items
 weakens_once old before new after v w a b =
-    let denied : flows_where is_denied v.denials.items ≡ flows_where is_denied w.denials.items =
-    one_denied old before v.denials.items w.denials.items a.old_denials b.old_denials in
+    let denied : flows_where is_denied a.old_denials ≡ flows_where is_denied b.old_denials =
+    one_denied old before a.old_denials b.old_denials a.are_old_denials b.are_old_denials in
     let free : flows_where is_free a.denials ≡ flows_where is_free b.denials = one_free new after a.denials b.denials a.are_denials b.are_denials in
-    let fd : List Flow = flows_where is_denied w.denials.items in
-    weaker_alike old.hosts fd new.hosts (flows_where is_free b.denials) v.weaker.items w.weaker.items
-    (subst (λ (fs : List Flow). AreWeaker old.hosts fd new.hosts fs v.weaker.items) free
-    (subst (λ (fs : List Flow). AreWeaker old.hosts fs new.hosts (flows_where is_free a.denials) v.weaker.items) denied a.weaker)) b.weaker
+    let fd : List Flow = flows_where is_denied b.old_denials in
+    let left : List Weaker = map (λ x. x.flows) v.weaker.items in
+    let right : List Weaker = map (λ x. x.flows) w.weaker.items in
+    sym (nothing_mapped (λ x. x.flows) v.weaker.items)
+    ∙ weaker_alike (site_of old) fd (site_of new) (flows_where is_free b.denials) left right
+    (subst (λ (fs : List Flow). AreWeaker (site_of old) fd (site_of new) fs left) free
+    (subst (λ (fs : List Flow). AreWeaker (site_of old) fs (site_of new) (flows_where is_free a.denials) left) denied a.weaker)) b.weaker
+    ∙ nothing_mapped (λ x. x.flows) w.weaker.items

@@ -5,13 +5,11 @@ use Rattle.change_core.specs.declared.kind.ChangeKind.{ChangeKind}
 use Rattle.change_core.specs.declared.kind.ChangeKind.TheVariants.{FlowComes, FlowGoes, AnswersCome, AnswersGo}
 use Rattle.change_core.specs.declared.named_owner.NamedOwner.{NamedOwner}
 use Rattle.change_core.specs.declared.named_owner.NamedOwner.TheVariants.{New, Old, Nobody}
-use Rattle.change_core.specs.declared.weaker.Weaker.{Weaker}
-use Rattle.explain_core.specs.declared.finding.Finding.{Finding}
 use Rattle.host_net.specs.Host.{Host}
 use Rattle.pass_core.specs.declared.passing_range.PassingRange.{PassingRange}
 use Rattle.query_core.specs.Json.{array_json, flow_json, host_json, number_json, string_json}
 use Rattle.query_core.specs.RangeJson.{header_json, header_or_null, range_json}
-use Rattle.query_core.specs.Weakening.{denied_by}
+use Rattle.query_core.specs.declared.weakened.Weakened.{Weakened}
 use Rattle.query_core.specs.declared.weakening.Weakening.{Weakening}
 
 -- A host of the old description: {"old":"db"}.
@@ -44,14 +42,14 @@ change_json new old c =
 
 -- A weaker flow, with the flow of the old network that its invariants with these numbers denied:
 -- {"flow":["web","db"],"old":["www","db"],"denied_by":[2]}.
-unfoldable pub weaker_json : (new old : List Host) → (denials : List Finding) → Weaker → List ℕ
-weaker_json new old denials w =
-    codes "{\"flow\":" ++ (flow_json new w.flow ++ (codes ",\"old\":" ++ (flow_json old w.old
-    ++ (codes ",\"denied_by\":" ++ (array_json number_json (denied_by denials w.old) ++ codes "}")))))
+unfoldable pub weaker_json : (new old : List Host) → Weakened → List ℕ
+weaker_json new old x =
+    codes "{\"flow\":" ++ (flow_json new x.flows.flow ++ (codes ",\"old\":" ++ (flow_json old x.flows.old
+    ++ (codes ",\"denied_by\":" ++ (array_json number_json x.denied_by.items ++ codes "}")))))
 
 -- The answer of `changes`: the version of the format, all changes, all weaker flows, and all new gaps.
 unfoldable pub changes_json : (new old : List Host) → List Change → Weakening → List ℕ
 changes_json new old changes w =
     codes "{\"version\":1,\"changes\":" ++ (array_json (change_json new old) changes
-    ++ (codes ",\"weaker\":" ++ (array_json (weaker_json new old w.denials.items) w.weaker.items
+    ++ (codes ",\"weaker\":" ++ (array_json (weaker_json new old) w.weaker.items
     ++ (codes ",\"gaps\":" ++ (array_json (flow_json new) w.gaps.flows ++ codes "}\n")))))

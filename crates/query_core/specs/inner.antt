@@ -1,3 +1,4 @@
+pub mod Denying
 pub mod Fitting
 pub mod FittingChanges
 pub mod Wanting

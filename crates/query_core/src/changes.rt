@@ -2,7 +2,6 @@
 
 ghost use Rattle.std.specs.Prelude.{◌≡◌, ◌<◌, ◌++◌, All, IfOk, OnOk, length};
 ghost use Rattle.query_core.specs.ChangesJson.{change_json, changed_range_json, changes_json, kind_text, named_json, old_host_json, weaker_json};
-ghost use Rattle.query_core.specs.Weakening.{denied_by};
 ghost use Rattle.query_core.specs.inner.FittingChanges.{FitsChange, FitsOwner, FitsWeaker, FitsWeakening};
 
 use crate::array::{ItemWriter, push_array};
@@ -10,10 +9,9 @@ use crate::names::{push_flow, push_flows, push_host};
 use crate::network::push_numbers;
 use crate::push::{push, push_string};
 use crate::ranges::{push_header, push_header_or_null, push_range};
+use crate::weakened::Weakened;
 use crate::weakening::Weakening;
-use change_core::{Change, ChangeKind, NamedOwner, Weaker};
-use explain_core::Finding;
-use flow_set::Flow;
+use change_core::{Change, ChangeKind, NamedOwner};
 use host_net::Hosts;
 use pass_core::PassingRange;
 use std::alloc::{AllocError, Global};
@@ -49,8 +47,7 @@ fn push_changes(
     push(text, b"{\"version\":1,\"changes\":")?;
     push_array(text, &ChangeWriter { new, old }, changes)?;
     push(text, b",\"weaker\":")?;
-    let denials = &weakening.denials;
-    push_array(text, &WeakerWriter { new, old, denials }, &weakening.weaker)?;
+    push_array(text, &WeakerWriter { new, old }, &weakening.weaker)?;
     push(text, b",\"gaps\":")?;
     push_flows(text, new, &weakening.gaps)?;
     push(text, b"}\n")
@@ -165,19 +162,18 @@ fn push_changed_range(text: &mut Vec<u8>, range: PassingRange) -> Result<(), All
 struct WeakerWriter<'a> {
     new: &'a Hosts,
     old: &'a Hosts,
-    denials: &'a [Finding],
 }
 
-impl<'a> ItemWriter<Weaker> for WeakerWriter<'a> {
+impl<'a> ItemWriter<Weakened> for WeakerWriter<'a> {
     ghost use Rattle.query_core.specs.ChangesJson.{weaker_json};
     ghost use Rattle.query_core.specs.inner.FittingChanges.{FitsWeaker};
 
-    ghost fits = { λ w weaker. FitsWeaker w.new.now w.old.now weaker };
+    ghost fits = { λ w weaker. FitsWeaker w.new.now w.old.now weaker.flows };
 
-    ghost item_json = { λ w weaker. weaker_json w.new.now w.old.now w.denials.now weaker };
+    ghost item_json = { λ w weaker. weaker_json w.new.now w.old.now weaker };
 
-    fn push(&self, text: &mut Vec<u8>, item: &Weaker) -> Result<(), AllocError> {
-        push_weaker(text, self.new, self.old, self.denials, *item)
+    fn push(&self, text: &mut Vec<u8>, item: &Weakened) -> Result<(), AllocError> {
+        push_weaker(text, self.new, self.old, item)
     }
 }
 
@@ -185,29 +181,16 @@ fn push_weaker(
     text: &mut Vec<u8>,
     new: &Hosts,
     old: &Hosts,
-    denials: &[Finding],
-    weaker: Weaker,
+    weaker: &Weakened,
 ) -> Result<(), AllocError>
-    requires { FitsWeaker new.now old.now weaker }
-    ensures { OnOk result (text.new.items ≡ text.old.items ++ weaker_json new.now old.now denials.now weaker) }
+    requires { FitsWeaker new.now old.now weaker.now.flows }
+    ensures { OnOk result (text.new.items ≡ text.old.items ++ weaker_json new.now old.now weaker.now) }
 {
     push(text, b"{\"flow\":")?;
-    push_flow(text, new, weaker.flow)?;
+    push_flow(text, new, weaker.flows.flow)?;
     push(text, b",\"old\":")?;
-    push_flow(text, old, weaker.old)?;
+    push_flow(text, old, weaker.flows.old)?;
     push(text, b",\"denied_by\":")?;
-    push_numbers(text, denied_by(denials, weaker.old))?;
+    push_numbers(text, &weaker.denied_by)?;
     push(text, b"}")
-}
-
-// Returns the numbers of the invariants that deny a flow.
-fn denied_by(denials: &[Finding], flow: Flow) -> &[u16]
-    ensures { result.now ≡ denied_by denials.now flow }
-{
-    for finding in denials {
-        if finding.flow == flow {
-            return &finding.by;
-        }
-    }
-    &[]
 }

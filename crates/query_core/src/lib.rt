@@ -18,6 +18,7 @@ mod offence;
 mod push;
 mod ranges;
 mod standing;
+mod weakened;
 mod weakening;
 mod why;
 
@@ -28,5 +29,6 @@ pub use flows::flows_json;
 pub use network::network_json;
 pub use offence::Offence;
 pub use standing::Standing;
+pub use weakened::Weakened;
 pub use weakening::{Weakening, weakening_of};
 pub use why::why_json;

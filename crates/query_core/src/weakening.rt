@@ -5,12 +5,14 @@ ghost use Rattle.change_core.specs.Weaker.{AreWeaker};
 ghost use Rattle.flow_set.specs.Flow.{IsFlow};
 ghost use Rattle.flow_set.specs.FlowSet.{has, with_flow};
 ghost use Rattle.flow_set.specs.declared.flow.Flow.{Flow};
+ghost use Rattle.net_core.specs.Network.{site_of};
 ghost use Rattle.net_core.specs.Policies.{IsPolicyOf};
 ghost use Rattle.query_core.specs.Weakening.{IsWeakening, flows_where, is_denied, is_free};
 ghost use Rattle.query_core.specs.inner.Wanting.{IsJudgedBy, is_wanted};
 
 use crate::network::{denials_of, is_gap};
 use crate::standing::standing_of;
+use crate::weakened::{Weakened, with_denials};
 use change_core::{Weaker, new_gaps, weaker_flows};
 use explain_core::Finding;
 use flow_set::{Flow, FlowSet};
@@ -21,10 +23,8 @@ use std::alloc::{AllocError, Global};
 /// What a change weakens.
 #[derive(Drop)]
 pub struct Weakening {
-    /// Every flow of the old network, with the invariants that deny it.
-    pub denials: Vec<Finding>,
-    /// The flows that no invariant denies any more.
-    pub weaker: Vec<Weaker>,
+    /// The flows that no invariant denies any more, with the invariants that denied them.
+    pub weaker: Vec<Weakened>,
     /// The new gaps, as flows of the new network.
     pub gaps: FlowSet,
 }
@@ -45,15 +45,12 @@ pub fn weakening_of(
     let old_denials = denials_of(alloc, old, before)?;
     let denials = denials_of(alloc, new, after)?;
     let weaker = weaker_between(alloc, old, &old_denials, new, &denials)?;
+    let weaker = with_denials(alloc, &weaker, old.hosts().count(), &old_denials)?;
     let old_gaps = flows_where(alloc, old.hosts(), &old_denials, Wanted::Gap(old, before))?;
     let gaps = flows_where(alloc, new.hosts(), &denials, Wanted::Gap(new, after))?;
     let gaps = new_gaps(alloc, old.hosts(), &old_gaps, new.hosts(), &gaps)?;
     let _ = gaps.size();
-    Ok(Weakening {
-        denials: old_denials,
-        weaker,
-        gaps,
-    })
+    Ok(Weakening { weaker, gaps })
 }
 
 fn weaker_between(
@@ -65,12 +62,20 @@ fn weaker_between(
 ) -> Result<Vec<Weaker>, AllocError>
     requires old { All (λ x. IsFlow (length old.now.hosts) x.flow) old_denials.now }
     requires new { All (λ x. IsFlow (length new.now.hosts) x.flow) denials.now }
-    ensures { IfOk result (λ list. AreWeaker old.now.hosts (flows_where is_denied old_denials.now)
-        new.now.hosts (flows_where is_free denials.now) list.items) }
+    ensures { IfOk result (λ list. AreWeaker (site_of old.now) (flows_where is_denied old_denials.now)
+        (site_of new.now) (flows_where is_free denials.now) list.items) }
 {
     let denied = flows_where(alloc, old.hosts(), old_denials, Wanted::Denied)?;
     let free = flows_where(alloc, new.hosts(), denials, Wanted::Free)?;
-    weaker_flows(alloc, old.hosts(), &denied, new.hosts(), &free)
+    weaker_flows(
+        alloc,
+        old.hosts(),
+        old.services(),
+        &denied,
+        new.hosts(),
+        new.services(),
+        &free,
+    )
 }
 
 // A condition on findings.

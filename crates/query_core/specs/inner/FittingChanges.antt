@@ -27,5 +27,5 @@ pub record FitsWeaker (new old : List Host) (w : Weaker) : Type 0 where
 
 -- The flows of a weakening are flows of the two descriptions.
 pub record FitsWeakening (new old : List Host) (w : Weakening) : Type 0 where
-  pub weaker : All (FitsWeaker new old) w.weaker.items
+  pub weaker : All (λ x. FitsWeaker new old x.flows) w.weaker.items
   pub gaps : IsFlowSet (length new) w.gaps.flows

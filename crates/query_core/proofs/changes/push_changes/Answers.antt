@@ -7,5 +7,5 @@ pub returns : goal.returns
 unfolding changes_json
 returns c =
     on_ok_weaker c.push-4.result
-    (λ last. last ∙ rw (c.in_ok-push_flows.ensures, c.in_ok-push-3.ensures, c.in_ok-push_array-2.ensures, c.in_ok-push-2.ensures, c.in_ok-push_array.ensures, c.in_ok-push.ensures, c.deref.ensures.value, c.deref-2.ensures.value) (simp append_assoc))
+    (λ last. last ∙ rw (c.in_ok-push_flows.ensures, c.in_ok-push-3.ensures, c.in_ok-push_array-2.ensures, c.in_ok-push-2.ensures, c.in_ok-push_array.ensures, c.in_ok-push.ensures, c.deref.ensures.value) (simp append_assoc))
     c.push-4.ensures
