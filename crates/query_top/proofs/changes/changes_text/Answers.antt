@@ -13,7 +13,7 @@ changes_json-requires-clause-changes c =
 pub changes_json-requires-clause-weakening : goal.changes_json-requires-clause-weakening
 changes_json-requires-clause-weakening c =
     rw (c.hosts.ensures.value, c.hosts-2.ensures.value)
-    (weakening_fits c.args.old.now c.args.before.now c.args.new.now c.args.after.now c.args.weakening.now c.requires.weakening)
+    (weakening_fits c.args.old.now c.args.before.now c.args.new.now c.args.after.now c.args.weakening.now c.hosts.ensures.hosts.few c.requires.weakening)
 
 pub returns : goal.returns
 returns c =
