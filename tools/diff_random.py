@@ -7,6 +7,8 @@ from collections.abc import Iterator
 from typing import Any
 
 from report_networks import TABLE, entry
+from topos_tools.flows_services import of_words
+from topos_tools.import_sets import intersection
 from topos_tools.query import Programs, text_of
 
 Table = dict[str, Any]
@@ -160,6 +162,11 @@ def flow_facts(network: Table) -> dict[tuple[str | None, str | None], Table]:
     return {(each['flow'][0], each['flow'][1]): each for each in network['flows']}
 
 
+def share(services: list[str], others: list[str]) -> bool:
+    """Whether some packet matches the services of both flows."""
+    return bool(intersection(of_words(services), of_words(others)))
+
+
 def openings(old: Table, new: Table) -> Table:
     """Returns what NEW opens: the keys `weaker` and `gaps`, after docs/QUERIES.md, address by address."""
     facts, past = flow_facts(new), flow_facts(old)
@@ -170,7 +177,7 @@ def openings(old: Table, new: Table) -> Table:
         if (sender, receiver) not in facts:
             continue
         fact, before = facts[sender, receiver], past.get((was_sender, was_receiver))
-        if before and before['denied_by'] and not fact['denied_by']:
+        if before and before['denied_by'] and not fact['denied_by'] and share(fact['services'], before['services']):
             weaker[str(sender), str(receiver), str(was_sender), str(was_receiver)] = before['denied_by']
         if fact['gap'] and not (before and before['gap']):
             gaps.add((str(sender), str(receiver)))

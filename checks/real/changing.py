@@ -118,7 +118,8 @@ class Changes:
         """Lists the flows that no invariant of the new network denies, each with flows that the old network denied."""
         return sorted({(self.place(self.new, new), self.place(self.old, old)): (new, old, before[old]['denied_by'])
                        for new, old in self.pairs()
-                       if new and old and before[old]['denied_by'] and not after[new]['denied_by']}.items())
+                       if new and old and before[old]['denied_by'] and not after[new]['denied_by']
+                       and share(after[new]['services'], before[old]['services'])}.items())
 
     def gaps(self, before: Facts, after: Facts) -> list[tuple[Place, Flow]]:
         """Lists the gaps of the new network of which some packet was in no gap of the old one."""
@@ -128,6 +129,22 @@ class Changes:
     @staticmethod
     def place(policy: Policy, flow: Flow) -> Place:
         return policy.names.index(flow[0]), policy.names.index(flow[1])
+
+
+def share(left: list[str], right: list[str]) -> bool:
+    """Whether some packet matches both lists of services. An empty list matches every packet."""
+    return not left or not right or any(meet(numbers(one), numbers(other)) for one in left for other in right)
+
+
+def numbers(service: str) -> tuple[str, int, int]:
+    """Returns the protocol, the first and the last port of a service."""
+    protocol, _, ports = service.partition('/')
+    first, _, last = ports.partition('-')
+    return (protocol, int(first), int(last or first)) if ports else (protocol, 0, 65535)
+
+
+def meet(one: tuple[str, int, int], other: tuple[str, int, int]) -> bool:
+    return one[0] == other[0] and max(one[1], other[1]) <= min(one[2], other[2])
 
 
 def facts(answer: dict[str, Any]) -> Facts:
