@@ -1,0 +1,6 @@
+mod CutLaws
+mod LinkLaws
+mod MapLaws
+mod PolicyLaws
+mod SendLaws
+mod TableLaws

@@ -1,0 +1,4 @@
+pub mod Cutting
+pub mod Linking
+pub mod Mapping
+pub mod Sending
