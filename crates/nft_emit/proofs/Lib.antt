@@ -1,6 +1,8 @@
+mod BuildLaws
 mod CutLaws
+mod EvalLaws
+mod FallLaws
 mod LinkLaws
-mod MapLaws
-mod PolicyLaws
+mod NameLaws
 mod SendLaws
 mod TableLaws

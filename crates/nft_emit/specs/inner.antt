@@ -1,4 +1,5 @@
-pub mod Cutting
-pub mod Linking
-pub mod Mapping
+pub mod Building
+pub mod Cuts
+pub mod Falls
+pub mod Links
 pub mod Sending

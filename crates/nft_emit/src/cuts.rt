@@ -1,24 +1,24 @@
-//! The ranges of addresses, each with the host that owns it.
+//! The ranges of addresses that hosts own by their prefixes.
 
 ghost use Rattle.std.specs.Prelude.{◌≡◌, ◌++◌, IfOk, OnOk};
-ghost use Rattle.nft_emit.specs.Cuts.{AreCuts};
-ghost use Rattle.nft_emit.specs.inner.Cutting.{cut_if};
+ghost use Rattle.nft_emit.specs.inner.Cuts.{AreCuts, cut_if, is_same_host};
 
 use header_space::AddressRange;
 use host_net::Hosts;
 use std::alloc::{AllocError, Global};
 
-/// A range of addresses that one host owns.
+/// A range of addresses, and the host that owns them.
 #[derive(Clone, Copy, Debug, PartialEq, Eq)]
 pub struct Cut {
     pub range: AddressRange,
     pub host: u16,
 }
 
-/// Returns the ranges of all hosts in ascending order.
+/// Returns the ranges of all hosts other than the rest host, in ascending order.
 pub(crate) fn cuts_of(alloc: Global, hosts: &Hosts) -> Result<Vec<Cut>, AllocError>
     ensures { IfOk result (λ cuts. AreCuts hosts.now cuts.items) }
 {
+    let rest = hosts.rest();
     let mut cuts = Vec::new(alloc);
     let mut first = 0;
     loop {
@@ -27,7 +27,7 @@ pub(crate) fn cuts_of(alloc: Global, hosts: &Hosts) -> Result<Vec<Cut>, AllocErr
             first,
             last: held.last,
         };
-        push_owned(&mut cuts, held.host, range)?;
+        push_owned(&mut cuts, rest, held.host, range)?;
         if held.last == u32::MAX {
             return Ok(cuts);
         }
@@ -35,15 +35,28 @@ pub(crate) fn cuts_of(alloc: Global, hosts: &Hosts) -> Result<Vec<Cut>, AllocErr
     }
 }
 
+/// Adds the range if its owner is a host other than the rest host.
 fn push_owned(
     cuts: &mut Vec<Cut>,
+    rest: Option<u16>,
     owner: Option<u16>,
     range: AddressRange,
 ) -> Result<(), AllocError>
-    ensures { OnOk result (cuts.new.items ≡ cuts.old.items ++ cut_if owner range) }
+    ensures { OnOk result (cuts.new.items ≡ cuts.old.items ++ cut_if rest owner range) }
 {
     if let Some(host) = owner {
-        cuts.push(Cut { range, host })?;
+        if !is_same_host(rest, host) {
+            cuts.push(Cut { range, host })?;
+        }
     }
     Ok(())
+}
+
+fn is_same_host(rest: Option<u16>, host: u16) -> bool
+    ensures { result ≡ is_same_host rest host }
+{
+    match rest {
+        Some(rest) => rest == host,
+        None => false,
+    }
 }

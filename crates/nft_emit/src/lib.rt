@@ -1,13 +1,18 @@
-//! The layout of a policy as a table of nftables that forwards exactly its packets.
+//! The layout of a policy as a table of nftables: the base chain finds the chain of the sender by a
+//! verdict map, which finds the verdict on the receiver by another. Packets whose flow is restricted
+//! to services, or whose answers alone may pass, continue in a chain for these services. Hosts with
+//! the same services share such a chain.
 #![tactic(auto)]
 
+mod classes;
 mod cuts;
 mod emit;
 mod link;
 mod maps;
-mod permitted;
+mod names;
 mod rules;
 mod sender;
+mod served;
 
 pub use cuts::Cut;
 pub use emit::nft_layout;

@@ -1,33 +1,33 @@
-//! The target for the packets from one host to another.
+//! The verdict on the packets from one host to another.
 
-ghost use Rattle.std.specs.Prelude.{◌≡◌, ◌<◌, ◌∷◌, [], ◌++◌, Some, length, option_map, IfOk, OnOk};
-ghost use Rattle.host_net.specs.Service.{is_whole};
-ghost use Rattle.nft_rules.specs.declared.table.Chain.{Chain};
-ghost use Rattle.nft_rules.specs.declared.table.Target.{Target};
-ghost use Rattle.nft_emit.specs.inner.Linking.{Extends, Fits, is_all};
+ghost use Rattle.std.specs.Prelude.{◌≡◌, ◌<◌, ◌≤◌, ◌+◌, ◌++◌, length, option_map, IfOk, OnOk};
+ghost use Rattle.nft_emit.specs.inner.Building.{AreBuilt, Extends};
+ghost use Rattle.nft_emit.specs.inner.Links.{Fits, accepts, is_all};
 
-use crate::permitted::services_in;
+use crate::classes::{Chains, class_of};
 use crate::rules::{is_whole, push_accepts};
+use crate::served::services_in;
 use host_net::Service;
-use nft_rules::{Chain, End, Target};
+use nft_rules::{End, MatchRule, Verdict};
 use pkt_core::FlowPolicy;
 use std::alloc::{AllocError, Global};
 
-/// The greatest number of chains of a table.
-const CHAIN_LIMIT: usize = 100_000;
-
-/// Returns the target for the packets from one host to another, and adds a chain if it needs one.
-pub(crate) fn link_target(
+/// Returns the verdict on the packets from one host to another, and adds a chain if it needs one.
+pub(crate) fn link_verdict(
     alloc: Global,
-    chains: &mut Vec<Chain>,
+    chains: &mut Chains,
     policy: &FlowPolicy<'_>,
     from: u16,
     to: u16,
-) -> Result<Option<Target>, AllocError>
+) -> Result<Option<Verdict>, AllocError>
     requires from { from < length policy.now.site.hosts }
     requires to { to < length policy.now.site.hosts }
-    ensures kept { OnOk result (Extends chains.old.items chains.new.items) }
-    ensures fits { IfOk result (λ t. Fits chains.new.items policy.now.site policy.now.permitted policy.now.stateful from to t) }
+    requires room { length chains.old.list.items < 99999 }
+    requires built { AreBuilt policy.now.site.hosts from chains.old.list.items }
+    ensures kept { OnOk result (Extends chains.old.list.items chains.new.list.items) }
+    ensures few { OnOk result (length chains.new.list.items ≤ length chains.old.list.items + 1) }
+    ensures built { OnOk result (AreBuilt policy.now.site.hosts from chains.new.list.items) }
+    ensures fits { IfOk result (λ v. Fits chains.new.list.items policy.now from to v) }
 {
     let services = policy.services();
     let flow = services_in(policy.permitted(), services, from, to);
@@ -36,13 +36,11 @@ pub(crate) fn link_target(
         return Ok(None);
     }
     if is_all(flow) {
-        return Ok(Some(Target::Accept));
+        return Ok(Some(Verdict::Accept));
     }
-    let mut rules = Vec::new(alloc);
-    push_accepts(&mut rules, false, End::Destination, flow)?;
-    push_accepts(&mut rules, true, End::Source, answers)?;
-    let number = push_chain(chains, Chain::Services(rules))?;
-    Ok(Some(Target::Goto(number)))
+    let rules = class_rules(alloc, flow, answers)?;
+    let number = class_of(alloc, chains, &rules)?;
+    Ok(Some(Verdict::Goto(number)))
 }
 
 /// Whether there is a flow, and it is unrestricted.
@@ -55,15 +53,18 @@ fn is_all(flow: Option<&[Service]>) -> bool
     }
 }
 
-/// Adds a chain and returns its number.
-pub(crate) fn push_chain(chains: &mut Vec<Chain>, chain: Chain) -> Result<u32, AllocError>
-    ensures added { OnOk result (chains.new.items ≡ chains.old.items ++ chain ∷ []) }
-    ensures number { IfOk result (λ number. number ≡ length chains.old.items) }
+/// Returns the rules that accept the packets of a flow by their destination ports, and the answers
+/// of another by their source ports.
+fn class_rules(
+    alloc: Global,
+    flow: Option<&[Service]>,
+    answers: Option<&[Service]>,
+) -> Result<Vec<MatchRule>, AllocError>
+    ensures { IfOk result (λ rules. rules.items ≡ accepts false End.Destination (option_map (λ ss. ss.now) flow.entry)
+        ++ accepts true End.Source (option_map (λ ss. ss.now) answers.entry)) }
 {
-    let number = chains.len();
-    if number > CHAIN_LIMIT {
-        return Err(AllocError);
-    }
-    chains.push(chain)?;
-    Ok(number as u32)
+    let mut rules = Vec::new(alloc);
+    push_accepts(&mut rules, false, End::Destination, flow)?;
+    push_accepts(&mut rules, true, End::Source, answers)?;
+    Ok(rules)
 }

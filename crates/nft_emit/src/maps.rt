@@ -1,49 +1,104 @@
-//! Verdict maps over the ranges of hosts.
+//! The rules that find a verdict by the host that owns an address: a verdict map, and behind it the
+//! verdict on the rest host.
 
 ghost use Rattle.std.specs.Prelude.{◌≡◌, ◌++◌, IfOk, OnOk};
 ghost use Rattle.std.specs.List.{flat_map};
-ghost use Rattle.nft_emit.specs.inner.Mapping.{element_of, target_at};
+ghost use Rattle.nft_emit.specs.inner.Falls.{Falls, element_if, element_of, shown, verdict_at, verdict_of, verdict_rules};
 
 use crate::cuts::Cut;
-use nft_rules::{Element, Target};
+use nft_rules::{Element, End, MatchRule, Rule, Verdict, VerdictMap};
 use std::alloc::{AllocError, Global};
 
-/// Returns the map from the ranges of each host that has a target to this target.
-pub(crate) fn map_of(
+/// Returns the rules with these verdicts, one for each host. No verdict means that no packet of the
+/// host passes.
+pub(crate) fn fall_rules(
+    alloc: Global,
+    end: End,
+    cuts: &[Cut],
+    verdicts: &[Option<Verdict>],
+    rest: Option<u16>,
+) -> Result<Vec<Rule>, AllocError>
+    ensures { IfOk result (λ rules. Falls end cuts.now verdicts.now rest rules.items) }
+{
+    let behind = verdict_of(verdicts, rest);
+    let elements = elements_of(alloc, cuts, verdicts, behind)?;
+    let mut rules = Vec::new(alloc);
+    if !elements.is_empty() {
+        rules.push(Rule::Map(VerdictMap { end, elements }))?;
+    }
+    push_verdict(&mut rules, behind)?;
+    Ok(rules)
+}
+
+fn push_verdict(rules: &mut Vec<Rule>, verdict: Option<Verdict>) -> Result<(), AllocError>
+    ensures { OnOk result (rules.new.items ≡ rules.old.items ++ verdict_rules verdict) }
+{
+    if let Some(verdict) = verdict {
+        rules.push(Rule::Match(MatchRule {
+            established: false,
+            service: None,
+            verdict,
+        }))?;
+    }
+    Ok(())
+}
+
+fn elements_of(
     alloc: Global,
     cuts: &[Cut],
-    targets: &[Option<Target>],
+    verdicts: &[Option<Verdict>],
+    behind: Option<Verdict>,
 ) -> Result<Vec<Element>, AllocError>
-    ensures { IfOk result (λ es. es.items ≡ flat_map (element_of targets.now) cuts.now) }
+    ensures { IfOk result (λ es. es.items ≡ flat_map (element_of behind verdicts.now) cuts.now) }
 {
     let mut elements = Vec::new(alloc);
     for cut in cuts {
-        push_element(&mut elements, targets, *cut)?;
+        push_element(&mut elements, shown(behind, verdict_at(verdicts, cut.host)), *cut)?;
     }
     Ok(elements)
 }
 
 fn push_element(
     elements: &mut Vec<Element>,
-    targets: &[Option<Target>],
+    verdict: Option<Verdict>,
     cut: Cut,
 ) -> Result<(), AllocError>
-    ensures { OnOk result (elements.new.items ≡ elements.old.items ++ element_of targets.now cut) }
+    ensures { OnOk result (elements.new.items ≡ elements.old.items ++ element_if cut.range verdict) }
 {
-    if let Some(target) = target_at(targets, cut.host) {
+    if let Some(verdict) = verdict {
         elements.push(Element {
             range: cut.range,
-            target,
+            verdict,
         })?;
     }
     Ok(())
 }
 
-fn target_at(targets: &[Option<Target>], host: u16) -> Option<Target>
-    ensures { result ≡ target_at targets.now host }
+/// Returns the verdict of an element. A host without a verdict needs an element that drops only if
+/// the rule behind the map has a verdict.
+fn shown(behind: Option<Verdict>, verdict: Option<Verdict>) -> Option<Verdict>
+    ensures { result ≡ shown behind verdict }
 {
-    match targets.get(host as usize) {
-        Some(target) => *target,
+    match (verdict, behind) {
+        (None, Some(_)) => Some(Verdict::Drop),
+        _ => verdict,
+    }
+}
+
+fn verdict_at(verdicts: &[Option<Verdict>], host: u16) -> Option<Verdict>
+    ensures { result ≡ verdict_at verdicts.now host }
+{
+    match verdicts.get(host as usize) {
+        Some(verdict) => *verdict,
+        None => None,
+    }
+}
+
+fn verdict_of(verdicts: &[Option<Verdict>], owner: Option<u16>) -> Option<Verdict>
+    ensures { result ≡ verdict_of verdicts.now owner }
+{
+    match owner {
+        Some(host) => verdict_at(verdicts, host),
         None => None,
     }
 }

@@ -59,7 +59,7 @@ pub data Decides (chains : List Chain) (state : CtState) (packet : Packet) : Lis
       → Decides chains state packet (rule ∷ rules) passes
   by_accept : {rule : Rule} {rules : List Rule} → Gives state packet rule (Some Accept) → Decides chains state packet (rule ∷ rules) true
   by_drop : {rule : Rule} {rules : List Rule} → Gives state packet rule (Some Drop) → Decides chains state packet (rule ∷ rules) false
-  by_goto : {rule : Rule} {rules : List Rule} {c : ℕ} {passes : Bool} (chain : Chain) → Gives state packet rule (Some (Goto c))
+  by_goto : {rule : Rule} {rules : List Rule} {passes : Bool} (c : ℕ) (chain : Chain) → Gives state packet rule (Some (Goto c))
       → slice_get chains c ≡ Some chain → Decides chains state packet chain.rules.items passes → Decides chains state packet (rule ∷ rules) passes
 
 -- The table as a filter: the base chain decides.

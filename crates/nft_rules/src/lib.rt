@@ -5,4 +5,6 @@
 
 mod table;
 
-pub use table::{Chain, Element, End, MatchRule, PortMatch, Rule, ServiceMatch, Table, Verdict, VerdictMap};
+pub use table::{
+    Chain, Element, End, MatchRule, PortMatch, Rule, ServiceMatch, Table, Verdict, VerdictMap,
+};

@@ -27,7 +27,7 @@ pub struct Element {
 
 /// A rule `ip saddr vmap` or `ip daddr vmap`: a verdict for each of these addresses, and none for
 /// other addresses.
-#[derive(Debug, PartialEq, Eq, Drop)]
+#[derive(Drop)]
 pub struct VerdictMap {
     pub end: End,
     pub elements: Vec<Element>,
@@ -58,7 +58,7 @@ pub struct MatchRule {
 }
 
 /// A rule of a chain.
-#[derive(Debug, PartialEq, Eq, Drop)]
+#[derive(Drop)]
 pub enum Rule {
     Map(VerdictMap),
     Match(MatchRule),

@@ -1,34 +1,29 @@
 -- The chain of a sender, and the chains of all senders.
-use Rattle.std.specs.Prelude.{◌≡◌, ℕ, ◌<◌, ◌^◌, List, Option, Some, None, slice_get}
-use Rattle.host_net.specs.Host.{owner_of}
-use Rattle.host_net.specs.Site.{Site}
-use Rattle.flow_set.specs.declared.flow.Flow.{Flow}
-use Rattle.std.specs.declared.vec.Vec.{Vec}
-use Rattle.std.specs.Global.{Global}
+use Rattle.std.specs.Prelude.{◌≡◌, ℕ, List, Option, Some, length, slice_get}
+use Rattle.host_net.specs.Host.{rest_of}
+use Rattle.pkt_core.specs.FlowPolicy.{FlowPolicy}
 use Rattle.nft_rules.specs.declared.table.Chain.{Chain}
-use Rattle.nft_rules.specs.declared.table.Chain.TheVariants.{Receivers}
-use Rattle.nft_rules.specs.declared.table.Element.{Element}
-use Rattle.nft_rules.specs.declared.table.Target.{Target}
-use Rattle.nft_rules.specs.declared.table.Target.TheVariants.{Goto}
-use Rattle.nft_rules.specs.Maps.{Leads}
-use Rattle.nft_emit.specs.inner.Linking.{Fits}
+use Rattle.nft_rules.specs.declared.table.End.TheVariants.{Destination}
+use Rattle.nft_rules.specs.declared.table.Verdict.{Verdict}
+use Rattle.nft_rules.specs.declared.table.Verdict.TheVariants.{Goto}
+use Rattle.nft_emit.specs.declared.cuts.Cut.{Cut}
+use Rattle.nft_emit.specs.inner.Falls.{Falls}
+use Rattle.nft_emit.specs.inner.Links.{Fits}
 
--- The target of each receiver is right for the packets of host i.
-abbrev pub RowFits : List Chain → Site → List Flow → List Flow → ℕ → List (Option Target) → Type 0
-RowFits chains site p s i row = (j : ℕ) (t : Option Target) → slice_get row j ≡ Some t → Fits chains site p s i j t
-
--- The target is right for the packets of host i to this owner.
-abbrev pub FitsOwner : List Chain → Site → List Flow → List Flow → ℕ → Option ℕ → Option Target → Type 0
-FitsOwner chains site p s i None t = t ≡ None
-FitsOwner chains site p s i (Some j) t = Fits chains site p s i j t
+-- The verdict on each receiver is right for the packets of host i.
+abbrev pub RowFits : List Chain → FlowPolicy → ℕ → List (Option Verdict) → Type 0
+RowFits chains policy i row = (j : ℕ) (v : Option Verdict) → slice_get row j ≡ Some v → Fits chains policy i j v
 
 -- Chain c is right for the packets of host i.
-pub record Sends (chains : List Chain) (site : Site) (p s : List Flow) (i c : ℕ) : Type 0 where
-  pub elements : Vec Element Global
-  pub there : slice_get chains c ≡ Some (Receivers elements)
-  pub leads : (a : ℕ) (t : Option Target) → a < 2 ^ 32 → Leads elements.items a t → FitsOwner chains site p s i (owner_of site.hosts a) t
+pub record Sends (chains : List Chain) (policy : FlowPolicy) (cuts : List Cut) (i c : ℕ) : Type 0 where
+  pub chain : Chain
+  pub there : slice_get chains c ≡ Some chain
+  pub row : List (Option Verdict)
+  pub whole : length row ≡ length policy.site.hosts
+  pub fits : RowFits chains policy i row
+  pub falls : Falls Destination cuts row (rest_of policy.site.hosts) chain.rules.items
 
--- The packets of each host are led to a chain that is right for them.
-abbrev pub HeadsFit : List Chain → Site → List Flow → List Flow → List (Option Target) → Type 0
-HeadsFit chains site p s heads =
-    (i : ℕ) (t : Option Target) → slice_get heads i ≡ Some t → (c : ℕ) × (t ≡ Some (Goto c)) × Sends chains site p s i c
+-- The packets of each host continue in a chain that is right for them.
+abbrev pub AreHeads : List Chain → FlowPolicy → List Cut → List (Option Verdict) → Type 0
+AreHeads chains policy cuts heads =
+    (i : ℕ) (v : Option Verdict) → slice_get heads i ≡ Some v → (c : ℕ) × (v ≡ Some (Goto c)) × Sends chains policy cuts i c
