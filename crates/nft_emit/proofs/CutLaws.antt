@@ -49,16 +49,19 @@ same_host : (rest : Option ℕ) (host : ℕ) → is_same_host rest host ≡ true
 same_host None host same = cc
 same_host (Some r) host same = let is : r ≡ host = grind (arith, nat_tests) in ap (λ (i : ℕ). Some i) (sym is)
 
+abbrev one_cut : AddressRange → ℕ → List Cut
+one_cut range j = record { range = range; host = j } ∷ []
+
 -- The range is added with its owner, or it belongs to the rest host, or to no host.
 added : (rest owner : Option ℕ) (range : AddressRange)
-    → ((j : ℕ) × (owner ≡ Some j) × (cut_if rest owner range ≡ record { range = range; host = j } ∷ []))
+    → ((j : ℕ) × (owner ≡ Some j) × (cut_if rest owner range ≡ one_cut range j))
     ⊎ ((cut_if rest owner range ≡ []) × ((owner ≡ None) ⊎ (owner ≡ rest)))
 added rest None range = inr (refl, inl refl)
 added rest (Some j) range = by_test (is_same_host rest j) refl
   where
     by_test : (b : Bool) → is_same_host rest j ≡ b
-        → ((i : ℕ) × (Some j ≡ Some i) × ((if b then [] else record { range = range; host = j } ∷ []) ≡ record { range = range; host = i } ∷ []))
-        ⊎ (((if b then [] else record { range = range; host = j } ∷ []) ≡ []) × ((Some j ≡ None) ⊎ (Some j ≡ rest)))
+        → ((i : ℕ) × (Some j ≡ Some i) × ((if b then [] else one_cut range j) ≡ one_cut range i))
+        ⊎ (((if b then [] else one_cut range j) ≡ []) × ((Some j ≡ None) ⊎ (Some j ≡ rest)))
     by_test true same = inr (refl, inr (same_host rest j same))
     by_test false other = inl (j, refl, refl)
 
@@ -68,8 +71,8 @@ pub owned_step : (hosts : List Host) (rest : Option ℕ) (old : List Cut) (owner
     → ((a : ℕ) → range.first ≤ a → a ≤ range.last → owner_of hosts a ≡ owner) → AreOwned hosts (old ++ cut_if rest owner range)
 owned_step hosts rest old owner range before is = elim (added rest owner range) [
   | inl new ↦
-    subst (λ (xs : List Cut). AreOwned hosts (old ++ xs)) (sym new.2.1)
-    (owned_append hosts old (record { range = range; host = new.0 } ∷ []) before ((λ a lies. is a lies.0 lies.1 ∙ new.2.0), tt))
+    subst (λ (xs : List Cut). AreOwned hosts (old ++ xs)) (sym new.2)
+    (owned_append hosts old (record { range = range; host = new.0 } ∷ []) before ((λ a lies. is a lies.0 lies.1 ∙ new.1), tt))
   | inr none ↦ subst (λ (xs : List Cut). AreOwned hosts (old ++ xs)) (sym none.0) (subst (AreOwned hosts) (sym (append-nil old)) before)
 ]
 
@@ -84,7 +87,7 @@ covered_step hosts rest old owner range is_rest is before a low = elim (cases_lt
   ]
   | inr later ↦ elim (added rest owner range) [
     | inl new ↦
-      inr (subst (λ (xs : List Cut). IsCut (old ++ xs) a) (sym new.2.1) (cut_right old (record { range = range; host = new.0 } ∷ []) a (inl (later, low))))
+      inr (subst (λ (xs : List Cut). IsCut (old ++ xs) a) (sym new.2) (cut_right old (record { range = range; host = new.0 } ∷ []) a (inl (later, low))))
     | inr none ↦ elim none.1 [
       | inl no_owner ↦ inl (ownerless hosts a (is a later low ∙ no_owner))
       | inr of_rest ↦ inl (is a later low ∙ of_rest ∙ is_rest)
@@ -96,7 +99,7 @@ pub between_step : (rest : Option ℕ) (old : List Cut) (owner : Option ℕ) (ra
     → LieBetween 0 (old ++ cut_if rest owner range) (range.last + 1)
 between_step rest old owner range before some = elim (added rest owner range) [
   | inl new ↦
-    subst (λ (xs : List Cut). LieBetween 0 (old ++ xs) (range.last + 1)) (sym new.2.1)
+    subst (λ (xs : List Cut). LieBetween 0 (old ++ xs) (range.last + 1)) (sym new.2)
     (between_push 0 old (record { range = range; host = new.0 }) before some)
   | inr none ↦
     subst (λ (xs : List Cut). LieBetween 0 (old ++ xs) (range.last + 1)) (sym none.0)

@@ -1,14 +1,14 @@
 //! The chains of a growing table. Flows with the same services share a chain.
 
-ghost use Rattle.std.specs.Prelude.{◌≡◌, ◌<◌, ◌≤◌, ◌+◌, ◌∷◌, [], ◌++◌, map, length, IfOk, OnOk, IsTrue};
-ghost use Rattle.std.specs.List.{All};
+ghost use Rattle.std.specs.Prelude.{◌≡◌, ◌<◌, ◌≤◌, ◌+◌, ◌∷◌, [], ◌++◌, map, length, IfOk, List, OnOk, IsTrue, ℕ};
 ghost use Rattle.host_net.specs.Host.{Host};
 ghost use Rattle.nft_rules.specs.declared.table.Rule.TheVariants.{Match};
 ghost use Rattle.nft_emit.specs.inner.Building.{AreAccepting, AreBuilt, Extends, HasRules};
 
 use crate::names::services_name;
+use crate::same::is_same_rule;
 use indexmap::IndexMap;
-use nft_rules::{Chain, End, MatchRule, Rule};
+use nft_rules::{Chain, MatchRule, PortMatch, Rule};
 use std::alloc::{AllocError, Global};
 
 /// The chains that a table has so far, and the index of the last chain that was added for a key of
@@ -55,7 +55,7 @@ pub(crate) fn class_of(
     Ok(number)
 }
 
-/// Returns numbers that are the same for the same rules.
+/// Returns numbers that are the same for the same rules. Few other rules have the same numbers.
 fn key_of(alloc: Global, rules: &[MatchRule]) -> Result<Vec<u16>, AllocError> {
     let mut key = Vec::new(alloc);
     for rule in rules {
@@ -65,17 +65,20 @@ fn key_of(alloc: Global, rules: &[MatchRule]) -> Result<Vec<u16>, AllocError> {
 }
 
 fn push_key(key: &mut Vec<u16>, rule: &MatchRule) -> Result<(), AllocError> {
-    let Some(service) = rule.service else {
-        return key.push(if rule.established { 1 } else { 0 });
-    };
-    key.push(if rule.established { 3 } else { 2 })?;
-    key.push(service.proto as u16)?;
-    let Some(ports) = service.ports else {
-        return key.push(0);
-    };
-    key.push(if ports.end == End::Source { 1 } else { 2 })?;
-    key.push(ports.low)?;
-    key.push(ports.high)
+    key.push(rule.established as u16)?;
+    if let Some(service) = rule.service {
+        key.push(service.proto as u16)?;
+        push_ports(key, service.ports)?;
+    }
+    Ok(())
+}
+
+fn push_ports(key: &mut Vec<u16>, ports: Option<PortMatch>) -> Result<(), AllocError> {
+    if let Some(ports) = ports {
+        key.push(ports.low)?;
+        key.push(ports.high)?;
+    }
+    Ok(())
 }
 
 /// Whether the chain with this index has these rules.
@@ -106,7 +109,7 @@ fn is_rule(rule: &Rule, wanted: MatchRule) -> bool
     ensures { IsTrue result → rule.now ≡ Match wanted }
 {
     match rule {
-        Rule::Match(rule) => *rule == wanted,
+        Rule::Match(rule) => is_same_rule(*rule, wanted),
         Rule::Map(_) => false,
     }
 }

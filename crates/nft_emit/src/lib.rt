@@ -11,6 +11,7 @@ mod link;
 mod maps;
 mod names;
 mod rules;
+mod same;
 mod sender;
 mod served;
 

@@ -1,6 +1,6 @@
 //! The verdict on the packets from one host to another.
 
-ghost use Rattle.std.specs.Prelude.{◌≡◌, ◌<◌, ◌≤◌, ◌+◌, ◌++◌, length, option_map, IfOk, OnOk};
+ghost use Rattle.std.specs.Prelude.{◌≡◌, ◌<◌, ◌≤◌, ◌+◌, ◌++◌, false, true, length, option_map, IfOk, OnOk};
 ghost use Rattle.nft_emit.specs.inner.Building.{AreBuilt, Extends};
 ghost use Rattle.nft_emit.specs.inner.Links.{Fits, accepts, is_all};
 

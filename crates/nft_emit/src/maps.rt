@@ -3,7 +3,7 @@
 
 ghost use Rattle.std.specs.Prelude.{◌≡◌, ◌++◌, IfOk, OnOk};
 ghost use Rattle.std.specs.List.{flat_map};
-ghost use Rattle.nft_emit.specs.inner.Falls.{Falls, element_if, element_of, shown, verdict_at, verdict_of, verdict_rules};
+ghost use Rattle.nft_emit.specs.inner.Falls.{Falls, element_if, element_of, map_rules, shown, verdict_at, verdict_of, verdict_rules};
 
 use crate::cuts::Cut;
 use nft_rules::{Element, End, MatchRule, Rule, Verdict, VerdictMap};
@@ -23,11 +23,19 @@ pub(crate) fn fall_rules(
     let behind = verdict_of(verdicts, rest);
     let elements = elements_of(alloc, cuts, verdicts, behind)?;
     let mut rules = Vec::new(alloc);
-    if !elements.is_empty() {
-        rules.push(Rule::Map(VerdictMap { end, elements }))?;
-    }
+    push_map(&mut rules, VerdictMap { end, elements })?;
     push_verdict(&mut rules, behind)?;
     Ok(rules)
+}
+
+/// Adds the map unless it is empty.
+fn push_map(rules: &mut Vec<Rule>, map: VerdictMap) -> Result<(), AllocError>
+    ensures { OnOk result (rules.new.items ≡ rules.old.items ++ map_rules map map.elements.items) }
+{
+    if !map.elements.is_empty() {
+        rules.push(Rule::Map(map))?;
+    }
+    Ok(())
 }
 
 fn push_verdict(rules: &mut Vec<Rule>, verdict: Option<Verdict>) -> Result<(), AllocError>

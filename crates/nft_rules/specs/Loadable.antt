@@ -3,7 +3,7 @@
 -- chains, and an identifier with other characters.
 use Rattle.std.specs.Prelude.{◌≡◌, ◌≢◌, ℕ, ◌≤◌, ◌<◌, ◌+◌, ◌==◌, Bool, true, false, ◌&&◌, ◌||◌, nat_le, IsTrue, List, [], ◌∷◌, Option, Some, None, length, codes, slice_get}
 use Rattle.std.specs.Char.{is_ascii_alphabetic}
-use Rattle.std.specs.List.{All, list_all}
+use Rattle.std.specs.List.{list_all}
 use Rattle.text_core.specs.Name.{is_name_byte}
 use Rattle.host_net.specs.Service.{has_name, has_ports}
 use Rattle.nft_rules.specs.declared.table.Chain.{Chain}
@@ -40,15 +40,23 @@ abbrev pub is_service_match : Option ServiceMatch → Bool
 is_service_match None = true
 is_service_match (Some s) = are_ports s.proto s.ports
 
+abbrev pub LeadBelow : ℕ → List Element → Type 0
+LeadBelow n [] = Unit {0}
+LeadBelow n (e ∷ es) = LeadsBelow n e.verdict × LeadBelow n es
+
 -- A verdict map has elements, in ascending order and disjoint. The service of a match is valid. Each `goto` of the rule leads to one of the
 -- first n chains.
 abbrev pub IsRule : ℕ → Rule → Type 0
-IsRule n (Map m) = (m.elements.items ≢ []) × AscendFrom 0 m.elements.items × All (λ e. LeadsBelow n e.verdict) m.elements.items
+IsRule n (Map m) = (m.elements.items ≢ []) × AscendFrom 0 m.elements.items × LeadBelow n m.elements.items
 IsRule n (Match r) = IsTrue (is_service_match r.service) × LeadsBelow n r.verdict
+
+abbrev pub AreRules : ℕ → List Rule → Type 0
+AreRules n [] = Unit {0}
+AreRules n (r ∷ rs) = IsRule n r × AreRules n rs
 
 -- Each `goto` of chain c leads to an earlier chain. So each `goto` has its chain, and there is no loop.
 abbrev pub LeadBack : List Chain → Type 0
-LeadBack chains = (c : ℕ) (chain : Chain) → slice_get chains c ≡ Some chain → All (IsRule c) chain.rules.items
+LeadBack chains = (c : ℕ) (chain : Chain) → slice_get chains c ≡ Some chain → AreRules c chain.rules.items
 
 -- A name begins with a letter, and consists of at most 128 letters, digits, `_` and `-`. The base chain has the name `forward`.
 abbrev pub begins_with_letter : List ℕ → Bool
@@ -72,7 +80,7 @@ AreDistinct chains =
 -- The table can be loaded.
 pub record IsLoadable (table : Table) : Type 0 where
   pub few : length table.chains.items ≤ chain_limit
-  pub forward : All (IsRule (length table.chains.items)) table.forward.items
+  pub forward : AreRules (length table.chains.items) table.forward.items
   pub back : LeadBack table.chains.items
   pub named : AreNamed table.chains.items
   pub distinct : AreDistinct table.chains.items

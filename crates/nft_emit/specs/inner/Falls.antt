@@ -11,6 +11,7 @@ use Rattle.nft_rules.specs.declared.table.Rule.{Rule}
 use Rattle.nft_rules.specs.declared.table.Rule.TheVariants.{Map, Match}
 use Rattle.nft_rules.specs.declared.table.Verdict.{Verdict}
 use Rattle.nft_rules.specs.declared.table.Verdict.TheVariants.{Drop}
+use Rattle.nft_rules.specs.declared.table.VerdictMap.{VerdictMap}
 use Rattle.nft_emit.specs.declared.cuts.Cut.{Cut}
 
 -- The verdict of a host, if it has one.
@@ -35,9 +36,9 @@ abbrev pub element_of : Option Verdict → List (Option Verdict) → Cut → Lis
 element_of behind verdicts x = element_if x.range (shown behind (verdict_at verdicts x.host))
 
 -- The rule that maps the elements, if there are any.
-abbrev pub map_rules : End → Vec Element Global → List Element → List Rule
-map_rules end v [] = []
-map_rules end v (e ∷ es) = Map (record { end = end; elements = v }) ∷ []
+abbrev pub map_rules : VerdictMap → List Element → List Rule
+map_rules m [] = []
+map_rules m (e ∷ es) = Map m ∷ []
 
 -- The rule that has the verdict on all packets, if there is one.
 abbrev pub verdict_rules : Option Verdict → List Rule
@@ -48,4 +49,4 @@ verdict_rules (Some v) = Match (record { established = false; service = None; ve
 pub record Falls (end : End) (cuts : List Cut) (verdicts : List (Option Verdict)) (rest : Option ℕ) (rules : List Rule) : Type 0 where
   pub elements : Vec Element Global
   pub items : elements.items ≡ flat_map (element_of (verdict_of verdicts rest) verdicts) cuts
-  pub rules_are : rules ≡ map_rules end elements elements.items ++ verdict_rules (verdict_of verdicts rest)
+  pub rules_are : rules ≡ map_rules (record { end = end; elements = elements }) elements.items ++ verdict_rules (verdict_of verdicts rest)
