@@ -89,6 +89,19 @@ pub record IsLaidOut (policy : FlowPolicy) (cuts : List Cut) (heads : List (Opti
   pub whole : length heads ≡ length policy.site.hosts
   pub falls : Falls Source cuts heads (rest_of policy.site.hosts) table.forward.items
 
+pub laid_out : (policy : FlowPolicy) (hosts : List Host) (cuts of_heads of_forward : List Cut) (heads verdicts : List (Option Verdict)) (rest : Option ℕ) (table : Table)
+    → hosts ≡ policy.site.hosts → of_heads ≡ cuts → of_forward ≡ cuts → verdicts ≡ heads → rest ≡ rest_of policy.site.hosts
+    → AreCuts hosts cuts → AreHeads table.chains.items policy of_heads heads → length heads ≡ length policy.site.hosts
+    → Falls Source of_forward verdicts rest table.forward.items → IsLaidOut policy cuts heads table
+laid_out policy hosts cuts of_heads of_forward heads verdicts rest table hosts_are heads_by forward_by same rest_is cuts_are heads_are whole falls = record {
+  cuts_are = subst (λ (hs : List Host). AreCuts hs cuts) hosts_are cuts_are;
+  heads_are = subst (λ (xs : List Cut). AreHeads table.chains.items policy xs heads) heads_by heads_are;
+  whole = whole;
+  falls = subst (λ (r : Option ℕ). Falls Source cuts heads r table.forward.items) rest_is
+      (subst (λ (vs : List (Option Verdict)). Falls Source cuts vs rest table.forward.items) same
+      (subst (λ (xs : List Cut). Falls Source xs verdicts rest table.forward.items) forward_by falls));
+}
+
 head_below : (policy : FlowPolicy) (heads : List (Option Verdict)) → length heads ≡ length policy.site.hosts
     → (a i : ℕ) → owner_of policy.site.hosts a ≡ Some i → i < length heads
 head_below policy heads whole a i of = subst (λ (n : ℕ). i < n) (sym whole) (owner_below policy.site.hosts a i of)

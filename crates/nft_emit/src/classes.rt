@@ -1,6 +1,6 @@
 //! The chains of a growing table. Flows with the same services share a chain.
 
-ghost use Rattle.std.specs.Prelude.{◌≡◌, ◌<◌, ◌≤◌, ◌+◌, ◌∷◌, [], ◌++◌, map, length, IfOk, List, OnOk, IsTrue, ℕ};
+ghost use Rattle.std.specs.Prelude.{◌≡◌, ◌<◌, ◌≤◌, ◌+◌, ◌∷◌, [], ◌++◌, map, length, IfOk, IfSome, List, OnOk, IsTrue, ℕ};
 ghost use Rattle.host_net.specs.Host.{Host};
 ghost use Rattle.nft_rules.specs.declared.table.Rule.TheVariants.{Match};
 ghost use Rattle.nft_emit.specs.inner.Building.{AreAccepting, AreBuilt, Extends, HasRules};
@@ -45,14 +45,24 @@ pub(crate) fn class_of(
     ensures rules { IfOk result (λ c. HasRules chains.new.list.items c (map Match rules.now)) }
 {
     let key = key_of(alloc, rules)?;
-    if let Some(number) = chains.known.get(&key) {
-        if has_rules(&chains.list, *number, rules) {
-            return Ok(*number);
-        }
+    if let Some(number) = known_class(chains, &key, rules) {
+        return Ok(number);
     }
     let number = push_class(alloc, &mut chains.list, rules)?;
     chains.known.insert(key, number)?;
     Ok(number)
+}
+
+/// Returns the index of a chain with these rules, if the chain was the last with its key.
+fn known_class(chains: &Chains, key: &Vec<u16>, rules: &[MatchRule]) -> Option<u32>
+    ensures { IfSome result (λ c. HasRules chains.now.list.items c (map Match rules.now)) }
+{
+    let number = *chains.known.get(key)?;
+    if has_rules(&chains.list, number, rules) {
+        Some(number)
+    } else {
+        None
+    }
 }
 
 /// Returns numbers that are the same for the same rules. Few other rules have the same numbers.

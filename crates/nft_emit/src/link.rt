@@ -1,6 +1,7 @@
 //! The verdict on the packets from one host to another.
 
 ghost use Rattle.std.specs.Prelude.{◌≡◌, ◌<◌, ◌≤◌, ◌+◌, ◌++◌, false, true, length, option_map, IfOk, OnOk};
+ghost use Rattle.host_net.specs.inner.Services.{AreServices};
 ghost use Rattle.nft_emit.specs.inner.Building.{AreBuilt, Extends};
 ghost use Rattle.nft_emit.specs.inner.Links.{Fits, accepts, is_all};
 
@@ -22,6 +23,7 @@ pub(crate) fn link_verdict(
 ) -> Result<Option<Verdict>, AllocError>
     requires from { from < length policy.now.site.hosts }
     requires to { to < length policy.now.site.hosts }
+    requires services { AreServices policy.now.site.services }
     requires room { length chains.old.list.items < 99999 }
     requires built { AreBuilt policy.now.site.hosts from chains.old.list.items }
     ensures kept { OnOk result (Extends chains.old.list.items chains.new.list.items) }

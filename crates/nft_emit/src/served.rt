@@ -1,7 +1,6 @@
 //! The services of the flow from one host to another, if the flow is in a set.
 
-ghost use Rattle.std.specs.Prelude.{◌≡◌, ◌<◌, IfSome, option_map};
-ghost use Rattle.host_net.specs.inner.Services.{AreServices};
+ghost use Rattle.std.specs.Prelude.{◌≡◌, ◌<◌, option_map};
 ghost use Rattle.host_net.specs.Services.{services_of};
 ghost use Rattle.emit_core.specs.Directions.{permits};
 ghost use Rattle.emit_core.specs.inner.Link.{served};
@@ -18,8 +17,7 @@ pub(crate) fn services_in<'a>(
 ) -> Option<&'a [Service]>
     requires from_within { from < flows.now.size }
     requires to_within { to < flows.now.size }
-    ensures list { option_map (λ ss. ss.now) result ≡ served (permits flows.now.flows from to) (services_of services.now from to) }
-    ensures services { IfSome result (λ ss. AreServices services.now) }
+    ensures { option_map (λ ss. ss.now) result ≡ served (permits flows.now.flows from to) (services_of services.now from to) }
 {
     if !permits(flows, from, to) {
         return None;
