@@ -71,8 +71,8 @@ pub owned_step : (hosts : List Host) (rest : Option ℕ) (old : List Cut) (owner
     → ((a : ℕ) → range.first ≤ a → a ≤ range.last → owner_of hosts a ≡ owner) → AreOwned hosts (old ++ cut_if rest owner range)
 owned_step hosts rest old owner range before is = elim (added rest owner range) [
   | inl new ↦
-    subst (λ (xs : List Cut). AreOwned hosts (old ++ xs)) (sym new.2)
-    (owned_append hosts old (record { range = range; host = new.0 } ∷ []) before ((λ a lies. is a lies.0 lies.1 ∙ new.1), tt))
+      subst (λ (xs : List Cut). AreOwned hosts (old ++ xs)) (sym new.2)
+      (owned_append hosts old (record { range = range; host = new.0 } ∷ []) before ((λ a lies. is a lies.0 lies.1 ∙ new.1), tt))
   | inr none ↦ subst (λ (xs : List Cut). AreOwned hosts (old ++ xs)) (sym none.0) (subst (AreOwned hosts) (sym (append-nil old)) before)
 ]
 
@@ -87,7 +87,7 @@ covered_step hosts rest old owner range is_rest is before a low = elim (cases_lt
   ]
   | inr later ↦ elim (added rest owner range) [
     | inl new ↦
-      inr (subst (λ (xs : List Cut). IsCut (old ++ xs) a) (sym new.2) (cut_right old (record { range = range; host = new.0 } ∷ []) a (inl (later, low))))
+        inr (subst (λ (xs : List Cut). IsCut (old ++ xs) a) (sym new.2) (cut_right old (record { range = range; host = new.0 } ∷ []) a (inl (later, low))))
     | inr none ↦ elim none.1 [
       | inl no_owner ↦ inl (ownerless hosts a (is a later low ∙ no_owner))
       | inr of_rest ↦ inl (is a later low ∙ of_rest ∙ is_rest)
@@ -99,11 +99,11 @@ pub between_step : (rest : Option ℕ) (old : List Cut) (owner : Option ℕ) (ra
     → LieBetween 0 (old ++ cut_if rest owner range) (range.last + 1)
 between_step rest old owner range before some = elim (added rest owner range) [
   | inl new ↦
-    subst (λ (xs : List Cut). LieBetween 0 (old ++ xs) (range.last + 1)) (sym new.2)
-    (between_push 0 old (record { range = range; host = new.0 }) before some)
+      subst (λ (xs : List Cut). LieBetween 0 (old ++ xs) (range.last + 1)) (sym new.2)
+      (between_push 0 old (record { range = range; host = new.0 }) before some)
   | inr none ↦
-    subst (λ (xs : List Cut). LieBetween 0 (old ++ xs) (range.last + 1)) (sym none.0)
-    (subst (λ (xs : List Cut). LieBetween 0 xs (range.last + 1)) (sym (append-nil old)) (between_more 0 old range.first (range.last + 1) before (omega (arith, some))))
+      subst (λ (xs : List Cut). LieBetween 0 (old ++ xs) (range.last + 1)) (sym none.0)
+      (subst (λ (xs : List Cut). LieBetween 0 xs (range.last + 1)) (sym (append-nil old)) (between_more 0 old range.first (range.last + 1) before (omega (arith, some))))
 ]
 
 -- 4. The end of the address space.

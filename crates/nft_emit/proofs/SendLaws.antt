@@ -94,7 +94,7 @@ fits_given chains policy packet state i j (Some (Goto c)) is fits = (
   fits.there.chain,
   fits.there.there,
   subst (λ (rs : List Rule). Decides chains state packet rs (may_send policy packet state i j)) (sym fits.there.rules_are)
-  (subst (Decides chains state packet (map Match fits.rules)) (fits.same packet state is) (accepting_given chains state packet fits.rules fits.accepting)),
+      (subst (Decides chains state packet (map Match fits.rules)) (fits.same packet state is) (accepting_given chains state packet fits.rules fits.accepting)),
 )
 
 -- 2. The verdict on the packets of a sender.
@@ -174,8 +174,8 @@ sends_given chains policy cuts packet state i c is are below sends = (
   sends.chain,
   sends.there,
   falls_given chains state packet Destination policy.site.hosts cuts sends.row sends.chain.rules.items _ are is.1 sends.falls
-  (owner_given chains policy packet state i sends.row (owner_of policy.site.hosts packet.dst) is sends.fits
-  (λ j of. subst (λ (n : ℕ). j < n) (sym sends.whole) (below packet.dst j of))),
+      (owner_given chains policy packet state i sends.row (owner_of policy.site.hosts packet.dst) is sends.fits
+      (λ j of. subst (λ (n : ℕ). j < n) (sym sends.whole) (below packet.dst j of))),
 )
 
 -- 3. The verdicts of the base chain.

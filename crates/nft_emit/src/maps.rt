@@ -61,7 +61,11 @@ fn elements_of(
 {
     let mut elements = Vec::new(alloc);
     for cut in cuts {
-        push_element(&mut elements, shown(behind, verdict_at(verdicts, cut.host)), *cut)?;
+        push_element(
+            &mut elements,
+            shown(behind, verdict_at(verdicts, cut.host)),
+            *cut,
+        )?;
     }
     Ok(elements)
 }
