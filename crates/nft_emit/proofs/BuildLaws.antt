@@ -1,5 +1,5 @@
 -- Chains that are added one after the other.
-use Rattle.std.proofs.Common.{◌≡◌, ◌⊎◌, inl, inr, ℕ, ◌+◌, ◌<◌, ◌≤◌, ◌^◌, zero, suc, List, [], ◌∷◌, ◌++◌, Option, Some, None, map, length, refl, sym, ap, subst, ◌∙◌, arith, length-append}
+use Rattle.std.proofs.Common.{◌≡◌, inl, inr, ℕ, ◌+◌, ◌<◌, ◌≤◌, ◌^◌, zero, suc, List, [], ◌∷◌, ◌++◌, Some, map, length, refl, sym, subst, ◌∙◌, arith}
 use Rattle.std.specs.Prelude.{slice_get}
 use Rattle.std.proofs.lemmas.Option.{slice_get_within}
 use Rattle.host_net.specs.Host.{Host}
@@ -8,9 +8,7 @@ use Rattle.nft_rules.specs.declared.table.Chain.{Chain}
 use Rattle.nft_rules.specs.declared.table.MatchRule.{MatchRule}
 use Rattle.nft_rules.specs.declared.table.Rule.{Rule}
 use Rattle.nft_rules.specs.declared.table.Rule.TheVariants.{Match}
-use Rattle.nft_rules.specs.declared.table.Verdict.{Verdict}
-use Rattle.nft_rules.specs.declared.table.Verdict.TheVariants.{Accept}
-use Rattle.nft_rules.specs.Loadable.{AreDistinct, AreNamed, AreRules, IsChainName, LeadBack, LeadsBelow}
+use Rattle.nft_rules.specs.Loadable.{AreDistinct, AreNamed, AreRules, IsChainName, LeadsBelow}
 use Rattle.nft_emit.specs.inner.Building.{AreAccepting, AreBuilt, Extends, HasName, HasRules, sender_name, services_name}
 use Rattle.nft_emit.proofs.NameLaws.{kinds_differ, sender_named, senders_differ, services_differ, services_named}
 

@@ -1,12 +1,11 @@
 -- Ranges of addresses that are added in ascending order.
-use Rattle.std.proofs.Common.{◌≡◌, ◌⊎◌, inl, inr, ℕ, ◌+◌, ◌<◌, ◌≤◌, ◌^◌, ◌==◌, Bool, true, false, List, [], ◌∷◌, ◌++◌, Option, Some, None, refl, sym, ap, subst, ◌∙◌, arith, append-nil}
+use Rattle.std.proofs.Common.{◌≡◌, ◌⊎◌, inl, inr, ℕ, ◌+◌, ◌<◌, ◌≤◌, ◌^◌, Bool, true, false, List, [], ◌∷◌, ◌++◌, Option, Some, None, refl, sym, ap, subst, ◌∙◌, arith, append-nil}
 use Rattle.std.specs.Prelude.{if◌then◌else◌}
 use Rattle.std.specs.Option.{option_or}
 use Rattle.std.proofs.lemmas.Bool.{cases_lt}
 use Rattle.std.proofs.lemmas.Bool.Decides.{nat_tests}
 use Rattle.host_net.specs.Host.{Host, owner_of, prefix_owner_of, rest_of}
 use Rattle.header_space.specs.declared.address_range.AddressRange.{AddressRange}
-use Rattle.header_space.specs.Owners.{LiesIn}
 use Rattle.nft_emit.specs.declared.cuts.Cut.{Cut}
 use Rattle.nft_emit.specs.inner.Cuts.{AreOwned, IsCut, LieBetween, cut_if, is_same_host}
 

@@ -1,5 +1,5 @@
 -- The evaluation of rules, one rule after another.
-use Rattle.std.proofs.Common.{◌≡◌, ℕ, Bool, true, false, ◌||◌, List, [], ◌∷◌, Option, Some, None, map, refl, sym, ap, subst, ◌∙◌}
+use Rattle.std.proofs.Common.{◌≡◌, Bool, true, false, ◌||◌, List, [], ◌∷◌, Option, Some, None, map, refl, sym, ap, subst, ◌∙◌}
 use Rattle.std.specs.Prelude.{if◌then◌else◌, slice_get}
 use Rattle.std.specs.List.{list_any}
 use Rattle.host_net.specs.declared.packet.Packet.{Packet}
@@ -7,7 +7,7 @@ use Rattle.host_net.specs.declared.packet.CtState.{CtState}
 use Rattle.nft_rules.specs.declared.table.Chain.{Chain}
 use Rattle.nft_rules.specs.declared.table.MatchRule.{MatchRule}
 use Rattle.nft_rules.specs.declared.table.Rule.{Rule}
-use Rattle.nft_rules.specs.declared.table.Rule.TheVariants.{Map, Match}
+use Rattle.nft_rules.specs.declared.table.Rule.TheVariants.{Match}
 use Rattle.nft_rules.specs.declared.table.Verdict.{Verdict}
 use Rattle.nft_rules.specs.declared.table.Verdict.TheVariants.{Accept, Drop, Goto}
 use Rattle.nft_rules.specs.Semantics.{Decides, Gives, fits}

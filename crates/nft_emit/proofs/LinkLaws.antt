@@ -1,6 +1,6 @@
 -- The rules of a chain accept what may pass from a host to another.
-use Rattle.std.proofs.Common.{◌≡◌, ℕ, ◌<◌, ◌^◌, Bool, true, false, ◌&&◌, ◌||◌, ◌==◌, List, [], ◌∷◌, ◌++◌, Option, Some, None, map, refl, sym, ap, ◌∙◌}
-use Rattle.std.specs.Prelude.{if◌then◌else◌, nat_le, IsTrue}
+use Rattle.std.proofs.Common.{◌≡◌, ℕ, Bool, true, false, ◌&&◌, ◌||◌, ◌==◌, List, [], ◌∷◌, ◌++◌, Option, Some, None, map, refl, sym, ap, ◌∙◌}
+use Rattle.std.specs.Prelude.{if◌then◌else◌, nat_le}
 use Rattle.std.specs.List.{list_any, list_all}
 use Rattle.std.proofs.lemmas.Bool.{and_parts}
 use Rattle.host_net.specs.declared.packet.Packet.{Packet}
@@ -8,7 +8,7 @@ use Rattle.host_net.specs.declared.packet.CtState.{CtState}
 use Rattle.host_net.specs.declared.packet.CtState.TheVariants.{New, Established}
 use Rattle.host_net.specs.declared.service.Service.{Service}
 use Rattle.host_net.specs.Packet.{IsPacket, swap_of}
-use Rattle.host_net.specs.Service.{serves, is_served, is_whole, service_matches, has_all_ports, has_name, has_ports, icmp, max_port}
+use Rattle.host_net.specs.Service.{is_served, is_whole, service_matches, has_all_ports, has_name, has_ports, icmp, max_port}
 use Rattle.host_net.specs.inner.Service.{is_service}
 use Rattle.pkt_core.specs.Firewall.{is_established}
 use Rattle.emit_core.proofs.NarrowingLaws.{lets, is_served-service_matches, all_ports}
@@ -16,10 +16,10 @@ use Rattle.emit_core.specs.inner.Link.{served}
 use Rattle.nft_rules.specs.declared.table.End.{End}
 use Rattle.nft_rules.specs.declared.table.End.TheVariants.{Source, Destination}
 use Rattle.nft_rules.specs.declared.table.MatchRule.{MatchRule}
-use Rattle.nft_rules.specs.Loadable.{are_ports, is_service_match}
-use Rattle.nft_rules.specs.Semantics.{fits, ports_fit, port_at, service_fits, state_fits}
+use Rattle.nft_rules.specs.Loadable.{are_ports}
+use Rattle.nft_rules.specs.Semantics.{fits, ports_fit, service_fits}
 use Rattle.nft_emit.specs.inner.Building.{AreAccepting}
-use Rattle.nft_emit.specs.inner.Links.{accept, accepts, is_all, port_match, service_match}
+use Rattle.nft_emit.specs.inner.Links.{accept, accepts, is_all, port_match}
 
 pub matches_some : (ss : List Service) → is_whole ss ≡ false → service_matches ss ≡ map (λ (t : Service). Some t) ss
 matches_some [] some = cc

@@ -1,17 +1,14 @@
 -- The packets that the chain of a sender lets pass.
-use Rattle.std.proofs.Common.{◌≡◌, ℕ, zero, suc, ◌+◌, ◌<◌, ◌^◌, Bool, true, false, List, [], ◌∷◌, ◌++◌, Option, Some, None, map, length, refl, sym, ap, subst, ◌∙◌, arith, length-append}
+use Rattle.std.proofs.Common.{◌≡◌, ℕ, zero, suc, ◌<◌, Bool, true, false, List, [], ◌∷◌, ◌++◌, Option, Some, None, map, length, refl, sym, ap, subst, ◌∙◌, arith}
 use Rattle.std.specs.Prelude.{slice_get}
 use Rattle.std.specs.List.{list_any}
 use Rattle.std.specs.Option.{option_and_then}
 use Rattle.std.proofs.lemmas.Option.{slice_get_within}
 use Rattle.host_net.specs.declared.packet.Packet.{Packet}
 use Rattle.host_net.specs.declared.packet.CtState.{CtState}
-use Rattle.host_net.specs.declared.service.Service.{Service}
-use Rattle.host_net.specs.Host.{Host, owner_of, prefix_owner_of, covers_any, rest_of}
-use Rattle.host_net.specs.Packet.{IsPacket, swap_of}
-use Rattle.host_net.specs.Service.{is_served}
+use Rattle.host_net.specs.Host.{owner_of, rest_of}
+use Rattle.host_net.specs.Packet.{IsPacket}
 use Rattle.host_net.specs.Services.{services_of}
-use Rattle.host_net.specs.inner.Service.{is_service}
 use Rattle.host_net.specs.inner.Services.{AreServices}
 use Rattle.pkt_core.specs.Firewall.{is_established}
 use Rattle.pkt_core.specs.FlowPolicy.{FlowPolicy}
@@ -32,12 +29,12 @@ use Rattle.nft_emit.specs.declared.cuts.Cut.{Cut}
 use Rattle.nft_emit.specs.inner.Building.{AreAccepting, Extends, HasRules}
 use Rattle.nft_emit.specs.inner.Cuts.{AreCuts}
 use Rattle.nft_emit.specs.inner.Falls.{Falls, verdict_at, verdict_of}
-use Rattle.nft_emit.specs.inner.Links.{Accepts, Fits, accepts, is_all, may_send}
+use Rattle.nft_emit.specs.inner.Links.{Accepts, Fits, accepts, may_send}
 use Rattle.nft_emit.specs.inner.Sending.{AreHeads, RowFits, Sends}
 use Rattle.nft_emit.proofs.BuildLaws.{at_end, extends_push, has_rules_more, pushed_at}
 use Rattle.nft_emit.proofs.EvalLaws.{Ends, accepting_given, accepting_only, none_decides}
-use Rattle.nft_emit.proofs.FallLaws.{AllLeadBelow, MayLeadBelow, falls_given, falls_load, falls_only}
-use Rattle.nft_emit.proofs.LinkLaws.{all_pass, both_accept, both_accepting, none_pass}
+use Rattle.nft_emit.proofs.FallLaws.{AllLeadBelow, MayLeadBelow, falls_given, falls_only}
+use Rattle.nft_emit.proofs.LinkLaws.{both_accept, both_accepting}
 
 -- 1. The verdict on the packets from one host to another.
 

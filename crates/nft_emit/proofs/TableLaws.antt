@@ -1,5 +1,5 @@
 -- The table of a policy enforces it.
-use Rattle.std.proofs.Common.{◌≡◌, ℕ, ◌+◌, ◌<◌, ◌≤◌, suc, Bool, true, false, cond, List, [], ◌∷◌, Option, Some, None, length, refl, sym, ap, subst, ◌∙◌, arith}
+use Rattle.std.proofs.Common.{◌≡◌, ℕ, ◌+◌, ◌<◌, ◌≤◌, suc, Bool, true, false, cond, List, [], ◌∷◌, Option, Some, None, length, refl, sym, subst, ◌∙◌, arith}
 use Rattle.std.specs.List.{position_from}
 use Rattle.std.specs.Option.{option_or, option_map_or}
 use Rattle.host_net.specs.declared.packet.Packet.{Packet}
@@ -9,7 +9,7 @@ use Rattle.host_net.specs.inner.Hosts.{IsHosts}
 use Rattle.host_net.specs.Packet.{IsPacket}
 use Rattle.pkt_core.specs.Filter.{Enforces, ForwardsAsExpected}
 use Rattle.pkt_core.specs.Firewall.{is_established}
-use Rattle.pkt_core.specs.FlowPolicy.{FlowPolicy, lets_pass}
+use Rattle.pkt_core.specs.FlowPolicy.{FlowPolicy}
 use Rattle.pkt_core.specs.inner.FlowPolicy.{IsFlowPolicy}
 use Rattle.pkt_core.proofs.FilterLaws.{enforced_expected}
 use Rattle.emit_core.proofs.ForwardingLaws.{owners_send}
@@ -20,9 +20,8 @@ use Rattle.nft_rules.specs.declared.table.Chain.{Chain}
 use Rattle.nft_rules.specs.declared.table.End.TheVariants.{Source}
 use Rattle.nft_rules.specs.declared.table.Table.{Table}
 use Rattle.nft_rules.specs.declared.table.Verdict.{Verdict}
-use Rattle.nft_rules.specs.declared.table.Verdict.TheVariants.{Goto}
 use Rattle.nft_rules.specs.Loadable.{IsLoadable}
-use Rattle.nft_rules.specs.Semantics.{Decides, Passes}
+use Rattle.nft_rules.specs.Semantics.{Passes}
 use Rattle.nft_rules.specs.Semantics.Decides.{by_policy}
 use Rattle.nft_emit.specs.declared.cuts.Cut.{Cut}
 use Rattle.nft_emit.specs.inner.Building.{AreBuilt}

@@ -1,4 +1,4 @@
-use Rattle.std.proofs.Common.{◌∙◌, ◌++◌, ◌∷◌, [], ◌≡◌, ℕ, List, map, ap, arith, length, subst, sym}
+use Rattle.std.proofs.Common.{◌∙◌, ℕ, List, map, ap, arith, length, subst, sym}
 use Rattle.nft_rules.specs.declared.table.Chain.{Chain}
 use Rattle.nft_rules.specs.declared.table.Rule.TheVariants.{Match}
 use Rattle.nft_emit.specs.inner.Building.{AreBuilt, HasRules, services_name}

@@ -1,4 +1,4 @@
-use Rattle.std.proofs.Common.{◌∙◌, ◌+◌, ℕ, List, Option, Some, ap, arith, length, subst, sym}
+use Rattle.std.proofs.Common.{◌∙◌, ◌+◌, ℕ, List, Option, Some, ap, length, subst, sym}
 use Rattle.std.proofs.lemmas.List.{length_push}
 use Rattle.nft_rules.specs.declared.table.Verdict.{Verdict}
 use Rattle.nft_rules.specs.declared.table.Verdict.TheVariants.{Goto}
