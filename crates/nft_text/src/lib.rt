@@ -1,0 +1,10 @@
+//! The text of a table of nftables, as `nft -f` loads it and `nft list table` prints it, written
+//! piece by piece.
+#![tactic(auto)]
+
+mod address;
+mod element;
+mod line;
+mod pieces;
+
+pub use pieces::{PIECE_LIMIT, TextPieces};
