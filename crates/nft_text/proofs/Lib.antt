@@ -1,0 +1,4 @@
+mod CompareLaws
+mod LengthLaws
+mod PlaceLaws
+mod RangeLaws

@@ -1,7 +1,7 @@
 -- The text of a table, as `nft list table ip topos` prints it (nft(8), "TABLES", "CHAINS", "VERDICT MAPS", "PAYLOAD EXPRESSIONS", "META
 -- EXPRESSIONS", "CONNTRACK EXPRESSIONS"). nft loads the text, and prints the same text. Chains have the order of the table, and the base
 -- chain is the last.
-use Rattle.std.specs.Prelude.{ℕ, zero, suc, ◌+◌, Bool, true, false, ◌==◌, ◌&&◌, if◌then◌else◌, List, [], ◌∷◌, ◌++◌, Option, Some, None, slice_get, codes, decimal}
+use Rattle.std.specs.Prelude.{ℕ, zero, suc, ◌+◌, Bool, true, false, ◌==◌, ◌&&◌, if◌then◌else◌, List, [], ◌∷◌, ◌++◌, Option, Some, None, slice_get, codes}
 use Rattle.std.specs.List.{concat}
 use Rattle.std.specs.Option.{option_map_or}
 use Rattle.host_net.specs.Prefix.{address_text, prefix_text, prefix_with}

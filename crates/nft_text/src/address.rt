@@ -3,7 +3,7 @@
 ghost use Rattle.std.specs.Prelude.{◌≡◌, ◌<◌, ◌≤◌, ◌++◌, None, Some, codes, decimal, take};
 ghost use Rattle.text_core.specs.inner.Line.{cut};
 ghost use Rattle.host_net.specs.Prefix.{address_text, octet, prefix_with};
-ghost use Rattle.nft_text.specs.Text.{interval_text, range_prefix, range_text};
+ghost use Rattle.nft_text.specs.Text.{has_addresses, interval_text, range_prefix, range_text};
 
 use header_space::AddressRange;
 use host_net::{Prefix, put_prefix};
@@ -76,16 +76,23 @@ fn octet(address: u32, place: u8) -> u64
 }
 
 /// Returns the prefix that has exactly the addresses of the range.
+#[tactic(auto, using(crate::proofs::RangeLaws::prefix_here, crate::proofs::RangeLaws::prefix_later))]
 fn range_prefix(range: AddressRange) -> Option<Prefix>
     ensures { result ≡ range_prefix range }
 {
     for len in 0..33 {
         let prefix = prefix_with(range.first, len);
-        if prefix.first() == range.first && prefix.last() == range.last {
+        if has_addresses(range, prefix) {
             return Some(prefix);
         }
     }
     None
+}
+
+fn has_addresses(range: AddressRange, prefix: Prefix) -> bool
+    ensures { result ≡ has_addresses range prefix }
+{
+    prefix.first() == range.first && prefix.last() == range.last
 }
 
 fn prefix_with(address: u32, len: u8) -> Prefix

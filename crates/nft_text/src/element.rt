@@ -23,10 +23,17 @@ pub(crate) fn write_element(
     let range = put_range(buffer, 0, element.range);
     let colon = put(buffer, range, b" : ");
     let verdict = put_verdict(chains, element.verdict, buffer, colon);
-    if behind.is_empty() {
-        return put(buffer, verdict, b" }\n");
+    put(buffer, verdict, after_element(behind))
+}
+
+/// Returns what follows an element.
+fn after_element(behind: &[Element]) -> &'static [u8]
+    ensures { result.now ≡ after_element behind.now }
+{
+    match behind {
+        [] => b" }\n",
+        _ => b", ",
     }
-    put(buffer, verdict, b", ")
 }
 
 /// Writes a verdict after the first `at` bytes, and returns the end of the text.

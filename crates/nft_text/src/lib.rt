@@ -3,8 +3,10 @@
 #![tactic(auto)]
 
 mod address;
+mod compare;
 mod element;
 mod line;
 mod pieces;
 
+pub use compare::is_text_of;
 pub use pieces::{PIECE_LIMIT, TextPieces};

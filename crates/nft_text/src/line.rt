@@ -1,6 +1,6 @@
 //! Pieces that are whole lines: rules with matches, and the heads of chains and maps.
 
-ghost use Rattle.std.specs.Prelude.{◌≡◌, ◌≤◌, ◌++◌, Some, None, codes, length, take};
+ghost use Rattle.std.specs.Prelude.{◌≡◌, ◌≤◌, ◌++◌, Some, None, codes, decimal, length, take};
 ghost use Rattle.text_core.specs.inner.Line.{cut};
 ghost use Rattle.host_net.specs.ServiceText.{ports_text, protocol_text};
 ghost use Rattle.nft_text.specs.Text.{chain_head, map_head, match_line, port_word, protocol_match, service_match, state_text};
@@ -34,14 +34,23 @@ pub(crate) fn write_head(name: &[u8], buffer: &mut [u8; 256]) -> usize
     put(buffer, name, b" {\n")
 }
 
+/// Writes a piece to the start of the buffer, and returns the length.
+pub(crate) fn write(piece: &[u8], buffer: &mut [u8; 256]) -> usize
+    requires { length piece.now ≤ 256 }
+    ensures text { take result buffer.new ≡ piece.now }
+    ensures within { result ≤ 256 }
+{
+    put(buffer, 0, piece)
+}
+
 /// Writes the beginning of a verdict map to the start of the buffer, and returns the length.
 pub(crate) fn write_map_head(end: End, buffer: &mut [u8; 256]) -> usize
     ensures text { take result buffer.new ≡ map_head end }
     ensures within { result ≤ 256 }
 {
     match end {
-        End::Source => put(buffer, 0, b"\t\tip saddr vmap { "),
-        End::Destination => put(buffer, 0, b"\t\tip daddr vmap { "),
+        End::Source => write(b"\t\tip saddr vmap { ", buffer),
+        End::Destination => write(b"\t\tip daddr vmap { ", buffer),
     }
 }
 
@@ -61,21 +70,25 @@ fn put_state(buffer: &mut [u8; 256], at: usize, established: bool) -> usize
 fn put_service(buffer: &mut [u8; 256], at: usize, service: Option<ServiceMatch>) -> usize
     requires { at ≤ 256 }
     ensures text { take result buffer.new ≡ cut 256 (take at buffer.old ++ service_match service) }
+    ensures short { length (service_match service) ≤ 23 }
     ensures within { result ≤ 256 }
 {
     match service {
         None => at,
         Some(ServiceMatch { proto, ports: None }) => put_protocol_match(buffer, at, proto),
-        Some(ServiceMatch {
-            proto,
-            ports: Some(ports),
-        }) => put_port_match(buffer, at, proto, ports),
+        Some(
+            ServiceMatch {
+                proto,
+                ports: Some(ports),
+            },
+        ) => put_port_match(buffer, at, proto, ports),
     }
 }
 
 fn put_protocol_match(buffer: &mut [u8; 256], at: usize, proto: u8) -> usize
     requires { at ≤ 256 }
     ensures text { take result buffer.new ≡ cut 256 (take at buffer.old ++ protocol_match proto None) }
+    ensures short { length (protocol_match proto None) ≤ 23 }
     ensures within { result ≤ 256 }
 {
     let key = put(buffer, at, b"meta l4proto ");
@@ -86,6 +99,7 @@ fn put_protocol_match(buffer: &mut [u8; 256], at: usize, proto: u8) -> usize
 fn put_port_match(buffer: &mut [u8; 256], at: usize, proto: u8, ports: PortMatch) -> usize
     requires { at ≤ 256 }
     ensures text { take result buffer.new ≡ cut 256 (take at buffer.old ++ protocol_match proto (Some ports)) }
+    ensures short { length (protocol_match proto (Some ports)) ≤ 23 }
     ensures within { result ≤ 256 }
 {
     let proto = put_protocol(buffer, at, proto);
@@ -94,9 +108,11 @@ fn put_port_match(buffer: &mut [u8; 256], at: usize, proto: u8, ports: PortMatch
     put(buffer, range, b" ")
 }
 
+#[tactic(auto, using(crate::proofs::LengthLaws::protocol_short))]
 fn put_protocol(buffer: &mut [u8; 256], at: usize, proto: u8) -> usize
     requires { at ≤ 256 }
     ensures text { take result buffer.new ≡ cut 256 (take at buffer.old ++ protocol_text proto) }
+    ensures short { length (protocol_text proto) ≤ 4 }
     ensures within { result ≤ 256 }
 {
     match proto {
@@ -118,15 +134,25 @@ fn put_port_word(buffer: &mut [u8; 256], at: usize, end: End) -> usize
     }
 }
 
+#[tactic(auto, using(crate::proofs::LengthLaws::ports_short))]
 fn put_ports(buffer: &mut [u8; 256], at: usize, low: u16, high: u16) -> usize
     requires { at ≤ 256 }
     ensures text { take result buffer.new ≡ cut 256 (take at buffer.old ++ ports_text low high) }
+    ensures short { length (ports_text low high) ≤ 11 }
+    ensures within { result ≤ 256 }
+{
+    if low == high {
+        return put_number(buffer, at, low as u64);
+    }
+    put_port_range(buffer, at, low, high)
+}
+
+fn put_port_range(buffer: &mut [u8; 256], at: usize, low: u16, high: u16) -> usize
+    requires { at ≤ 256 }
+    ensures text { take result buffer.new ≡ cut 256 (take at buffer.old ++ (decimal low ++ (codes "-" ++ decimal high))) }
     ensures within { result ≤ 256 }
 {
     let first = put_number(buffer, at, low as u64);
-    if low == high {
-        return first;
-    }
     let dash = put(buffer, first, b"-");
     put_number(buffer, dash, high as u64)
 }

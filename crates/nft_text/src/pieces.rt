@@ -1,18 +1,18 @@
 //! The pieces of the text: a line is one piece, but each element of a verdict map is a piece of its
 //! own, so a piece fits a buffer of fixed size. Nothing is allocated.
 
-ghost use Rattle.std.specs.Prelude.{◌≡◌, ◌≤◌, ◌++◌, ◌∷◌, [], IfNone, IfSome, take};
+ghost use Rattle.std.specs.Prelude.{◌≡◌, ◌≤◌, ◌++◌, ◌∷◌, [], List, IfNone, IfSome, take};
 ghost use Rattle.std.specs.Option.{option_map_or};
 ghost use Rattle.nft_rules.specs.Loadable.{AreNamed};
+ghost use Rattle.nft_rules.specs.declared.table.Chain.{Chain};
 ghost use Rattle.nft_text.specs.Text.{rule_pieces, rules_pieces, table_pieces};
-ghost use Rattle.nft_text.specs.inner.Places.{AreShort, body_pieces, remaining, rest_pieces};
+ghost use Rattle.nft_text.specs.inner.Places.{AreShort, HasShortNames, body_pieces, remaining, rest_pieces};
 ghost use Rattle.nft_text.specs.declared.pieces.Place.TheVariants.{Last, Within};
 
 use crate::element::write_element;
-use crate::line::{write_head, write_map_head, write_match};
+use crate::line::{write, write_head, write_map_head, write_match};
 use nft_rules::{Chain, Element, Rule, Table};
 use std::marker::Model;
-use text_core::put;
 
 /// The greatest length of a piece, in bytes.
 pub const PIECE_LIMIT: usize = 256;
@@ -40,6 +40,7 @@ pub(crate) enum Place<'a> {
 }
 
 /// The pieces of the text of a table that remain to be written.
+#[derive(Drop)]
 pub struct TextPieces<'a> {
     table: &'a Table,
     place: Place<'a>,
@@ -47,17 +48,18 @@ pub struct TextPieces<'a> {
 
 impl<'a> Model for TextPieces<'a> {
     ghost use Rattle.std.specs.Prelude.{ℕ, List};
-    ghost use Rattle.nft_text.specs.inner.Places.{AreShort, remaining};
+    ghost use Rattle.nft_text.specs.inner.Places.{AreShort, HasShortNames, remaining};
 
     ghost Value = { List (List ℕ) };
 
     ghost view = { λ t. remaining t.table.now t.place };
 
-    ghost invariant = { λ t. AreShort t.table.now.chains.items };
+    ghost invariant = { λ t. AreShort t.table.now.chains.items × HasShortNames t.place };
 }
 
 impl<'a> TextPieces<'a> {
     /// Returns all pieces of the text of a table, whose chains have names as nft demands.
+    #[tactic(auto, using(crate::proofs::PlaceLaws::short_named))]
     pub fn new(table: &'a Table) -> TextPieces<'a>
         requires { AreNamed table.now.chains.items }
         ensures { result ≡ table_pieces table.now }
@@ -82,19 +84,22 @@ impl<'a> TextPieces<'a> {
 }
 
 /// Writes the piece at a place, and returns its length and the next place.
+#[tactic(auto, unfolding(crate::specs::Text::table_head))]
 fn write_piece<'a>(
     table: &'a Table,
     place: Place<'a>,
     buffer: &mut [u8; 256],
 ) -> Option<(usize, Place<'a>)>
-    requires { AreShort table.now.chains.items }
-    ensures some { IfSome result (λ next. remaining table.now place ≡ take next.0 buffer.new ∷ remaining table.now next.1) }
-    ensures none { IfNone result (remaining table.now place ≡ []) }
+    requires short { AreShort table.now.chains.items }
+    requires names { HasShortNames place }
+    ensures some { IfSome result (λ next. remaining table.now place.entry ≡ take next.0 buffer.new ∷ remaining table.now next.1) }
+    ensures none { IfNone result (remaining table.now place.entry ≡ []) }
+    ensures names { IfSome result (λ next. HasShortNames next.1) }
     ensures within { IfSome result (λ next. next.0 ≤ 256) }
 {
     match place {
         Place::Start => {
-            let length = put(buffer, 0, b"table ip topos {\n");
+            let length = write(b"table ip topos {\n", buffer);
             Some((length, Place::Chains(&table.chains)))
         }
         Place::Chains(chains) => Some(write_next_head(table, chains, buffer)),
@@ -105,6 +110,7 @@ fn write_piece<'a>(
 }
 
 /// Writes the first line of the next chain: of the base chain, if no other follows.
+#[tactic(auto, using(crate::proofs::PlaceLaws::rest_chain, crate::proofs::PlaceLaws::short_rest), unfolding(crate::specs::Text::forward_head))]
 fn write_next_head<'a>(
     table: &'a Table,
     chains: &'a [Chain],
@@ -112,11 +118,15 @@ fn write_next_head<'a>(
 ) -> (usize, Place<'a>)
     requires { AreShort chains.now }
     ensures text { rest_pieces table.now chains.now ≡ take result.0 buffer.new ∷ remaining table.now result.1 }
+    ensures names { HasShortNames result.1 }
     ensures within { result.0 ≤ 256 }
 {
     match chains {
         [] => {
-            let length = put(buffer, 0, b"\tchain forward {\n\t\ttype filter hook forward priority filter; policy drop;\n");
+            let length = write(
+                b"\tchain forward {\n\t\ttype filter hook forward priority filter; policy drop;\n",
+                buffer,
+            );
             (length, Place::Last(body_of(&table.forward)))
         }
         [chain, behind @ ..] => {
@@ -127,8 +137,7 @@ fn write_next_head<'a>(
 }
 
 fn body_of(rules: &[Rule]) -> Body<'_>
-    ensures elements { result.elements.now ≡ [] }
-    ensures rules { result.rules.now ≡ rules.now }
+    ensures { (chains : List Chain) → body_pieces chains result ≡ rules_pieces chains rules.now }
 {
     Body {
         elements: &[],
@@ -137,39 +146,40 @@ fn body_of(rules: &[Rule]) -> Body<'_>
 }
 
 /// Writes the next piece of a chain, or its end.
+#[tactic(auto, unfolding(crate::specs::Text::chain_end))]
 fn write_within<'a>(
     table: &'a Table,
     chains: &'a [Chain],
     body: Body<'a>,
     buffer: &mut [u8; 256],
 ) -> (usize, Place<'a>)
-    requires { AreShort table.now.chains.items }
-    ensures text { remaining table.now (Within chains body) ≡ take result.0 buffer.new ∷ remaining table.now result.1 }
+    requires short { AreShort table.now.chains.items }
+    requires names { AreShort chains.now }
+    ensures text { remaining table.now (Within chains.entry body.entry) ≡ take result.0 buffer.new ∷ remaining table.now result.1 }
+    ensures names { HasShortNames result.1 }
     ensures within { result.0 ≤ 256 }
 {
     match write_body(&table.chains, body, buffer) {
         Some((length, body)) => (length, Place::Within(chains, body)),
         None => {
-            let length = put(buffer, 0, b"\t}\n\n");
+            let length = write(b"\t}\n\n", buffer);
             (length, Place::Chains(chains))
         }
     }
 }
 
 /// Writes the next piece of the base chain, or the end of the table.
-fn write_last<'a>(
-    table: &'a Table,
-    body: Body<'a>,
-    buffer: &mut [u8; 256],
-) -> (usize, Place<'a>)
+#[tactic(auto, unfolding(crate::specs::Text::table_end))]
+fn write_last<'a>(table: &'a Table, body: Body<'a>, buffer: &mut [u8; 256]) -> (usize, Place<'a>)
     requires { AreShort table.now.chains.items }
-    ensures text { remaining table.now (Last body) ≡ take result.0 buffer.new ∷ remaining table.now result.1 }
+    ensures text { remaining table.now (Last body.entry) ≡ take result.0 buffer.new ∷ remaining table.now result.1 }
+    ensures names { HasShortNames result.1 }
     ensures within { result.0 ≤ 256 }
 {
     match write_body(&table.chains, body, buffer) {
         Some((length, body)) => (length, Place::Last(body)),
         None => {
-            let length = put(buffer, 0, b"\t}\n}\n");
+            let length = write(b"\t}\n}\n", buffer);
             (length, Place::End)
         }
     }
@@ -182,13 +192,19 @@ fn write_body<'a>(
     buffer: &mut [u8; 256],
 ) -> Option<(usize, Body<'a>)>
     requires { AreShort chains.now }
-    ensures some { IfSome result (λ next. body_pieces chains.now body ≡ take next.0 buffer.new ∷ body_pieces chains.now next.1) }
-    ensures none { IfNone result (body_pieces chains.now body ≡ []) }
+    ensures some { IfSome result (λ next. body_pieces chains.now body.entry ≡ take next.0 buffer.new ∷ body_pieces chains.now next.1) }
+    ensures none { IfNone result (body_pieces chains.now body.entry ≡ []) }
     ensures within { IfSome result (λ next. next.0 ≤ 256) }
 {
     if let [element, behind @ ..] = body.elements {
         let length = write_element(chains, *element, behind, buffer);
-        return Some((length, Body { elements: behind, rules: body.rules }));
+        return Some((
+            length,
+            Body {
+                elements: behind,
+                rules: body.rules,
+            },
+        ));
     }
     match body.rules {
         [] => None,
@@ -210,7 +226,13 @@ fn write_rule<'a>(
     match rule {
         Rule::Map(map) => {
             let length = write_map_head(map.end, buffer);
-            (length, Body { elements: &map.elements, rules: behind })
+            (
+                length,
+                Body {
+                    elements: &map.elements,
+                    rules: behind,
+                },
+            )
         }
         Rule::Match(matched) => {
             let length = write_match(chains, *matched, buffer);

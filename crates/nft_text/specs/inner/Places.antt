@@ -1,6 +1,5 @@
 -- The pieces of a text that remain to be written.
-use Rattle.std.specs.Prelude.{◌≡◌, ◌≤◌, ℕ, List, [], ◌∷◌, ◌++◌, length}
-use Rattle.std.specs.List.{All}
+use Rattle.std.specs.Prelude.{◌≡◌, ◌≤◌, ℕ, List, [], ◌∷◌, ◌++◌, Some, length, slice_get}
 use Rattle.nft_rules.specs.declared.table.Chain.{Chain}
 use Rattle.nft_rules.specs.declared.table.Table.{Table}
 use Rattle.nft_text.specs.declared.pieces.Body.{Body}
@@ -8,16 +7,15 @@ use Rattle.nft_text.specs.declared.pieces.Place.{Place}
 use Rattle.nft_text.specs.declared.pieces.Place.TheVariants.{Start, Chains, Within, Last, End}
 use Rattle.nft_text.specs.Text.{chain_end, chains_pieces, element_pieces, forward_pieces, rules_pieces, table_end, table_pieces}
 
--- The greatest length of a piece, in bytes.
-abbrev pub piece_limit : ℕ
-piece_limit = 256
-
-abbrev pub IsShortName : Chain → Type 0
-IsShortName chain = length chain.name.items ≤ 128
-
 -- The names are short enough for a piece.
 abbrev pub AreShort : List Chain → Type 0
-AreShort chains = All IsShortName chains
+AreShort chains = (c : ℕ) (chain : Chain) → slice_get chains c ≡ Some chain → length chain.name.items ≤ 128
+
+-- The names of the chains that remain are short enough.
+abbrev pub HasShortNames : Place → Type 0
+HasShortNames (Chains waiting) = AreShort waiting.now
+HasShortNames (Within waiting body) = AreShort waiting.now
+HasShortNames _ = Unit {0}
 
 -- The rest of a chain: the elements that remain of a map, and the rules behind it.
 abbrev pub body_pieces : List Chain → Body → List (List ℕ)

@@ -1,0 +1,11 @@
+use Rattle.std.proofs.Common.{◌≡◌, length}
+use Rattle.std.specs.Prelude.{bytes_eq}
+use Rattle.std.specs.List.{concat}
+use Rattle.nft_text.specs.Text.{table_text}
+use Rattle.nft_text.proofs.compare.is_text_of.Given as goal
+
+abbrev pub invariant-loop-length : goal.invariant-loop-length
+invariant-loop-length l = bytes_eq l.rest (concat l.pieces) ≡ bytes_eq l.bytes (table_text l.table)
+
+abbrev pub decreases-loop-length : goal.decreases-loop-length
+decreases-loop-length l = length l.pieces
