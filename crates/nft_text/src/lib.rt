@@ -8,5 +8,5 @@ mod element;
 mod line;
 mod pieces;
 
-pub use compare::is_text_of;
+pub use compare::{is_range_text, is_text_of};
 pub use pieces::{PIECE_LIMIT, TextPieces};
