@@ -65,7 +65,15 @@ def entries_for(description: Description, given: Given, host: str, others: list[
              *({key: [each for each in value if each != host] if isinstance(value, list) else value
                 for key, value in entry.items()} for entry in used),
              *({'kind': kind} for kind in kinds), {}]
-    return list({toml(entry): entry for entry in found if entry != own}.values())[:SCREENED]
+    strangers = {*description.names} - {host, *others}
+    return list({toml(entry): entry for entry in found if entry != own and not adds(strangers, own, entry)}.values()
+                )[:SCREENED]
+
+
+def adds(hosts: set[str], own: Table, entry: Table) -> bool:
+    """Whether a list of an entry has one of the hosts that the list of the present entry has not."""
+    return any(hosts.intersection(value).difference(own.get(key) or ())
+               for key, value in entry.items() if isinstance(value, list))
 
 
 class Entry:
