@@ -107,7 +107,8 @@ class Listing:
     # The data.
 
     def tree(self) -> dict[str, object]:
-        return {'version': 1, 'pairs': [self.pair_tree(pair) for pair in self.upper.pairs], 'dead': [each.rule.line for each in self.dead],
+        return {'version': 1, 'pairs': [self.pair_tree(pair) for pair in self.upper.pairs],
+                'dead': [each.rule.line for each in self.dead],
                 'dead_rules': [each.tree() for each in self.dead]}
 
     def pair_tree(self, pair: Pair) -> dict[str, object]:
