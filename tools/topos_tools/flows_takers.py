@@ -1,6 +1,7 @@
 """The rules that take the packets of a dead rule: their sure matches before it leave it none."""
 from collections.abc import Callable, Iterator
 from dataclasses import replace
+from typing import Any
 
 from .import_bounds import Step, steps_of
 from .import_pieces import DIMENSIONS, Action, Piece
@@ -15,17 +16,26 @@ class TooMany(Exception):
     """Packets of a rule take too many ways."""
 
 
+def within(piece: Piece, other: Piece) -> Piece | None:
+    """Returns the part of a piece within another one, or None if it is empty."""
+    parts: dict[str, Any] = {'states': piece.states & other.states}
+    for each in DIMENSIONS if parts['states'] else ():
+        numbers, others = getattr(piece, each), getattr(other, each)
+        both = numbers if numbers == others else intersection(numbers, others)
+        if not both:
+            return None
+        parts[each] = both
+    return Piece(**parts) if parts['states'] else None
+
+
 def shared(pieces: list[Piece], other: Piece) -> list[Piece]:
     """Returns the parts of the pieces within another one, without the empty ones."""
-    parts = (replace(piece, states=piece.states & other.states,
-                     **{each: intersection(getattr(piece, each), getattr(other, each)) for each in DIMENSIONS})
-             for piece in pieces)
-    return [part for part in parts if part.states and all(getattr(part, each) for each in DIMENSIONS)]
+    return [part for piece in pieces if (part := within(piece, other))]
 
 
 def without(pieces: list[Piece], other: Piece) -> list[Piece]:
     """Returns the parts of the pieces outside another one."""
-    return [part for piece in pieces for part in (parts_outside(piece, other) if shared([piece], other) else [piece])]
+    return [part for piece in pieces for part in (parts_outside(piece, other) if within(piece, other) else [piece])]
 
 
 def parts_outside(piece: Piece, other: Piece) -> Iterator[Piece]:
@@ -47,20 +57,42 @@ class Way:
         self.steps = {chain: steps_of(rules, policy if chain == 'FORWARD' else Action.RETURN)
                       for chain, rules in save.rules.items()}
         self.rules = {rule.line: rule for rules in save.rules.values() for rule in rules}
+        self.chains = {rule.line: chain for chain, rules in save.rules.items() for rule in rules}
+        self.callers: dict[str, set[str]] = {}
+        for chain, steps in self.steps.items():
+            for step in steps:
+                self.callers.setdefault(step.target, set()).add(chain)
         self.leading: set[str] = set()  # chains from which the rule can be reached
         self.line, self.count = 0, 0
         self.ends: Callable[[int], bool] = bool  # whether the rules of a line end something
         self.taken: dict[int, None] = {}  # lines of which a rule took packets
 
     def arriving(self, line: int, ends: Callable[[int], bool]) -> bool:
-        """Whether packets of the rules of a line arrive there, if only some rules end something."""
+        """Whether packets of the rule of a line arrive there, if only some rules end something."""
         self.line, self.ends, self.count = line, ends, 0
-        own = {chain for chain, steps in self.steps.items() if any(step.rule.line == line for step in steps)}
-        self.leading = set()
-        while own - self.leading:
-            self.leading |= own
-            own = {chain for chain, steps in self.steps.items() if any(step.target in self.leading for step in steps)}
-        return line in self.rules and self.arrives('FORWARD', self.rules[line].pieces)
+        self.leading, waiting = set(), [self.chains[line]]
+        while waiting:
+            chain = waiting.pop()
+            if chain not in self.leading:
+                self.leading.add(chain)
+                waiting += self.callers.get(chain, ())
+        return self.arrives('FORWARD', self.rules[line].pieces)
+
+    def spend(self, count: int) -> None:
+        self.count += count
+        if self.count > MOST_STEPS:
+            raise TooMany
+
+    def is_led(self, line: int) -> bool:
+        """Whether jumps lead packets of the rule of a line to its chain."""
+        self.count = 0
+
+        def led(chain: str, packets: list[Piece]) -> bool:
+            self.spend(1)
+            return chain == 'FORWARD' or any(
+                led(caller, shared(packets, piece)) for caller in self.callers.get(chain, ())
+                for step in self.steps[caller] if step.target == chain for piece in step.pieces) if packets else False
+        return led(self.chains[line], self.rules[line].pieces)
 
     def arrives(self, chain: str, packets: list[Piece]) -> bool:
         """Whether packets that enter a chain arrive."""
@@ -77,10 +109,8 @@ class Way:
 
     def behind(self, step: Step, packets: list[Piece], returned: list[Piece]) -> list[Piece]:
         """Returns the packets that come to the next step, and adds those that leave the chain by a return."""
+        self.spend(len(step.pieces))
         for piece in step.pieces:
-            self.count += 1
-            if self.count > MOST_STEPS:
-                raise TooMany
             inside = shared(packets, piece)
             if inside and step.action is Action.RETURN:
                 returned += inside
@@ -123,7 +153,7 @@ class Takers:
             return None
 
     def taking(self, line: int) -> list[int] | None:
-        if not self.arriving(line, lambda each: False):
+        if not any(way.is_led(line) for way in self.ways):
             return []
         for way in self.ways:
             way.taken.clear()
