@@ -2,8 +2,8 @@
 from dataclasses import dataclass, field
 
 from .flows_against import Differences, permitted
-from .flows_answer import Flows, ask_flows, is_imported, texts_of
-from .flows_dead import DeadRule, dead_rules
+from .flows_answer import Flows, encoded, flows_of, is_imported, texts_of
+from .flows_dead import DeadRule, Search
 from .flows_groups import Groups
 from .flows_hosts import interfaces_of_hosts, owned_addresses, parts_of_hosts, proposal
 from .flows_list import Listing
@@ -81,20 +81,25 @@ class Answers:
 
 
 def ask_all(programs: Programs, description: bytes, text: str, save: Save | None, omitted: Numbers) -> Answers:
-    """Asks about both bounds, and then about dead rules. Without the lower bound everything is in doubt."""
+    """Asks about both bounds and about dead rules at once. Without the lower bound everything is in doubt."""
+    PROGRESS.doing = 'asking topos-query what both bounds let pass, and which rules no packet meets'
     texts = texts_of(text, save)
-    PROGRESS.doing = 'asking topos-query what the upper bound lets pass'
-    upper = ask_flows(programs, description, texts[0]).without(omitted)
-    found = Answers(upper, Flows({}) if texts[1:] else upper, missing='what is in doubt, and dead rules')
+    asked, search = [programs.begin_flows(description, encoded(each)) for each in texts], None
     try:
-        PROGRESS.doing = 'asking topos-query what the lower bound lets pass'
-        for each in texts[1:]:
-            found.lower = ask_flows(programs, description, each).without(omitted)
-        found.missing = 'dead rules'
-        found.dead = dead_rules(programs, text, save) if save else []
-    except TimedOut as stopped:
-        found.stopped = stopped
-    return found
+        search = Search(programs, text, save) if save else None
+        upper = flows_of(programs.flows_of(asked[0]), texts[0]).without(omitted)
+        found = Answers(upper, Flows({}) if texts[1:] else upper, missing='what is in doubt, and dead rules')
+        try:
+            for each, bound in zip(asked[1:], texts[1:]):
+                found.lower = flows_of(programs.flows_of(each), bound).without(omitted)
+            found.missing = 'dead rules'
+            found.dead = search.found() if search else []
+        except TimedOut as stopped:
+            found.stopped = stopped
+        return found
+    finally:
+        for each in [*asked, *(search.asked if search else [])]:
+            each.end()
 
 
 def list_flows(words: list[str], values: dict[str, str], options: set[str]) -> int:

@@ -92,7 +92,15 @@ def places_of(text: str) -> Places:
 
 def ask_flows(programs: Programs, description: bytes, text: str) -> Flows:
     """Returns what `topos-query flows` answers on one text."""
-    answer = programs.ask_flows(description, text.encode(errors='surrogateescape'))
+    return flows_of(programs.ask_flows(description, encoded(text)), text)
+
+
+def encoded(text: str) -> bytes:
+    return text.encode(errors='surrogateescape')
+
+
+def flows_of(answer: dict[str, Any], text: str) -> Flows:
+    """Returns an answer on a text."""
     places = places_of(text)
     return Flows({(each['from'], each['to']): [range_of(part, places) for part in each['services']]
                   for each in answer['pairs']})

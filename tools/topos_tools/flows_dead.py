@@ -6,14 +6,16 @@ may have left the chain: a sure verdict becomes `RETURN`. docs/IMPORT.md has the
 """
 from collections.abc import Iterator
 from dataclasses import dataclass
+from typing import Any
 
+from .flows_answer import encoded
 from .flows_states import readings
 from .flows_takers import Takers
 from .import_bounds import Copy, steps_of
 from .import_pieces import Action, Rule
 from .import_save import Save
 from .import_text import Text
-from .query import PROGRESS, Programs
+from .query import Programs, Question
 
 ENDS = {str(action) for action in (Action.ACCEPT, Action.DROP, Action.RETURN)}
 OF_NO_LINE = Rule(0, '')
@@ -75,9 +77,11 @@ class Meeting:
                 if line.source and not is_helper:
                     yield (chain, number), line.source
 
-    def met(self, programs: Programs) -> set[int]:
+    def ask(self, programs: Programs) -> Question:
+        return programs.begin_flows(EVERYBODY, encoded(self.text.written(['topos-flows'])))
+
+    def met(self, answer: dict[str, Any]) -> set[int]:
         """Returns the lines of which a packet meets a rule."""
-        answer = programs.ask_flows(EVERYBODY, self.text.written(['topos-flows']).encode(errors='surrogateescape'))
         dead = {(each['chain'], each['rule']) for each in answer['dead']}
         return {line for place, line in self.rules() if place not in dead}
 
@@ -92,15 +96,24 @@ class DeadRule:
         return {'line': self.rule.line, 'rule': self.rule.text, 'taken_by': self.takers}
 
 
+class Search:
+    """The questions on the rules that no packet meets. They run at once."""
+
+    def __init__(self, programs: Programs, text: str, save: Save) -> None:
+        self.programs, self.save = programs, save
+        self.readings = readings(text, save)
+        self.meetings = [Meeting(each) for each in self.readings]
+        self.asked = [each.ask(programs) for each in self.meetings]
+
+    def found(self) -> list[DeadRule]:
+        """Returns the rules that no packet meets, in the order of their lines."""
+        listed, met = set[int](), set[int]()
+        for meeting, asked in zip(self.meetings, self.asked):
+            listed.update(line for _, line in meeting.rules())
+            met |= meeting.met(self.programs.flows_of(asked))
+        takers = Takers(self.readings)
+        return [DeadRule(rule, takers.of(rule.line)) for rule in self.save.all_rules() if rule.line in listed - met]
+
+
 def dead_rules(programs: Programs, text: str, save: Save) -> list[DeadRule]:
-    """Returns the rules that no packet meets, in the order of their lines."""
-    PROGRESS.doing = 'asking topos-query which rules no packet meets'
-    read = readings(text, save)
-    listed, met = set[int](), set[int]()
-    for each in read:
-        meeting = Meeting(each)
-        lines = {line for _, line in meeting.rules()}
-        listed |= lines
-        met |= lines if lines <= met else meeting.met(programs)
-    takers = Takers(read)
-    return [DeadRule(rule, takers.of(rule.line)) for rule in save.all_rules() if rule.line in listed - met]
+    return Search(programs, text, save).found()

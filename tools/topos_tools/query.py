@@ -126,9 +126,16 @@ class Programs:
         """Returns the answer of `topos-query changes` on two descriptions."""
         return self._read(Question([self.query, 'changes', '/dev/stdin'], old, new), (0, DIFFERS))
 
+    def begin_flows(self, text: bytes, rules: bytes) -> Question:
+        """Asks `topos-query flows` about a description and rules for iptables, and does not wait."""
+        return Question([self.query, 'flows', 'iptables', '/dev/stdin'], text, rules)
+
+    def flows_of(self, asked: Question) -> dict[str, Any]:
+        return self._read(asked)
+
     def ask_flows(self, text: bytes, rules: bytes) -> dict[str, Any]:
         """Returns the answer of `topos-query flows` on a description and rules for iptables."""
-        return self._read(Question([self.query, 'flows', 'iptables', '/dev/stdin'], text, rules))
+        return self.flows_of(self.begin_flows(text, rules))
 
     def ask_if_accepted(self, text: bytes, form: str) -> dict[str, Any] | None:
         """Returns the answer, or None if the program refuses the description."""
@@ -194,6 +201,7 @@ class Question:
             for file in files:
                 os.set_inheritable(file.fileno(), True)
             self.process = _spawn(self.words, [(os.POSIX_SPAWN_DUP2, file.fileno(), place) for place, file in streams])
+        self.is_running = True
         BUDGET.share(self.process)
         for file in files:
             file.close()
@@ -202,9 +210,9 @@ class Question:
         """Waits for the end, and returns the output; with another status, the first error line stops the tool."""
         try:
             _, ended = os.waitpid(self.process, 0)
+            self.is_running = False
         except BaseException:  # raised by the handler of a signal
-            os.kill(self.process, signal.SIGKILL)
-            os.waitpid(self.process, 0)
+            self.end()
             raise
         status = os.waitstatus_to_exitcode(ended)
         BUDGET.check(status)
@@ -213,6 +221,13 @@ class Question:
                 line = _content(errors).strip()
                 raise Stopped(line or f'{" ".join(self.words[:2])} ends with status {status}', status)
             return _content(output)
+
+    def end(self) -> None:
+        """Ends the program if its answer was not waited for."""
+        if self.is_running:
+            self.is_running = False
+            os.kill(self.process, signal.SIGKILL)
+            os.waitpid(self.process, 0)
 
 
 def _memory_file(text: bytes) -> BinaryIO:
