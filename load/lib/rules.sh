@@ -100,17 +100,72 @@ save_filter() {
   exit 69
 }
 
-# Prints a command for each nft rule in some chains that iptables prints as a different rule: it omits sets, prints a range
-# of addresses as its last address, and only the last of two matches on an address.
+# Prints a command for each nft rule in some chains that iptables may print as a different rule.
 misread_rules() {
   if [ "${option[backend]}" = legacy ] || ! command -v nft >/dev/null; then return; fi
-  nft -t --debug=netlink list table ip filter 2>/dev/null | awk -v ours="^($1)$" '
-    /^ip filter / { rule = $3 ~ ours ? $3 " handle " $4 : ""; split("", loaded); next }
-    rule == "" || !/^  \[ / { next }
-    / load / { field = $0; sub(/load [0-9]+b/, "load", field); again = loaded[field]++ }
-    / lookup / || field ~ / network header [+] 1[26] / && (again || / cmp [lg]te? /) { wrong[rule] }
-    END { for (rule in wrong) print "nft delete rule ip filter " rule }' | sort -V
+  nft -t --debug=netlink list table ip filter 2>/dev/null | misread_in "$1"
 }
+
+# Prints such a command for each rule of the table, as `nft --debug=netlink` prints it, in the chains of a pattern.
+# iptables omits sets and fields that it does not know, and prints a range of addresses or protocols as its last one, and only
+# the last of two matches on a field. So a rule is read if it has what iptables itself writes: each field once, and with
+# operators that it prints. topos-import calls this function too.
+misread_in() { awk -v ours="^($1)$" "${form[expressions]}" | sort -V; }
+
+# The expressions of rules, for awk. `field` is what the last expression loads, and `mask` and `compared` what is done with it.
+# shellcheck disable=SC2016
+form[expressions]='
+  function field_of(line) {
+    if (line ~ / payload load [1-4]b @ network header [+] 1[26] /) return "address " $9
+    if (line ~ / payload load 1b @ network header [+] 9 | meta load l4proto /) return "protocol"
+    if (line ~ / payload load 2b @ network header [+] 6 /) return "fragment"
+    if (line ~ / payload load 1b @ network header [+] 8 /) return "ttl"
+    if (line ~ / payload load 4b @ transport header [+] 0 / && protocol ~ /^0x000000(06|11)$/) return "both ports"
+    if (line ~ / payload load 2b @ transport header [+] [02] / && protocol ~ /^0x000000(06|11)$/) return "port " $9
+    if (line ~ / payload load 1b @ transport header [+] 13 / && protocol == "0x00000006") return "flags"
+    if (line ~ / payload load [12]b @ transport header [+] 0 / && protocol == "0x00000001") return "type"
+    if (line ~ / meta load [io]if(name)? /) return substr($4, 1, 1) "if"
+    if (line ~ / meta load (mark|pkttype) /) return $4
+    return ""
+  }
+  function digit(text, place) { return index("0123456789abcdef", substr(text, place, 1)) - 1 }
+  function is_within(value, mask, place, bit) {
+    for (place = 3; place <= length(value); place++)
+      for (bit = 1; bit < 16; bit *= 2)
+        if (int(digit(value, place) / bit) % 2 > int(digit(mask, place) / bit) % 2) return 0
+    return 1
+  }
+  function is_compared(operator, value) {
+    if (operator !~ /^n?eq$/) return field == "ttl" && operator ~ /^[lg]t$/ && !compared ||
+      field ~ /^port/ && operator ~ /^[lg]te?$/ && (!compared || last operator == "gtelte")
+    if (compared || field == "protocol" && value ~ /^0x0+$/ || field == "both ports" && operator != "eq") return 0
+    if (field == "fragment") return mask == "0x0000ff1f" && value ~ /^0x0+$/
+    return field !~ /^address/ || mask == "" || is_within(value, mask)
+  }
+  /^ip filter / {
+    rule = $3 ~ ours ? $3 " handle " $4 : ""
+    field = protocol = ""
+    split("", loaded)
+    next
+  }
+  rule == "" || !/^  [[] / || / (match|target) name | counter pkts | limit rate .* flags 0x0 | immediate reg 0 [a-z]/ { next }
+  / load .* => reg 1 / {
+    field = field_of($0)
+    mask = last = ""
+    compared = 0
+    if (field == "" || loaded[field]++ && field != "mark") wrong[rule]
+    next
+  }
+  / bitwise reg 1 = [(] reg 1 & 0x[0-9a-f]+ [)] \^ 0x0+ / && field ~ /^(address|fragment|flags|mark)/ { mask = $10; next }
+  / cmp [a-z]+ reg 1 / && is_compared($3, $6) {
+    if (field == "protocol" && $3 == "eq") protocol = $6
+    last = $3
+    compared++
+    next
+  }
+  / range n?eq reg 1 / && field ~ /^port/ && !compared++ { next }
+  { wrong[rule] }
+  END { for (rule in wrong) print "nft delete rule ip filter " rule }'
 
 # Prints the chains of topos in a text.
 our_chains() { printf '%s\n' "$1" | sed -nE "s/^:(${form[chains]}) .*/\1/p" | sort; }
