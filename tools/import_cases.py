@@ -3,14 +3,32 @@ from typing import NamedTuple
 
 BOTH, DOUBT, NONE = 'both', 'doubt', 'none'  # both bounds forward the packet, upper alone does, none does
 ROUTES = ('default via 192.0.2.1 dev eth0 proto static\n10.0.0.0/8 via 10.1.0.1 dev eth1\n'
-          '10.1.0.0/24 dev eth2 proto kernel scope link\nblackhole 192.168.0.0/16\n')
+          '10.1.0.0/24 dev eth2 proto kernel scope link\nblackhole 192.168.0.0/16\n'
+          '0:\tfrom all lookup local\n32766:\tfrom all lookup main\n'
+          + ''.join(f'net.ipv4.conf.{name}.rp_filter = 1\n' for name in ('all', 'eth0', 'eth1', 'eth2')))
 TABLES = ROUTES + ('local 10.1.0.7 dev eth2 table local proto kernel scope host src 10.1.0.7\n'
-                   'broadcast 10.2.0.7 dev eth1 table local\ndefault via 192.0.2.9 dev eth9 table 100\n')
+                   'broadcast 10.2.0.7 dev eth1 table local\ndefault via 192.0.2.9 dev eth9 table 100\n'
+                   'net.ipv4.conf.eth9.rp_filter = 1\n')
 SETS = ('create a hash:net family inet hashsize 1024 maxelem 65536\nadd a 10.0.0.0/8\nadd a 10.1.0.0/16 nomatch\n'
         'add a 10.1.0.7\ncreate t hash:ip timeout 60\nadd t 10.1.0.7 timeout 5\ncreate p hash:ip,port\n'
         'add p 10.1.0.7,tcp:80\ncreate m hash:ip family inet netmask 24\nadd m 10.1.0.0\n'
         'create b bitmap:ip range 10.1.0.0-10.1.0.255\nadd b 10.1.0.4-10.1.0.8\n'
-        'create n hash:ip family inet comment\nadd n 10.1.0.7 comment "nomatch \\"\n')
+        'create n hash:ip family inet comment\nadd n 10.1.0.7 comment "nomatch \\"\n'
+        'create w bitmap:port range 1-65535\nadd w 80-443\n'
+        'create q hash:net,port family inet\nadd q 10.0.0.0/8,tcp:80\nadd q 10.1.0.0/16,tcp:80 nomatch\n'
+        'create i hash:ip,port,ip\nadd i 10.1.0.7,tcp:80,8.8.8.8\nadd i 10.1.0.7,icmp:8/0,8.8.8.8\n'
+        'add i 10.1.0.7,esp:0,8.8.8.8\ncreate k hash:ip,mark\nadd k 10.1.0.7,0x1\n'
+        'create h hash:net,net\nadd h 10.1.0.0/16,8.0.0.0/8\ncreate o hash:net,net\nadd o 10.1.0.0/16,8.0.0.0/8 nomatch\n')
+MAIN = '32766:\tfrom all lookup main\n'
+STRICT = ''.join(f'eth{number} rp_filter 1\n' for number in range(3))
+E_SAVE = '-A FORWARD ! -i eth0 -o eth2 -p tcp -m tcp --dport 443 -j ACCEPT'  # with the routes of two uplinks
+E_ROUTES = 'default via 1.1.1.1 dev eth0\n198.18.0.0/30 dev eth1\n10.0.0.0/8 dev eth2\n'
+WEB = '8.8.8.8 10.0.0.9 tcp 4000 443'
+MULTIPATH = ('default proto static\n\tnexthop via 192.0.2.1 dev eth0 weight 1\n\tnexthop via 198.51.100.1 dev eth1 '
+             'weight 1\n10.0.0.0/8 dev eth2\n' + MAIN + STRICT)
+POLICY = (E_ROUTES + 'default via 2.2.2.2 dev eth1 table 201\n100:\tfrom 10.9.0.0/16 lookup 201\n' + MAIN + STRICT)
+THROW = ('default dev eth0\n10.0.0.0/8 dev eth2\ndefault dev eth1 table 7\nthrow 10.0.0.0/8 table 7\n'
+         '9:\tfrom all lookup 7\n' + MAIN + STRICT)
 
 A, B, C = '10.1.0.7 8.8.8.8 tcp 1 80', '10.2.0.7 8.8.8.8 tcp 1 80', '8.8.8.8 10.1.0.7 tcp 1 80'
 SSH, DNS, HIGH = '10.1.0.7 8.8.8.8 tcp 1 22', '10.1.0.7 8.8.8.8 udp 1 53', '10.1.0.7 8.8.8.8 tcp 80 1'
@@ -138,6 +156,48 @@ CASES = (
     Case('-A FORWARD -m addrtype --src-type MULTICAST,LOCAL -j ACCEPT', {A: NONE, '224.1.1.1 1.1.1.1 6 1 1': BOTH}),
     Case('-A FORWARD -m addrtype ! --src-type LOCAL --dst-type UNICAST -j ACCEPT', {A: BOTH, CAST: NONE}),
     Case('-A FORWARD -m addrtype --src-type UNICAST --limit-iface-in -j ACCEPT', {A: DOUBT, B: DOUBT}),
+    Case('-A FORWARD -m set --match-set a src --return-nomatch -j ACCEPT', {A: DOUBT, B: DOUBT, C: DOUBT}, sets=SETS),
+    Case('-A FORWARD -m set ! --match-set a src --packets-gt 5 -j ACCEPT', {A: DOUBT, B: DOUBT, C: DOUBT}, sets=SETS),
+    Case('-A FORWARD -m set --match-set a src --return-nomatch -m set --match-set n src -j ACCEPT',
+         {A: DOUBT, B: NONE, C: NONE}, sets=SETS),
+    Case('-A FORWARD -m addrtype --dst-type LOCAL --limit-iface-in -j ACCEPT', {A: DOUBT}),
+    Case('-A FORWARD -s 10.1.0.0/16 -m addrtype ! --dst-type UNICAST --limit-iface-out -j DROP\n-A FORWARD -j ACCEPT',
+         {A: DOUBT, B: BOTH}),
+    Case('-A FORWARD -m conntrack --ctstate INVALID --ctunheard 1 -j ACCEPT', {A: DOUBT}),
+    Case('-A FORWARD -m unheard --of -s 10.2.0.0/16 -j ACCEPT', {A: DOUBT, B: DOUBT}),
+    Case('-A FORWARD -p tcp -m unheard --dport 22 -j ACCEPT', {A: DOUBT, DNS: NONE}),
+    Case('-A FORWARD -j SYSRQ\n-A FORWARD -j ACCEPT', {A: DOUBT}),
+    Case('-A FORWARD -j SYSRQ\n-A FORWARD -j DROP', {A: DOUBT}),
+    Case('-A FORWARD -j LOG --log-prefix -j\n-A FORWARD -j ACCEPT', {A: DOUBT}),
+    Case('-A FORWARD -m set --match-set w dst -j ACCEPT', {A: BOTH, SSH: NONE, DNS: NONE, ESP: NONE}, sets=SETS),
+    Case('-A FORWARD -m set ! --match-set w dst -j ACCEPT', {A: NONE, SSH: BOTH, DNS: BOTH, ESP: BOTH}, sets=SETS),
+    Case('-A FORWARD -m set --match-set p src,dst -j ACCEPT', {A: BOTH, SSH: NONE, B: NONE, HIGH: NONE}, sets=SETS),
+    Case('-A FORWARD -m set ! --match-set p src,dst -j ACCEPT', {A: NONE, SSH: BOTH, B: BOTH, ESP: BOTH}, sets=SETS),
+    Case('-A FORWARD -m set --match-set p src,src -j ACCEPT', {A: NONE, HIGH: BOTH}, sets=SETS),
+    Case('-A FORWARD -m set --match-set q src,dst -j ACCEPT', {A: NONE, B: BOTH, SSH: NONE}, sets=SETS),
+    Case('-A FORWARD -m set --match-set i src,dst,dst -j ACCEPT',
+         {A: BOTH, SSH: NONE, PING: DOUBT, ESP: BOTH, B: NONE}, sets=SETS),
+    Case('-A FORWARD -m set ! --match-set i src,dst,dst -j ACCEPT',
+         {A: NONE, SSH: BOTH, PING: DOUBT, ESP: NONE, B: BOTH}, sets=SETS),
+    Case('-A FORWARD -m set --match-set h src,dst -j ACCEPT', {A: BOTH, B: NONE, C: NONE}, sets=SETS),
+    *(Case(f'-A FORWARD -m set --match-set {name} src,dst -j ACCEPT', {A: DOUBT}, sets=SETS) for name in 'ko'),
+    *(Case(E_SAVE, {WEB: DOUBT}, routes) for routes in (
+        E_ROUTES, E_ROUTES + STRICT, E_ROUTES + MAIN, E_ROUTES + MAIN + STRICT.replace('eth1 rp_filter 1', ''),
+        E_ROUTES + MAIN + STRICT + 'eth7 rp_filter 2\n', POLICY, 'eth0 rest\neth1 rest\neth2 10.0.0.0/8')),
+    Case(E_SAVE, {WEB: NONE}, E_ROUTES + MAIN + STRICT),
+    Case('-A FORWARD -i eth2 -o eth0 -j ACCEPT', {A: DOUBT, C: NONE}, MULTIPATH),
+    Case('-A FORWARD -i eth2 ! -o eth2 -j ACCEPT', {A: BOTH, C: NONE}, MULTIPATH),
+    Case('-A FORWARD -o eth+ -j ACCEPT', {A: BOTH, C: BOTH}, MULTIPATH),
+    Case('-A FORWARD -o eth0 -j ACCEPT', {A: DOUBT, C: NONE}, POLICY),
+    Case('-A FORWARD -o eth2 -j ACCEPT', {A: NONE, C: DOUBT}, POLICY),
+    Case('-A FORWARD -o eth1 -j ACCEPT', {A: BOTH, C: NONE}, THROW),
+    Case('-A FORWARD -o eth2 -j ACCEPT', {A: NONE, C: BOTH}, THROW),
+    Case('-A FORWARD -o eth1 -j ACCEPT', {A: NONE, C: NONE}, THROW.replace('from all', 'from all to 10.0.0.0/8', 1)),
+    Case('-A FORWARD -o eth1 -j ACCEPT', {A: NONE, C: NONE},
+         THROW.replace('lookup 7', 'lookup 7 suppress_prefixlength 0')),
+    Case('-A FORWARD -o eth2 -j ACCEPT', {A: DOUBT, C: DOUBT}, THROW + '8:\tfrom all fwmark 0x1 lookup 9\n'),
+    Case('-A FORWARD -o eth0 -j ACCEPT', {A: DOUBT, C: NONE},
+         'default dev eth0 metric 100\ndefault dev eth1 metric 200\n10.0.0.0/8 dev eth2\n' + MAIN + STRICT),
     Case('-A FORWARD -i eth2 -j ACCEPT', {A: BOTH, B: NONE}, TABLES),
     Case('-A FORWARD -p tcp -m tcp --tcp-flags FIN,SYN,PSH FIN,PSH -j DROP\n-A FORWARD -j ACCEPT', {A: BOTH}, syn=True),
     Case('-A FORWARD -p tcp -m tcp --tcp-flags SYN,PSH SYN,PSH -j DROP\n-A FORWARD -j ACCEPT', {A: DOUBT}, syn=True),
@@ -145,6 +205,23 @@ CASES = (
          '-A c ! -s 8.8.0.0/16 -j DROP\n-A c -m multiport -p tcp --sports 1:5,7 -j ACCEPT',
          {A: NONE, C: DOUBT, B: NONE}, ROUTES),
 )
+
+LISTED = '\nip filter FORWARD 5 4\n  [ meta load l4proto => reg 1 ]\n  [ cmp eq reg 1 0x00000006 ]\n  [ immediate reg 0 accept ]\n'
+DROPS = '  [ immediate reg 0 drop ]\n'
+SENDER = '  [ payload load 4b @ network header + 12 => reg 1 ]\n'
+NFT_LISTS = (  # what nft lists of a first rule, and whether iptables may have printed another one
+    (SENDER + '  [ lookup reg 1 set __set0 0x0 ]\n', True), (SENDER + '  [ cmp eq reg 1 0x0500000a ]\n', False),
+    (SENDER + '  [ cmp neq reg 1 0x0500000a ]\n' + SENDER + '  [ cmp neq reg 1 0x0600000a ]\n', True),
+    (SENDER + '  [ cmp gte reg 1 0x0500000a ]\n  [ cmp lte reg 1 0x0600000a ]\n', True),
+    ('  [ meta load iifname => reg 1 ]\n  [ cmp eq reg 1 0x30687465 ]\n'
+     '  [ meta load iif => reg 1 ]\n  [ cmp eq reg 1 0x00000001 ]\n', True),
+    ('  [ meta load l4proto => reg 1 ]\n  [ cmp eq reg 1 0x00000000 ]\n', True),
+    ('  [ meta load l4proto => reg 1 ]\n  [ cmp eq reg 1 0x00000006 ]\n'
+     '  [ payload load 2b @ transport header + 14 => reg 1 ]\n  [ cmp eq reg 1 0x00000500 ]\n', True),
+    ('  [ counter pkts 0 bytes 0 ]\n  [ limit rate 5/second burst 5 type packets flags 0x0 ]\n', False))
+NFT_RULES = '-A FORWARD -j DROP\n-A FORWARD -p tcp -j ACCEPT'
+BAD_NFT_LISTS = (('table ip filter {', 'no table ip filter'), (f'ip filter FORWARD 4\n{DROPS}', 'has 1 rules, and 2 in'),
+                 (f'ip filter FORWARD 4\n{DROPS}{LISTED}\nip filter x 6\n', 'the chain x has 1 rules, and 0'))
 
 ODD = ','.join(str(port) for port in range(1, 2000, 2))
 EST = '-m state --state ESTABLISHED'
@@ -199,13 +276,6 @@ REFUSED = (
         (f'-A FORWARD -j c\n-A c -p tcp -m multiport --ports {ODD} -m iprange --src-range 1.0.0.1-223.255.255.254'
          ' -m iprange --dst-range 1.0.0.1-223.255.255.254 -j RETURN', 'would be written'))))
 BAD_SETS = ('eth0 rest', '"" x', 'flush a')
-TWO_WAYS = 'default via 192.0.2.1 dev eth0 metric 100\ndefault via 198.51.100.1 dev eth1 metric 200\n'
-SAME_NETWORK = 'an address is behind one interface only'
-TWICE = ((TWO_WAYS, f'interfaces: line 2: 0.0.0.0/0 is behind eth0 and behind eth1: {SAME_NETWORK}'),
-         ('eth0 rest\neth1 10.0.0.0/8\n# x\neth2 10.0.0.0/8 10.1.0.0/16\n',
-          f'interfaces: line 4: 10.0.0.0/8 is behind eth1 and behind eth2: {SAME_NETWORK}'),
-         ('e\033[31m rest\neth1 rest',
-          f'interfaces: line 2: 0.0.0.0/0 is behind e?[31m and behind eth1: {SAME_NETWORK}'))
 BAD_TABLES = ('eth0', 'eth0 10.0.0.0/33', 'eth0 x', 'default dev')
 
 # Each replaces code by other code, in a module of topos_tools. The test has to fail.
@@ -213,14 +283,30 @@ WRONG = (
     ('multiport without !', 'options',
      'given = complement(numbers, greatest) if self.is_negated else numbers', 'given = numbers'),
     ('iprange is one short', 'words', 'return (bounds,)', 'return ((bounds[0], bounds[1] - 1),)'),
-    ('-o is the sender', 'options', "reader.read_interface('destinations')", "reader.read_interface('sources')"),
+    ('-o is the sender', 'options', "reader.read_interface('destinations', given)",
+     "reader.read_interface('sources', given)"),
     ('--ports asks for both', 'options',
-     'restricted(with_source if is_negated else self.pieces,', 'restricted(with_source,'),
-    ('! --ports asks for one', 'options', 'self.pieces = of_destination if is_negated else', 'self.pieces ='),
+     'restricted(with_source if self.is_negated else self.pieces,', 'restricted(with_source,'),
+    ('! --ports asks for one', 'options', 'self.pieces = of_destination if self.is_negated else',
+     'self.pieces ='),
     ('goto continues below', 'bounds', ", Step(rule, returned, '', rule.pieces)]", ']'),
     ('RETURN of FORWARD returns', 'bounds', "policy if chain == 'FORWARD' else Action.RETURN", 'Action.DROP'),
     ('a doubt is forgotten', 'options',
-     "self.pieces = in_doubt(self.pieces, ' '.join([module, *options]).strip())", 'pass'),
+     'self.doubt(match.text())', 'pass'),
+    ('an option that is not known is a further condition', 'parse',
+     'return self.name in MATCHES and not self.unknown and', 'return self.name in MATCHES and'),
+    ('an option behind one that is not known is sure', 'parse',
+     'if any(match.unknown for match in self.matches):', 'if False:'),
+    ('SYSRQ continues', 'table', 'ACCOUNT LOGMARK', 'ACCOUNT LOGMARK SYSRQ'),
+    ('a loose interface has the senders of its routes', 'tables', 
+     'self.behind(pattern, frozenset(self.open_names()))', 'self.behind(pattern, frozenset())'),
+    ('other tables of routes are not used', 'tables', 'yield Rule(0, ALL_ADDRESSES, False, \'\')', 'pass'),
+    ('a rule of routing for some is one for all', 'routes', "not left.strip() and bool(table)", 'True'),
+    ('throw ends the rules', 'routes', 'goes_on = goes_on or route.is_throw', 'pass'),
+    ('a port of a set is one of each protocol', 'ipset', 'is_sure = number in WITH_PORTS', 'is_sure = True'),
+    ('the members of a set are no members', 'ipset', 'complement(numbers, greatest[0]) if is_negated else numbers',
+     'numbers'),
+    ('a misread rule is as printed', 'save', 'if rule.line not in self.misread:', 'if True:'),
     ('a RETURN in doubt is sure', 'bounds', 'if any(map(self.takes, self.steps[chain][place + 1:])):', 'if False:'),
     ('a RETURN in doubt is left out', 'bounds',
      'elif copy.is_plain:\n            self.write', 'elif False:\n            self.write'),
@@ -245,21 +331,19 @@ WRONG = (
      "split_states(BOTH - unsure if self.is_negated else frozenset(), unsure, f'icmp",
      "split_states(BOTH, frozenset(), f'icmp"),
     ('the policy is ACCEPT', 'text', "f':FORWARD {self.policy} [0:0]'", "':FORWARD ACCEPT [0:0]'"),
-    ('options behind a target are skipped', 'options',
-     'return self.rule.action not in (Action.CONTINUE, Action.UNKNOWN)', 'return False'),
-    ('the shortest prefix has an address', 'tables',
-     'sorted(routes.items(), key=lambda route:', 'sorted(routes.items(), key=lambda route: -1 *'),
-    ('nomatch is taken first', 'tables',
-     'entry[0][0] - entry[0][1]', 'entry[0][1] - entry[0][0]'),
-    ('a mask of a set is forgotten', 'tables', 'WITH_VALUE = {', "WITH_VALUE = {'netmask', "),
-    ('a changed set is sure', 'save', 'if name not in changed}', '}'),
+    ('options behind a target are skipped', 'parse',
+     'if self.action is not Action.CONTINUE and self.action is not Action.UNKNOWN:', 'if False:'),
+    ('the shortest prefix has an address', 'routes', 'in reversed(above):', 'in above:'),
+    ('nomatch is taken first', 'ipset', 'entry[0][0] - entry[0][1]', 'entry[0][1] - entry[0][0]'),
+    ('a mask of a set is forgotten', 'ipset', 'WITH_VALUE = {', "WITH_VALUE = {'netmask', "),
+    ('a changed set is sure', 'save', "replace(each, cause='a rule changes it') if name in changed else each", 'each'),
     ('untracked packets have a state', 'save', 'any(each.changes_tracking() for each in self.others)', 'False'),
-    ('ports of SCTP are forgotten', 'options', "self.doubt(f'{option} {word}')\n            return", 'return'),
+    ('ports of SCTP are forgotten', 'options', "self.doubt(f'{given.name} {given.values[0]}')\n        return None", 'return None'),
     ('a flag of a later packet is decided', 'options',
      'or may_match and masked - DECIDED_FLAGS:', 'and masked - DECIDED_FLAGS:'),
     ('another flag keeps a first packet from matching', 'options', 'wanted & DECIDED_FLAGS', 'wanted'),
-    ('the type of a sender is that of a receiver', 'options', "read_address_type('sources')",
-     "read_address_type('destinations')"),
+    ('the type of a sender is that of a receiver', 'options', "read_address_type('sources', given)",
+     "read_address_type('destinations', given)"),
     ('the answers of written receivers are forgotten', 'options',
      "self.pieces += restricted(in_states(before, unsure & {ESTABLISHED}), 'sources', receivers)", 'pass'),
     ('a rule of nat that is not read writes no receiver', 'nat', 'return ALL_ADDRESSES', 'return ()'),

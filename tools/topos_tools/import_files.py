@@ -1,8 +1,9 @@
 """Reads the files of an import."""
 import os
 
+from .import_ipset import read_sets
 from .import_save import Save
-from .import_tables import Interfaces, read_sets
+from .import_tables import Interfaces
 from .import_words import Refused
 from .query import NO_FILE, Stopped, plain
 
@@ -26,7 +27,8 @@ def file_name(path: str) -> str:
     return plain('the input' if path == '-' else os.path.basename(path))
 
 
-def import_save(text: str, interfaces: str | None, sets: str | None, is_syn_first: bool) -> Save:
-    """Reads a save with the tables in the two files, if they are named."""
+def import_save(text: str, interfaces: str | None, sets: str | None, is_syn_first: bool,
+                nft_list: str | None = None) -> Save:
+    """Reads a save with the tables in the three files, if they are named."""
     return Save(text, Interfaces(read_text(interfaces)) if interfaces else None,
-                read_sets(read_text(sets)) if sets else None, is_syn_first)
+                read_sets(read_text(sets)) if sets else None, is_syn_first, read_text(nft_list) if nft_list else None)

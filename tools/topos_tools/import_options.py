@@ -1,23 +1,17 @@
-"""Reads the options of one rule as pieces. What is not certain to match or not to match is in doubt."""
+"""Reads a rule as pieces, by the table of import_table.py. What is not certain to match or not to match is in doubt."""
 from collections.abc import Callable
 from dataclasses import dataclass, field
 
-from .import_pieces import BOTH, ESTABLISHED, NEW, OTHERS, Action, Piece, Rule, in_doubt, in_states, restricted
-from .import_sets import ALL_ADDRESSES, MOST_ADDRESS, MOST_PORT, MOST_PROTOCOL, Numbers, complement, single
-from .import_tables import Interfaces
+from .import_ipset import ADDRESS, MOST_PRODUCTS, NETWORK, Product, Set, services_of, united
+from .import_parse import IMPLICIT, Given, Match, Parser
+from .import_pieces import BOTH, ESTABLISHED, NEW, OTHERS, Piece, Rule, in_doubt, in_states, restricted
+from .import_sets import (ALL_ADDRESSES, MOST_ADDRESS, MOST_PORT, MOST_PROTOCOL, Numbers, complement, difference,
+                          single)
+from .import_table import BY_NAME
+from .import_tables import Behind, Interfaces
 from .import_types import addresses_of_types
 from .import_words import PROTOCOLS, Refused, Word, address_range, addresses, decimal, ports, protocol
 
-SPELLINGS = {
-    '--source': '-s', '--src': '-s', '--destination': '-d', '--dst': '-d', '--in-interface': '-i',
-    '--out-interface': '-o', '--protocol': '-p', '--match': '-m', '--jump': '-j', '--goto': '-g',
-    '--fragment': '-f', '--source-port': '--sport', '--destination-port': '--dport', '--source-ports': '--sports',
-    '--destination-ports': '--dports', '--set-counters': '-c', '--append': '-A'}
-KNOWN_MODULES = {'addrtype', 'icmp', 'tcp', 'udp', 'conntrack', 'state', 'comment', 'multiport', 'iprange', 'set'}
-VERDICTS = {'ACCEPT': Action.ACCEPT, 'DROP': Action.DROP, 'REJECT': Action.DROP, 'RETURN': Action.RETURN}
-CONTINUING = set('''
-    LOG NFLOG ULOG MARK CONNMARK SECMARK CONNSECMARK TCPMSS CLASSIFY DSCP TOS TTL SET TRACE CT NOTRACK AUDIT CHECKSUM
-    TEE TCPOPTSTRIP ECN HL IDLETIMER LED RATEEST HMARK SYSRQ ACCOUNT LOGMARK'''.split())
 TRACKED_STATES = BOTH | OTHERS
 WRITTEN_STATES = {'SNAT', 'DNAT'}
 ICMP_TYPES = {
@@ -31,6 +25,8 @@ ICMP_TYPES = {
 ICMP_QUERIES, ICMP_REPLIES = {8, 13, 15, 17}, {0, 14, 16, 18}
 DECIDED_FLAGS = {'FIN', 'SYN', 'RST', 'ACK'}
 ALL_FLAGS = DECIDED_FLAGS | {'PSH', 'URG'}
+ENDS = {'src': 'sources', 'dst': 'destinations'}
+PORTS_OF = {'sources': 'source_ports', 'destinations': 'destination_ports'}
 
 
 @dataclass
@@ -38,95 +34,51 @@ class Context:
     """What a rule is read with, beside its words."""
     chains: set[str]
     interfaces: Interfaces | None = None
-    sets: dict[str, Numbers] = field(default_factory=dict)
+    sets: dict[str, Set] = field(default_factory=dict)
     receivers: Numbers = ALL_ADDRESSES  # that the table nat may write
     is_untracked: bool = False  # whether the save exempts packets from connection tracking
     is_syn_first: bool = False  # whether a new TCP packet has SYN alone of FIN, SYN, RST and ACK
 
 
 class RuleReader:
-    """Reads the words of a rule after its chain, from left to right."""
+    """Reads the words of a rule after its chain."""
 
     def __init__(self, context: Context, line: int, text: str, words: list[Word]) -> None:
-        self.context, self.words, self.place = context, words, 0
-        self.rule = Rule(line, text)
+        self.context = context
+        self.parsed = Parser(context.chains, line, text, words)
+        self.rule = Rule(line, text, action=self.parsed.action, target=self.parsed.target)
         self.pieces = [Piece()]
-        self.doubts: dict[str, list[str]] = {}  # module: options that are in doubt
-        self.ports: list[tuple[str, str, bool]] = []
-        self.module, self.is_negated = '', False
-        self.seen: set[str] = set()
+        self.is_negated = False
 
     def read(self) -> Rule:
         try:
-            while self.place < len(self.words) and self.option():
-                pass
-            for option, word, is_negated in self.ports:
-                self.match_ports(option, word, is_negated)
+            for match in self.parsed.matches:
+                self.read_match(match)
         except (ValueError, OSError):
             raise self.refused('a wrong value') from None
-        for module, options in self.doubts.items():
-            self.pieces = in_doubt(self.pieces, ' '.join([module, *options]).strip())
+        for words in self.parsed.doubtful:
+            self.pieces = in_doubt(self.pieces, f'{words} behind an option that is not known')
         self.rule.pieces = self.pieces
         return self.rule
 
     def refused(self, cause: str) -> Refused:
-        return Refused(f'line {self.rule.line}: {cause}: {self.rule.text[:100]!r}')
+        return self.parsed.refused(cause)
 
-    def option(self) -> bool:
-        """Reads an option with its values. Returns whether more options of the rule may follow."""
-        word, self.is_negated = self.next_word(), False
-        if word == Word('!', False):
-            word, self.is_negated = self.next_word(), True
-        name = SPELLINGS.get(word.text, word.text)
-        if name in ('-j', '-g'):
-            return self.read_target(name)
-        if name in READERS:
-            if name in ONCE and name in self.seen:
-                raise self.refused(f'a second {name}')
-            self.seen.add(name)
-            READERS[name](self)
-        else:
-            self.read_unknown(word.text)
-        return True
-
-    def next_word(self) -> Word:
-        if self.place == len(self.words):
-            raise self.refused('a value is missing')
-        self.place += 1
-        return self.words[self.place - 1]
-
-    def value(self) -> str:
-        """Returns the next word as a value. In old spellings `!` is before the value."""
-        word = self.next_word()
-        if word == Word('!', False):
-            self.is_negated = not self.is_negated
-            word = self.next_word()
-        return word.text
-
-    def read_target(self, name: str) -> bool:
-        """Reads a target. Options of a target other than a chain or a verdict end the rule."""
-        if self.rule.target or self.is_negated:
-            raise self.refused('a second target')
-        target = self.rule.target = self.next_word().text
-        if target in self.context.chains:
-            self.rule.action = Action.JUMP if name == '-j' else Action.GOTO
-        elif name == '-g' or target in ('INPUT', 'FORWARD', 'OUTPUT'):
-            raise self.refused(f'no user chain {target[:50]!r}')
-        else:
-            unknown = Action.CONTINUE if target in CONTINUING else Action.UNKNOWN
-            self.rule.action = VERDICTS.get(target, unknown)
-        return self.rule.action not in (Action.CONTINUE, Action.UNKNOWN)
-
-    def read_unknown(self, name: str) -> None:
-        """Reads an option that is not known, with the words up to the next option: the rule is in doubt."""
-        if len(name) < 2 or name[0] != '-' or (name[1] != '-' and len(name) > 2) or '=' in name:
-            raise self.refused(f'no option {name[:50]!r}')
-        if any(each.startswith(name) for each in ('--jump', '--goto')):
-            raise self.refused(f'a short spelling {name}')
-        words = ['!', name] if self.is_negated else [name]
-        while self.place < len(self.words) and not is_option(self.words[self.place]):
-            words.append(self.next_word().text)
-        self.doubts.setdefault(self.module, []).extend(words)
+    def read_match(self, match: Match) -> None:
+        """Restricts the pieces by a match. One with an option that the table lacks restricts nothing and is in doubt."""
+        if not match.is_read():
+            self.is_negated = False
+            self.doubt(match.text())
+            return
+        if match.name in IMPLICIT:
+            self.pieces = restricted(self.pieces, 'protocols', single(PROTOCOLS[match.name]))
+        for given in match.options:
+            self.is_negated = given.is_negated
+            reader = BY_NAME[match.name, given.name].reader
+            if reader:
+                READERS[reader](self, given)
+            else:
+                self.doubt(' '.join([match.name, given.name, *given.values]).strip())
 
     def doubt(self, reason: str) -> None:
         self.pieces = in_doubt(self.pieces, ('! ' if self.is_negated else '') + reason)
@@ -141,8 +93,8 @@ class RuleReader:
 
     # The readers of the options.
 
-    def read_addresses(self, dimension: str) -> None:
-        word = self.value()
+    def read_addresses(self, dimension: str, given: Given) -> None:
+        word = given.values[0]
         found = addresses(word)
         if found is None:
             self.doubt(f'mask {word}')
@@ -151,66 +103,87 @@ class RuleReader:
         else:
             self.restrict_addresses(dimension, found)
 
-    def read_protocol(self) -> None:
-        number = protocol(self.value())
+    def read_protocol(self, given: Given) -> None:
+        number = protocol(given.values[0])
         if number is not None:
             self.restrict('protocols', single(number), MOST_PROTOCOL)
         elif self.is_negated:
             raise self.refused('! before all protocols')
 
-    def read_interface(self, dimension: str) -> None:
-        name = self.value()
-        known = self.context.interfaces.behind(name) if self.context.interfaces else None
-        behind = ALL_ADDRESSES if name == '+' else known
+    def read_interface(self, dimension: str, given: Given) -> None:
+        name, table = given.values[0], self.context.interfaces
+        behind = (table.senders(name) if dimension == 'sources' else table.receivers(name)) if table else None
+        if name == '+':
+            behind = Behind(ALL_ADDRESSES, ALL_ADDRESSES)
         if behind is None:
             self.doubt(f'interface {name}')
-        else:
-            self.restrict(dimension, behind, MOST_ADDRESS)
-
-    def read_module(self) -> None:
-        self.module = self.next_word().text
+            return
+        surely, perhaps = behind.surely, behind.perhaps
         if self.is_negated:
-            raise self.refused('! before -m')
-        if self.module in ('tcp', 'udp', 'icmp'):
-            self.pieces = restricted(self.pieces, 'protocols', single(PROTOCOLS[self.module]))
-        if self.module not in KNOWN_MODULES:
-            self.doubts.setdefault(self.module, [])
+            surely, perhaps = complement(perhaps, MOST_ADDRESS), complement(surely, MOST_ADDRESS)
+        before = self.pieces
+        self.pieces = restricted(before, dimension, difference(perhaps, surely))
+        self.doubt(f'{"senders behind" if dimension == "sources" else "routes to"} {name}')
+        self.pieces = restricted(before, dimension, surely) + self.pieces
 
-    def read_range(self, dimension: str) -> None:
-        self.restrict_addresses(dimension, address_range(self.value()))
+    def read_range(self, dimension: str, given: Given) -> None:
+        self.restrict_addresses(dimension, address_range(given.values[0]))
 
-    def read_ports(self, option: str) -> None:
-        word = self.value()
-        self.ports.append((option, word, self.is_negated))
+    def read_ports(self, dimension: str, given: Given) -> None:
+        found = self.ports(given)
+        if found is not None:
+            self.restrict(dimension, found, MOST_PORT)
 
-    def match_ports(self, option: str, word: str, is_negated: bool) -> None:
-        """Restricts the ports, after all options: `-p` may be further right."""
-        self.is_negated = is_negated
+    def ports(self, given: Given) -> Numbers | None:
+        """Reads ports of the one protocol of the rule. With other protocols than TCP and UDP they are in doubt."""
         names = {single(PROTOCOLS[name]): name for name in ('tcp', 'udp')}
         protocols = {piece.protocols for piece in self.pieces}
-        if len(protocols) != 1 or not protocols <= set(names):
-            self.doubt(f'{option} {word}')
+        if len(protocols) == 1 and protocols <= set(names):
+            return ports(given.values[0], names[protocols.pop()])
+        self.doubt(f'{given.name} {given.values[0]}')
+        return None
+
+    def read_both_ports(self, given: Given) -> None:
+        found = self.ports(given)
+        if found is None:
             return
-        found = ports(word, names[protocols.pop()])
-        if option != '--ports':
-            self.restrict('source_ports' if option[2] == 's' else 'destination_ports', found, MOST_PORT)
-            return
-        numbers = complement(found, MOST_PORT) if is_negated else found
+        numbers = complement(found, MOST_PORT) if self.is_negated else found
         with_source = restricted(self.pieces, 'source_ports', numbers)
-        of_destination = restricted(with_source if is_negated else self.pieces, 'destination_ports', numbers)
-        self.pieces = of_destination if is_negated else with_source + of_destination
+        of_destination = restricted(with_source if self.is_negated else self.pieces, 'destination_ports', numbers)
+        self.pieces = of_destination if self.is_negated else with_source + of_destination
 
-    def read_set(self) -> None:
-        name, direction = self.value(), self.next_word().text
-        dimension = {'src': 'sources', 'dst': 'destinations'}.get(direction)
-        if dimension and name in self.context.sets:
-            self.restrict_addresses(dimension, self.context.sets[name])
-        else:
-            self.doubt(f'set {name} {direction}')
+    def read_set(self, given: Given) -> None:
+        name, words = given.values[0], given.values[1].split(',')
+        found = self.context.sets.get(name)
+        directions = [ENDS[word] for word in words if word in ENDS]
+        is_read = found is not None and not found.cause and len(words) == len(directions) == len(found.dimensions())
+        products = found.products(self.is_negated) if found and is_read else []
+        if found is None or not is_read or len(products) > MOST_PRODUCTS:
+            self.doubt(f'set {" ".join(given.values)}')
+            return
+        for place, kind in enumerate(found.dimensions()):
+            if kind in (ADDRESS, NETWORK):
+                self.rule.named.append(united((entry for entry, _ in found.entries), place))
+        reason = ('! ' if self.is_negated else '') + f'set {" ".join(given.values)}'
+        self.pieces = [part for product in products
+                       for part in self.within(product, found.dimensions(), directions, reason)]
 
-    def read_states(self) -> None:
+    def within(self, product: Product, dimensions: tuple[str, ...], directions: list[str], reason: str) -> list[Piece]:
+        """Returns the parts of the pieces in a product of a set."""
+        parts = self.pieces
+        for numbers, kind, direction in zip(product, dimensions, directions):
+            if kind in (ADDRESS, NETWORK):
+                parts = restricted(parts, direction, numbers)
+                continue
+            before, parts = parts, []
+            for protocols, allowed, is_sure in services_of(numbers):
+                found = restricted(restricted(before, 'protocols', protocols), PORTS_OF[direction], allowed)
+                parts += found if is_sure else in_doubt(found, reason)
+        return parts
+
+    def read_states(self, given: Given) -> None:
         """In the model a packet is new or established: other states never match."""
-        word = self.value()
+        word = given.values[0]
         names = set(word.upper().split(','))
         if not names <= TRACKED_STATES | WRITTEN_STATES:
             raise ValueError(word)
@@ -240,9 +213,9 @@ class RuleReader:
         self.doubt(reason)
         self.pieces = in_states(before, matching) + self.pieces
 
-    def read_icmp_type(self) -> None:
+    def read_icmp_type(self, given: Given) -> None:
         """A tracked ICMP packet is a query, new or established, or the reply to one, established."""
-        word = self.value()
+        word = given.values[0]
         name = word.split('/')[0]
         if name in ('any', '255'):
             self.pieces = [] if self.is_negated else self.pieces
@@ -258,17 +231,13 @@ class RuleReader:
         if before and not self.pieces:
             self.rule.never = f'icmp-type {word}: related or invalid, no new or established packet'
 
-    def read_address_type(self, dimension: str) -> None:
-        word, before = self.value(), self.pieces
+    def read_address_type(self, dimension: str, given: Given) -> None:
+        word, before = given.values[0], self.pieces
         self.restrict(dimension, addresses_of_types(word), MOST_ADDRESS)
         if before and not self.pieces:
             self.rule.never = f'type {word}: no forwarded packet has such an address'
 
-    def read_flags(self) -> None:
-        mask = self.value()
-        self.match_flags(mask, self.next_word().text)
-
-    def match_flags(self, mask: str, flags: str) -> None:
+    def read_flags(self, mask: str, flags: str) -> None:
         masked, wanted = (ALL_FLAGS if word == 'ALL' else set(word.split(',')) - {'NONE'} for word in (mask, flags))
         self.rule.is_partial = True
         reason = f'tcp-flags {mask} {flags}'
@@ -280,43 +249,27 @@ class RuleReader:
         is_matched = may_match is not self.is_negated
         self.split_states(frozenset({NEW} if is_matched else ()), frozenset({ESTABLISHED}), reason)
 
-    def read_comment(self) -> None:
-        self.rule.comment = self.next_word().text
-
-    def skip(self, count: int) -> None:
-        for _ in range(count):
-            self.next_word()
+    def read_comment(self, given: Given) -> None:
+        self.rule.comment = given.values[0]
 
 
-def is_option(word: Word) -> bool:
-    """Whether a word after an unknown option is the next option, or `!` before it."""
-    return not word.is_quoted and (word.text == '!' or (word.text.startswith('-') and len(word.text) > 1))
-
-
-READERS: dict[str, Callable[[RuleReader], None]] = {
-    '-s': lambda reader: reader.read_addresses('sources'),
-    '-d': lambda reader: reader.read_addresses('destinations'),
-    '-p': RuleReader.read_protocol,
-    '-i': lambda reader: reader.read_interface('sources'),
-    '-o': lambda reader: reader.read_interface('destinations'),
-    '-f': lambda reader: reader.doubt('fragments'),
-    '-c': lambda reader: reader.skip(2),
-    '-m': RuleReader.read_module,
-    '--comment': RuleReader.read_comment,
-    '--sport': lambda reader: reader.read_ports('--sport'),
-    '--dport': lambda reader: reader.read_ports('--dport'),
-    '--sports': lambda reader: reader.read_ports('--sports'),
-    '--dports': lambda reader: reader.read_ports('--dports'),
-    '--ports': lambda reader: reader.read_ports('--ports'),
-    '--state': RuleReader.read_states,
-    '--ctstate': RuleReader.read_states,
-    '--icmp-type': RuleReader.read_icmp_type,
-    '--src-range': lambda reader: reader.read_range('sources'),
-    '--dst-range': lambda reader: reader.read_range('destinations'),
-    '--match-set': RuleReader.read_set,
-    '--src-type': lambda reader: reader.read_address_type('sources'),
-    '--dst-type': lambda reader: reader.read_address_type('destinations'),
-    '--tcp-flags': RuleReader.read_flags,
-    '--syn': lambda reader: reader.match_flags('FIN,SYN,RST,ACK', 'SYN'),
-    '--reject-with': lambda reader: reader.skip(1)}
-ONCE = {'-s', '-d', '-p', '-i', '-o'}
+READERS: dict[str, Callable[[RuleReader, Given], None]] = {
+    'sources': lambda reader, given: reader.read_addresses('sources', given),
+    'destinations': lambda reader, given: reader.read_addresses('destinations', given),
+    'protocol': RuleReader.read_protocol,
+    'input': lambda reader, given: reader.read_interface('sources', given),
+    'output': lambda reader, given: reader.read_interface('destinations', given),
+    'nothing': lambda reader, given: None,
+    'comment': RuleReader.read_comment,
+    'source ports': lambda reader, given: reader.read_ports('source_ports', given),
+    'destination ports': lambda reader, given: reader.read_ports('destination_ports', given),
+    'both ports': RuleReader.read_both_ports,
+    'states': RuleReader.read_states,
+    'icmp type': RuleReader.read_icmp_type,
+    'source range': lambda reader, given: reader.read_range('sources', given),
+    'destination range': lambda reader, given: reader.read_range('destinations', given),
+    'set': RuleReader.read_set,
+    'source type': lambda reader, given: reader.read_address_type('sources', given),
+    'destination type': lambda reader, given: reader.read_address_type('destinations', given),
+    'flags': lambda reader, given: reader.read_flags(*given.values),
+    'syn': lambda reader, given: reader.read_flags('FIN,SYN,RST,ACK', 'SYN')}

@@ -1,6 +1,8 @@
 """Reports what became of each line of a save."""
+import re
 from collections.abc import Iterator
 
+from .import_nft import COMMAND
 from .import_pieces import Action, Piece, Rule
 from .import_save import OtherRule, Save
 from .import_tables import NONE
@@ -15,24 +17,47 @@ REWRITES = {
     **dict.fromkeys(('MARK', 'CONNMARK'), 'matches of marks are in doubt')}
 STOPPING = {'DROP', 'REJECT', 'policy DROP', 'TARPIT', 'QUEUE', 'NFQUEUE', 'SYNPROXY'}
 LONGEST = 110  # letters of a rule
+SET = re.compile(r'set (?:--match-set )?([^-\s]\S*)')  # the name of a set in a doubt
 MOST_COMPARED = 1000  # pieces of a chain, each with each
 
 
 def report(save: Save, name: str) -> list[str]:
     """Returns the lines of the report."""
     rules = save.all_rules()
+    idle, never, doubtful = kinds(rules)
+    return [*first_lines(save, name), *left_lines(save), *doubtful_lines(save, doubtful), *never_lines(never),
+            *idle_lines(idle), *related_lines(rules), *type_lines(rules), *shadowed_lines(save), *caveats(save),
+            *list_lines(save)]
+
+
+def known(save: Save, name: str) -> list[str]:
+    """Returns the lines on the rules of a save that is not read to its end."""
+    _, never, doubtful = kinds(save.all_rules())
+    return ['not all rules are read: there are no bounds', *first_lines(save, name), *doubtful_lines(save, doubtful),
+            *never_lines(never)]
+
+
+def kinds(rules: list[Rule]) -> tuple[list[Rule], list[Rule], list[Rule]]:
+    """Returns the rules that do nothing, those that no packet meets, and those in doubt."""
     idle = [rule for rule in rules if rule.action is Action.CONTINUE]
-    never = [rule for rule in rules if rule not in idle and not rule.pieces]
-    doubtful = [rule for rule in rules if rule not in idle and rule.pieces and rule.doubts()]
-    exact = len(rules) - len(idle) - len(never) - len(doubtful)
-    return [f'{name}: rules that FORWARD leads to: exact {exact}, in doubt {len(doubtful)}, never {len(never)}, '
-            f'without effect {len(idle)}',
-            *left_lines(save), *doubtful_lines(save, doubtful), *never_lines(never), *idle_lines(idle),
-            *related_lines(rules), *type_lines(rules), *shadowed_lines(save), *caveats(save), *list_lines(save)]
+    never = [rule for rule in rules if rule.action is not Action.CONTINUE and not rule.pieces]
+    doubtful = [rule for rule in rules if rule.action is not Action.CONTINUE and rule.pieces and rule.doubts()]
+    return idle, never, doubtful
+
+
+def first_lines(save: Save, name: str) -> Iterator[str]:
+    rules = save.all_rules()
+    counts = list(map(len, kinds(rules)))
+    word = 'exact' if save.is_checked else 'as printed'
+    yield (f'{name}: rules that FORWARD leads to: {word} {len(rules) - sum(counts)}, in doubt {counts[2]}, '
+           f'never {counts[1]}, without effect {counts[0]}')
+    if not save.is_checked:
+        yield ('not called exact: iptables may print rules that nft made as other rules, and the bounds are for those '
+               f'that it printed; --nft-list with the output of `{COMMAND}` decides')
 
 
 def caveats(save: Save) -> list[str]:
-    """Returns lines on what the bounds leave out: other tables, warnings of the save, and other routes."""
+    """Returns lines on what the bounds leave out: other tables, warnings of the save, and what routes leave open."""
     return [*other_lines(save), *save.notes, *route_lines(save)]
 
 
@@ -58,15 +83,27 @@ def doubtful_lines(save: Save, rules: list[Rule]) -> Iterator[str]:
 
 
 def remedies(save: Save, rules: list[Rule]) -> Iterator[str]:
-    """Yields lines on the files that would decide what is in doubt."""
+    """Yields lines on what would decide that is in doubt."""
     doubts = {doubt.removeprefix('! ') for rule in rules for doubt in rule.doubts()}
     unknown = sorted(doubt.split()[1] for doubt in doubts if doubt.startswith('interface '))
     if unknown:
         yield (f'not in the table of interfaces (--interfaces): {" ".join(unknown)}; a line `{unknown[0]} {NONE}` is '
                'for one that is gone')
-    sets = sorted({doubt.split()[1] for doubt in doubts if doubt.startswith('set ')})
-    if sets and not save.context.sets:
-        yield f'sets without --sets (the output of `ipset save`): {" ".join(sets)}'
+    yield from set_lines(save, sorted({found[1] for found in map(SET.match, doubts) if found}))
+    if not save.context.is_syn_first and any(doubt.startswith(('tcp-flags ', 'tcp --syn')) for doubt in doubts):
+        yield ('TCP flags: --syn decides them for new packets, if the first packet of each connection has SYN alone of '
+               'FIN, SYN, RST and ACK')
+
+
+def set_lines(save: Save, names: list[str]) -> Iterator[str]:
+    """Yields lines on the sets in doubt: why each is, and what would help."""
+    missing = [name for name in names if name not in save.context.sets]
+    if missing:
+        yield f'sets that --sets (the output of `ipset save`) has not: {" ".join(missing)}'
+    found = [f'{name} ({save.context.sets[name].cause or "another number of src and dst"})' for name in names
+             if name in save.context.sets]
+    if found:
+        yield f'sets that stay in doubt: {", ".join(found)}'
 
 
 def never_lines(rules: list[Rule]) -> Iterator[str]:
@@ -128,9 +165,8 @@ def effect_of(rule: OtherRule) -> str | None:
 
 
 def route_lines(save: Save) -> Iterator[str]:
-    if save.context.interfaces and save.context.interfaces.left:
-        yield (f'interfaces: the routes of table {" ".join(save.context.interfaces.left)} are not read: packets that '
-               'use them may be behind another interface')
+    if save.context.interfaces:
+        yield from save.context.interfaces.notes()
 
 
 def list_lines(save: Save) -> Iterator[str]:

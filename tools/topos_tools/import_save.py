@@ -1,14 +1,18 @@
 """Reads what `iptables-save` prints. The table filter is translated, and the other tables are reported."""
 import graphlib
 import re
-from dataclasses import dataclass, field
+from dataclasses import dataclass, field, replace
 
 from .import_nat import written_receivers
-from .import_options import SPELLINGS, Context, RuleReader
+from .import_nft import is_of_nft, misread_lines
+from .import_ipset import Set
+from .import_options import Context, RuleReader
 from .import_pieces import ESTABLISHED, NEW, Action, Piece, Rule
-from .import_sets import ALL_ADDRESSES, Numbers
+from .import_sets import ALL_ADDRESSES
+from .import_table import SPELLINGS
 from .import_tables import Interfaces
 from .import_words import Refused, Word, words_of
+from .query import PROGRESS, TimedOut
 
 Given = tuple[int, str, list[Word]]  # number, text and words of a rule
 
@@ -17,6 +21,8 @@ TARGET_FLAGS = ('-j', '--jump', '-g', '--goto')
 COUNTS = re.compile(r'\[\d+:\d+\]')
 CHANGED_SET = re.compile(r'--(?:add|del|map)-set (\S+)')
 WARNING = re.compile("# (?:Warning|Table `([a-z]+)' (?:is|contains) incompatible)")
+EACH = 1000  # lines between those that are shown
+MISREAD = 'another rule than nft has'
 MARK = '# topos-import '  # the head of a text that `topos-import` wrote
 
 
@@ -59,6 +65,7 @@ class Tables:
         self.names: set[str] = set()
         self.unread: set[str | None] = set()  # tables that iptables cannot list, or not whole
         self.notes: list[str] = []
+        self.makers: set[bool] = set()  # whether the back end nft made the save, if it says so
         self.filters: list[Filter] = []
         self.table = ''
         for number, line in enumerate(text.split('\n'), 1):
@@ -87,6 +94,8 @@ class Tables:
     def read_remark(self, number: int, line: str) -> None:
         if 'ip6tables-save' in line:
             raise Refused(f'line {number}: rules for IPv6')
+        is_made = is_of_nft(line)
+        self.makers |= set() if is_made is None else {is_made}
         warning = WARNING.match(line)
         if warning:
             self.notes.append(f'line {number}: {line[2:]}')
@@ -140,20 +149,28 @@ class Tables:
 class Save:
     """A save: the rules of each chain that `FORWARD` leads to, in the order in which they are reached."""
 
-    def __init__(self, text: str, interfaces: Interfaces | None = None, sets: dict[str, Numbers] | None = None,
-                 is_syn_first: bool = False) -> None:
+    def __init__(self, text: str, interfaces: Interfaces | None = None, sets: dict[str, Set] | None = None,
+                 is_syn_first: bool = False, nft_list: str | None = None) -> None:
         tables = Tables(text)
         self.others, self.notes, table = tables.others, tables.notes, tables.filters[-1]
         self.policy = table.policies['FORWARD']
         changed = set(CHANGED_SET.findall(text))
         written = written_receivers((each.target, each.text) for each in self.others if each.table == 'nat')
         self.context = Context(set(table.chains) - set(BUILT_IN), interfaces,
-                               {name: each for name, each in (sets or {}).items() if name not in changed},
+                               {name: replace(each, cause='a rule changes it') if name in changed else each
+                                for name, each in (sets or {}).items()},
                                written if 'nat' in tables.names - tables.unread else ALL_ADDRESSES,
                                'raw' in tables.unread or any(each.changes_tracking() for each in self.others),
                                is_syn_first)
+        self.is_checked = tables.makers == {False} or nft_list is not None  # whether each rule is as it is printed
+        lines = {chain: [number for number, _, _ in rules] for chain, rules in table.chains.items()}
+        self.misread = set(misread_lines(nft_list, lines) if nft_list is not None else ())
         self.rules: dict[str, list[Rule]] = {}
-        self.read_rules(table)
+        try:
+            self.read_rules(table)
+        except TimedOut as stopped:
+            stopped.part = self
+            raise
         self.left = {chain: len(rules) for chain, rules in table.chains.items() if chain not in self.rules}
 
     def read_rules(self, table: Filter) -> None:
@@ -163,8 +180,21 @@ class Save:
             chain = waiting.pop()
             if chain in self.rules:
                 continue
-            self.rules[chain] = [RuleReader(self.context, *given).read() for given in table.chains[chain]]
+            rules: list[Rule] = []
+            self.rules[chain] = rules
+            for given in table.chains[chain]:
+                if given[0] % EACH == 0:
+                    PROGRESS.doing = f'reading line {given[0]}'
+                rules.append(self.read_rule(given))
             waiting += reversed(self.targets(chain))
+
+    def read_rule(self, given: Given) -> Rule:
+        """Reads a rule. Nothing is known of one that iptables may have printed as another one."""
+        rule = RuleReader(self.context, *given).read()
+        if rule.line not in self.misread:
+            return rule
+        return Rule(rule.line, rule.text, [Piece(doubts=(MISREAD,))], Action.UNKNOWN, rule.target or 'none',
+                    is_partial=True)
 
     def targets(self, chain: str) -> list[str]:
         """Lists the chains to which the rules of a chain lead, each once."""

@@ -48,6 +48,7 @@ class Stopped(Exception):
 
 class TimedOut(Stopped):
     """The time limit is reached."""
+    part: object = None  # what a tool has read until then
 
 
 BUDGET, PROGRESS = Budget(TimedOut), Progress()
