@@ -18,7 +18,8 @@ SETS = ('create a hash:net family inet hashsize 1024 maxelem 65536\nadd a 10.0.0
         'create q hash:net,port family inet\nadd q 10.0.0.0/8,tcp:80\nadd q 10.1.0.0/16,tcp:80 nomatch\n'
         'create i hash:ip,port,ip\nadd i 10.1.0.7,tcp:80,8.8.8.8\nadd i 10.1.0.7,icmp:8/0,8.8.8.8\n'
         'add i 10.1.0.7,esp:0,8.8.8.8\ncreate k hash:ip,mark\nadd k 10.1.0.7,0x1\n'
-        'create h hash:net,net\nadd h 10.1.0.0/16,8.0.0.0/8\ncreate o hash:net,net\nadd o 10.1.0.0/16,8.0.0.0/8 nomatch\n')
+        'create h hash:net,net\nadd h 10.1.0.0/16,8.0.0.0/8\ncreate o hash:net,net\n'
+        'add o 10.1.0.0/16,8.0.0.0/8 nomatch\n')
 MAIN = '32766:\tfrom all lookup main\n'
 STRICT = ''.join(f'eth{number} rp_filter 1\n' for number in range(3))
 E_SAVE = '-A FORWARD ! -i eth0 -o eth2 -p tcp -m tcp --dport 443 -j ACCEPT'  # with the routes of two uplinks
@@ -206,7 +207,8 @@ CASES = (
          {A: NONE, C: DOUBT, B: NONE}, ROUTES),
 )
 
-LISTED = '\nip filter FORWARD 5 4\n  [ meta load l4proto => reg 1 ]\n  [ cmp eq reg 1 0x00000006 ]\n  [ immediate reg 0 accept ]\n'
+LISTED = ('\nip filter FORWARD 5 4\n  [ meta load l4proto => reg 1 ]\n  [ cmp eq reg 1 0x00000006 ]\n'
+          '  [ immediate reg 0 accept ]\n')
 DROPS = '  [ immediate reg 0 drop ]\n'
 SENDER = '  [ payload load 4b @ network header + 12 => reg 1 ]\n'
 NFT_LISTS = (  # what nft lists of a first rule, and whether iptables may have printed another one
@@ -220,7 +222,8 @@ NFT_LISTS = (  # what nft lists of a first rule, and whether iptables may have p
      '  [ payload load 2b @ transport header + 14 => reg 1 ]\n  [ cmp eq reg 1 0x00000500 ]\n', True),
     ('  [ counter pkts 0 bytes 0 ]\n  [ limit rate 5/second burst 5 type packets flags 0x0 ]\n', False))
 NFT_RULES = '-A FORWARD -j DROP\n-A FORWARD -p tcp -j ACCEPT'
-BAD_NFT_LISTS = (('table ip filter {', 'no table ip filter'), (f'ip filter FORWARD 4\n{DROPS}', 'has 1 rules, and 2 in'),
+BAD_NFT_LISTS = (('table ip filter {', 'no table ip filter'),
+                 (f'ip filter FORWARD 4\n{DROPS}', 'has 1 rules, and 2 in'),
                  (f'ip filter FORWARD 4\n{DROPS}{LISTED}\nip filter x 6\n', 'the chain x has 1 rules, and 0'))
 
 ODD = ','.join(str(port) for port in range(1, 2000, 2))
@@ -338,7 +341,8 @@ WRONG = (
     ('a mask of a set is forgotten', 'ipset', 'WITH_VALUE = {', "WITH_VALUE = {'netmask', "),
     ('a changed set is sure', 'save', "replace(each, cause='a rule changes it') if name in changed else each", 'each'),
     ('untracked packets have a state', 'save', 'any(each.changes_tracking() for each in self.others)', 'False'),
-    ('ports of SCTP are forgotten', 'options', "self.doubt(f'{given.name} {given.values[0]}')\n        return None", 'return None'),
+    ('ports of SCTP are forgotten', 'options', "self.doubt(f'{given.name} {given.values[0]}')\n        return None",
+     'return None'),
     ('a flag of a later packet is decided', 'options',
      'or may_match and masked - DECIDED_FLAGS:', 'and masked - DECIDED_FLAGS:'),
     ('another flag keeps a first packet from matching', 'options', 'wanted & DECIDED_FLAGS', 'wanted'),

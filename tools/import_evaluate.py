@@ -24,10 +24,20 @@ def conditions(text: str) -> Iterator[Condition]:
         option, word = words[is_negated], words[is_negated + 1]
         words = words[is_negated + 2:]
         if option == '--ctstate':
-            yield lambda packet, word=word: packet[5] == word  # type: ignore[misc]
+            yield is_state(word)
         elif option != '-m':
-            yield lambda packet, place=PLACES[option], found=numbers_of(option, word), wanted=not is_negated: (  # type: ignore[misc]
-                any(low <= packet[place] <= high for low, high in found) is wanted)
+            yield is_within(PLACES[option], numbers_of(option, word), not is_negated)
+
+
+def is_state(name: str) -> Condition:
+    return lambda packet: packet[5] == name
+
+
+def is_within(place: int, numbers: Numbers, is_wanted: bool) -> Condition:
+    def holds(packet: Packet) -> bool:
+        number = packet[:5][place]
+        return any(low <= number <= high for low, high in numbers) is is_wanted
+    return holds
 
 
 class Evaluator:

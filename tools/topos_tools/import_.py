@@ -8,7 +8,8 @@ from .import_save import Save
 from .import_text import Text
 from .query import PROGRESS, TimedOut, Tool, keep_inputs, lines_text, need_words, plain, write_text
 
-USAGE_TEXT = '''usage: topos-import [--interfaces FILE] [--sets FILE] [--syn] [--nft-list FILE] [--upper OUT] [--lower OUT] RULES
+USAGE_TEXT = '''usage: topos-import [--interfaces FILE] [--sets FILE] [--syn] [--nft-list FILE] [--upper OUT]
+                    [--lower OUT] RULES
            writes what iptables-save printed, RULES, as rules that topos reads
        --interfaces FILE   networks behind interfaces: lines IFACE NET .., IFACE rest and IFACE rp_filter N, or what
                            ip -4 route show table all, ip -4 rule and sysctl printed

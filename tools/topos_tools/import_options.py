@@ -65,7 +65,7 @@ class RuleReader:
         return self.parsed.refused(cause)
 
     def read_match(self, match: Match) -> None:
-        """Restricts the pieces by a match. One with an option that the table lacks restricts nothing and is in doubt."""
+        """Restricts the pieces by a match. One with an option that the table lacks is in doubt as a whole."""
         if not match.is_read():
             self.is_negated = False
             self.doubt(match.text())

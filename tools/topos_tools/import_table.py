@@ -31,7 +31,7 @@ OPTIONS = (
     Option('tcp', '--sport', 1, EXACT, 'itself', 'source ports'),
     Option('tcp', '--dport', 1, EXACT, 'itself', 'destination ports'),
     Option('tcp', '--tcp-flags', 2, BOUNDED,
-           'a condition in doubt; with --syn exact for new packets as far as SYN, ACK, FIN and RST decide', 'flags'),
+           'a condition in doubt; with `--syn` exact for new packets as far as SYN, ACK, FIN and RST decide', 'flags'),
     Option('tcp', '--syn', 0, BOUNDED, 'as `--tcp-flags FIN,SYN,RST,ACK SYN`', 'syn'),
     Option('tcp', '--tcp-option', 1, DOUBT, 'a condition in doubt'),
     Option('udp', '--sport', 1, EXACT, 'itself', 'source ports'),
@@ -45,7 +45,8 @@ OPTIONS = (
     Option('multiport', '--ports', 1, EXACT, 'rules for both directions; in doubt but for TCP and UDP', 'both ports'),
     Option('iprange', '--src-range', 1, EXACT, 'prefixes', 'source range'),
     Option('iprange', '--dst-range', 1, EXACT, 'prefixes', 'destination range'),
-    Option('set', '--match-set', 2, BOUNDED, 'prefixes, protocols and ports, by --sets; in doubt without the set', 'set'),
+    Option('set', '--match-set', 2, BOUNDED, 'prefixes, protocols and ports, by `--sets`; in doubt without the set',
+           'set'),
     Option('addrtype', '--src-type', 1, EXACT,
            '224.0.0.0/4 for `MULTICAST`, all others for `UNICAST`, none for other types', 'source type'),
     Option('addrtype', '--dst-type', 1, EXACT,
@@ -53,8 +54,8 @@ OPTIONS = (
     Option('state', '--state', 1, BOUNDED, 'as `--ctstate`', 'states'),
     Option('conntrack', '--ctstate', 1, BOUNDED,
            '`NEW` and `ESTABLISHED` are exact; `RELATED`, `INVALID`, `UNTRACKED` match none; `DNAT` is in doubt for '
-           'connections whose receiver a rule of the table `nat` writes, without this table for all; `SNAT` is in doubt, '
-           'and every state in a save with `NOTRACK` or zones of `CT`', 'states'),
+           'connections whose receiver a rule of the table `nat` writes, without this table for all; `SNAT` is in '
+           'doubt, and every state in a save with `NOTRACK` or zones of `CT`', 'states'),
     *(Option('conntrack', name, 1, DOUBT, 'a condition in doubt') for name in (
         '--ctproto', '--ctorigsrc', '--ctorigdst', '--ctreplsrc', '--ctrepldst', '--ctorigsrcport', '--ctorigdstport',
         '--ctreplsrcport', '--ctrepldstport', '--ctstatus', '--ctexpire', '--ctdir')),
@@ -104,6 +105,7 @@ def page() -> str:
               '| Target | Treatment | Becomes |', '|---|---|---|']
     lines += [f'| {", ".join(f"`{name}`" for name in each.names)} | {each.treatment} | {each.becomes} |'
               for each in TARGETS]
-    lines += ['| a chain with `-j` | exact | itself |', '| a chain with `-g` | exact | `-j`, then `RETURN` on the same condition |',
+    lines += ['| a chain with `-j` | exact | itself |',
+              '| a chain with `-g` | exact | `-j`, then `RETURN` on the same condition |',
               '| every other target | in doubt | a verdict in doubt |', '']
     return '\n'.join(lines)

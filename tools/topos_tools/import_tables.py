@@ -11,7 +11,8 @@ from .query import plain
 
 NONE = 'none'
 KINDS = {*NOT_FORWARDED, 'unicast', 'throw'}  # of routes
-FILTER = re.compile(r'net[./]ipv4[./]conf[./](\S+)[./]rp_filter\s*=\s*(\d)|/proc/sys/net/ipv4/conf/(\S+)/rp_filter:(\d)')
+FILTER = re.compile(r'net[./]ipv4[./]conf[./](\S+)[./]rp_filter\s*=\s*(\d)|'
+                    r'/proc/sys/net/ipv4/conf/(\S+)/rp_filter:(\d)')
 SETTING = re.compile(r'net[./]|/proc/sys/net/')
 STRICT = 1
 MOST_NAMED = 5
@@ -68,7 +69,7 @@ class Interfaces:
             self.read_rule(line)
         elif words[1:] == [NONE]:
             self.unused.append(words[0])
-        elif 'dev' in words[1:] or 'nexthop' in words[1:] or len(words) == 1 or words[0] in KINDS or is_network(words[0]):
+        elif {'dev', 'nexthop'} & set(words[1:]) or len(words) == 1 or words[0] in KINDS or is_network(words[0]):
             self.head = table_of(words), words
             self.is_whole = self.is_whole or self.head[0] == 'local'
         else:
