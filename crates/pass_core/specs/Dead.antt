@@ -8,7 +8,7 @@ use Rattle.ipt_rules.specs.declared.marks.Place.{Place}
 use Rattle.ipt_rules.specs.Chain.{Chain, rules_of}
 use Rattle.ipt_rules.specs.DeadRules.{without_places}
 use Rattle.ipt_rules.specs.Meets.{IsMet}
-use Rattle.ipt_rules.specs.inner.OneOutcome.{HasVerdict}
+use Rattle.ipt_rules.specs.Semantics.{HasVerdictIn}
 
 -- The rule at the place is dead: no packet that enters FORWARD meets it, in any state.
 abbrev pub IsDead : List Chain → Place → Type 0
@@ -52,7 +52,7 @@ pub record AreDead (chains : List Chain) (places : List Place) : Type 0 where
   pub ascending : AreAscending places
   pub exact : (place : Place) → IsTrue (is_listed places place) ↔ (HasForwardRule chains place × IsDead chains place)
 
--- The rules at the places are removable: without them, each packet that enters FORWARD has the same verdict in each state.
+-- The rules at the places are removable: without them, each packet that enters FORWARD, chain 1, has the same verdict in each state.
 abbrev pub AreRemovable : List Chain → List Place → Type 0
 AreRemovable chains places =
-    (p : Packet) (state : CtState) (v : Verdict) → IsPacket p → (HasVerdict chains p state v ↔ HasVerdict (without_places (is_listed places) chains) p state v)
+    (p : Packet) (state : CtState) (v : Verdict) → IsPacket p → (HasVerdictIn chains 1 p state v ↔ HasVerdictIn (without_places (is_listed places) chains) 1 p state v)
