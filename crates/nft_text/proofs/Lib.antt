@@ -2,3 +2,4 @@ mod CompareLaws
 mod LengthLaws
 mod PlaceLaws
 mod RangeLaws
+mod TextRows
