@@ -142,7 +142,9 @@ def shadowed_lines(save: Save) -> Iterator[str]:
             covering = [next((line for piece, line, others in above if rule.others <= others and piece.covers(part)),
                              None) for part in rule.pieces]
             if None not in covering:
-                yield f'shadowed: line {rule.line}: by ' + ' '.join(map(str, dict.fromkeys(covering)))
+                by = dict.fromkeys(line for line in covering if line)
+                yield (f'shadowed: line {rule.line}: by {" ".join(map(str, by))}: {shown(rule)}: '
+                       + '; '.join(f'line {each.line}: {shown(each)}' for each in rules if each.line in by))
             if rule.action in VERDICTS:
                 others = frozenset() if rule.is_partial else rule.others
                 above += [(piece, rule.line, others) for piece in rule.sure_pieces()]
