@@ -26,6 +26,8 @@ def main(values: dict[str, str], options: set[str], words: list[str]) -> int:
         write_text(None, data_text(difference.tree()))
     else:
         write_text(None, view.markdown() if '--markdown' in options else view.text())
+    if difference.stopped:
+        raise difference.stopped
     return difference.status()
 
 

@@ -9,7 +9,7 @@ from typing import Any
 from .diff_flows import Changes, FlowChange
 from .diff_hosts import HostChange, host_changes, owned_by, renamed
 from .diff_invariants import InvariantChange, invariant_changes, numbers_of, setting_changes
-from .query import Programs
+from .query import Programs, TimedOut
 from .report_model import Flow, Source, flow_of, read_source
 
 SCHEMA = 'topos-diff 1'
@@ -60,6 +60,7 @@ class Difference:
     hosts: list[HostChange]
     invariants: list[InvariantChange]
     settings: list[str]
+    stopped: TimedOut | None = None  # if it is not known what is stricter
 
     def weaker(self) -> list[int] | None:
         """Returns the numbers of OLD of the invariants that are weaker, or None if they are not known."""
@@ -78,7 +79,7 @@ class Difference:
     def is_empty(self) -> bool:
         """Whether nothing at all differs."""
         openings = [found for each in (self.opened, self.closed) if each for found in (each.judged, each.gaps)]
-        return not any((self.flows, self.hosts, self.invariants, self.settings, *openings))
+        return not any((self.flows, self.hosts, self.invariants, self.settings, self.stopped, *openings))
 
     def tree(self) -> dict[str, Any]:
         """Returns the data of `--json`."""
@@ -96,13 +97,17 @@ class Difference:
 def read_difference(programs: Programs, before: str, after: str, most: int | None) -> Difference:
     """Reads two descriptions, and returns their difference; `most` words are shown of a list in an entry, or all."""
     old, new = (read_source(programs, path, NOT_READ) for path in (before, after))
-    answer, back = programs.ask_changes(old.data, new.data), programs.ask_changes(new.data, old.data)
+    answer, stopped, back = programs.ask_changes(old.data, new.data), None, dict[str, Any]()
+    try:
+        back = programs.ask_changes(new.data, old.data)
+    except TimedOut as error:
+        stopped = error
     names = renamed(owned_by(old.network), owned_by(new.network))
     same = numbers_of(old, new, names)
     return Difference(
         old, new, same, list(_failing(old, new, same)), Openings.of(answer), Openings.of(back),
         Changes(old, new, answer).flows(), host_changes(old.network, new.network),
-        invariant_changes(old, new, names, most), list(setting_changes(old, new, most)))
+        invariant_changes(old, new, names, most), list(setting_changes(old, new, most)), stopped)
 
 
 def _failing(old: Source, new: Source, same: dict[int, int]) -> Iterable[Failing]:

@@ -88,10 +88,14 @@ class View:
                  self.judged('stricter', closed.judged if closed else [], self.new_names)),
                 ('Gaps that are closed', self.gaps('closed gap', closed.gaps if closed else [])),
                 ('Hosts', self.hosts()),
-                ('Invariants and settings', self.settings())):
+                ('Invariants and settings', self.settings()), ('Not known', self.unknown())):
             found = list(lines)
             if found:
                 yield Section(title, found, len(wider) if title == GAINS else 0)
+
+    def unknown(self) -> Iterator[str]:
+        if self.difference.stopped:
+            yield f'not known, since {self.difference.stopped}: what is stricter, and which gaps are closed'
 
     def failing(self) -> Iterator[str]:
         for each in self.difference.fails:
