@@ -75,11 +75,11 @@ class Kernel:
     def clear(self, back_end: str) -> None:
         self.load(back_end, '*filter\n:FORWARD ACCEPT [0:0]\nCOMMIT\n')
 
-    def sends(self, packet: Packet, phase: int) -> bool:
-        """Whether a packet that goes in comes out."""
+    def sends(self, packet: Packet, phase: int, name: str = '') -> bool:
+        """Whether a packet that goes in by an interface, else by that of its sender, comes out."""
         self.number = self.number % 65535 + 1
         sent = raw_packet(packet, phase, self.number)
-        device = self.device(packet[0])
+        device = self.files[name] if name else self.device(packet[0])
         os.write(device, sent)
         os.write(device, box.MARKER)
         self.wait()

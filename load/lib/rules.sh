@@ -148,7 +148,8 @@ form[expressions]='
     split("", loaded)
     next
   }
-  rule == "" || !/^  [[] / || / (match|target) name | counter pkts | limit rate .* flags 0x0 | immediate reg 0 [a-z]/ { next }
+  rule == "" || !/^  [[] / || / (match|target) name | counter pkts | limit rate .* flags 0x0 | log group / { next }
+  / immediate reg 0 [a-z]| immediate reg 9 0x00000001 | meta set nftrace with reg 9 / { next }
   / load .* => reg 1 / {
     field = field_of($0)
     mask = last = ""
