@@ -1,3 +1,8 @@
+pub mod AlikeChangeLaws
+pub mod AlikeDeadLaws
+pub mod AlikeFlowLaws
+pub mod AlikeRangeLaws
+pub mod AlikeWeakeningLaws
 pub mod ArrayLaws
 pub mod ChangesLaws
 pub mod CompareLaws

@@ -32,23 +32,23 @@ flows_by_parts wanted judges alike (x ∷ xs) =
     ap₂ (λ (b : Bool) (both : List Flow × List Flow). if b then both.0 else both.1) (alike x)
     (ap (λ (fs : List Flow). (x.flow ∷ fs, fs)) (flows_by_parts wanted judges alike xs))
 
-same_flows_where : (wanted : Finding → Bool) (judges : Flow × List ℕ → Bool) → ((x : Finding) → wanted x ≡ judges (finding_parts x)) → (xs ys : List Finding)
+pub same_flows_where : (wanted : Finding → Bool) (judges : Flow × List ℕ → Bool) → ((x : Finding) → wanted x ≡ judges (finding_parts x)) → (xs ys : List Finding)
     → map finding_parts xs ≡ map finding_parts ys → flows_where wanted xs ≡ flows_where wanted ys
 same_flows_where wanted judges alike xs ys same =
     flows_by_parts wanted judges alike xs ∙ ap (flows_of_parts judges) same ∙ sym (flows_by_parts wanted judges alike ys)
 
 -- All denials of a network by one policy have the same flows and numbers.
-denials_are_one : (d : Network) (policy : Policy) (xs ys : List Finding) → AreAllDenials d policy xs → AreAllDenials d policy ys
+pub denials_are_one : (d : Network) (policy : Policy) (xs ys : List Finding) → AreAllDenials d policy xs → AreAllDenials d policy ys
     → map finding_parts xs ≡ map finding_parts ys
 denials_are_one d policy xs ys a b =
     let p : List Flow = policy.permitted.flows in
     findings_are_one (AreDenying holds_on d.invariants p) (λ f. failing_is_one (λ _. true) holds_on d.invariants (with_flow p f)) (every_flow (length d.hosts)) xs ys a b
 
-one_denied : (d : Network) (policy : Policy) (xs ys : List Finding) → AreAllDenials d policy xs → AreAllDenials d policy ys
+pub one_denied : (d : Network) (policy : Policy) (xs ys : List Finding) → AreAllDenials d policy xs → AreAllDenials d policy ys
     → flows_where is_denied xs ≡ flows_where is_denied ys
 one_denied d policy xs ys a b = same_flows_where is_denied (λ parts. not (is_nothing parts.1)) (λ x. refl) xs ys (denials_are_one d policy xs ys a b)
 
-one_free : (d : Network) (policy : Policy) (xs ys : List Finding) → AreAllDenials d policy xs → AreAllDenials d policy ys
+pub one_free : (d : Network) (policy : Policy) (xs ys : List Finding) → AreAllDenials d policy xs → AreAllDenials d policy ys
     → flows_where is_free xs ≡ flows_where is_free ys
 one_free d policy xs ys a b = same_flows_where is_free (λ parts. is_nothing parts.1) (λ x. refl) xs ys (denials_are_one d policy xs ys a b)
 

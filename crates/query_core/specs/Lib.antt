@@ -1,3 +1,4 @@
+pub mod Alike
 pub mod ChangesJson
 pub mod CompareJson
 pub mod Explanations
