@@ -15,7 +15,6 @@ use Rattle.query_top.specs.Command.{Command, Changes, Compare, Flows, Network, W
 use Rattle.query_top.specs.Changes.{IsChangesAnswer}
 use Rattle.query_top.specs.Commands.{plan_of}
 use Rattle.query_top.specs.Network.{IsNetworkAnswer}
-use Rattle.query_top.specs.Promises.{HasOneAnswer}
 use Rattle.query_top.proofs.CompareLaws.{settled_comparison}
 use Rattle.query_top.proofs.KeptLaws.{IsKeptAlong, kept_along}
 use Rattle.topos_top.specs.Dialects.{rule_dialect_of}
@@ -28,7 +27,7 @@ network_text_is_one d a b p q =
     network_is_one d q.policy a b (subst (λ (policy : Policy). IsNetworkText d policy a) policies p.written) q.written
 
 -- An answer with weaker flows and one without are not of the same networks.
-weaken_or_not : (old new : Described) (a b : List ℕ) → IsChangesAnswer old new true a → IsChangesAnswer old new false b → ⊥
+pub weaken_or_not : (old new : Described) (a b : List ℕ) → IsChangesAnswer old new true a → IsChangesAnswer old new false b → ⊥
 weaken_or_not old new a b p q =
     let before : p.before ≡ q.before = policy_is_one old p.before q.before p.is_before q.is_before in
     let after : p.after ≡ q.after = policy_is_one new p.after q.after p.is_after q.is_after in
@@ -39,6 +38,12 @@ weaken_or_not old new a b p q =
     let some = p.some in
     let none = q.some in
     cc (same, some, none)
+
+-- The question has one text by its files.
+abbrev pub HasOneAnswer : Command → Type 0
+HasOneAnswer (Flows dialect file rules) = ⊥
+HasOneAnswer (Changes old new) = ⊥
+HasOneAnswer _ = Unit {0}
 
 pub settled : (command : Command) → HasOneAnswer command → IsOwedAlong (plan_of command)
 settled (Why file from to) any = λ d sound. record {

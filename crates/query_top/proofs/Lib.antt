@@ -1,3 +1,4 @@
+pub mod AlikeLaws
 pub mod AnsweredLaws
 pub mod ParseLaws
 pub mod CommandLaws

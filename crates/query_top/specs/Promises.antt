@@ -14,7 +14,8 @@ use Rattle.topos_top.specs.declared.kind.Kind.TheVariants as kind
 use Rattle.topos_top.specs.declared.status.Status.{Status}
 use Rattle.topos_top.specs.declared.status.Status.TheVariants as status
 use Rattle.topos_top.specs.declared.status.Stream.TheVariants.{Output}
-use Rattle.query_top.specs.Command.{Command, ParseAs, Changes, Compare, Flows, Network, Why}
+use Rattle.query_core.specs.Alike.{AreAlikeChanges, AreAlikeFlows}
+use Rattle.query_top.specs.Command.{Command, ParseAs, ParseAsNothing, Changes, Compare, Flows, Network, Why}
 use Rattle.query_top.specs.Changes.{IsChangesAnswer}
 use Rattle.query_top.specs.Commands.{plan_of}
 use Rattle.query_top.specs.Compare.{ReportsDifferences, equal_json}
@@ -72,21 +73,27 @@ HasRules (Flows dialect file rules) = Unit {0}
 HasRules (Compare dialect file rules) = Unit {0}
 HasRules _ = ⊥
 
--- The question has one answer by its files. The packets that answers of `flows` and `changes` show are examples: an answer with other
--- examples would do as well.
-abbrev pub HasOneAnswer : Command → Type 0
-HasOneAnswer (Flows dialect file rules) = ⊥
-HasOneAnswer (Changes old new) = ⊥
-HasOneAnswer _ = Unit {0}
+-- The texts of two answers to a question are equal. The packets that answers of `flows` and `changes` show are examples: their texts are
+-- equal but for these.
+abbrev pub AreAlikeTexts : Command → (text other : List ℕ) → Type 0
+AreAlikeTexts (Flows dialect file rules) text other = (text ≡ other) ⊎ AreAlikeFlows text other
+AreAlikeTexts (Changes old new) text other = (text ≡ other) ⊎ AreAlikeChanges text other
+AreAlikeTexts _ text other = text ≡ other
 
--- The words are no question, or one that has one answer.
-abbrev pub HaveOneReply : List (List ℕ) → Type 0
-HaveOneReply words = (command : Command) → ParseAs words command → HasOneAnswer command
+-- Two replies to a question have the same status and the same stream, and texts that are alike.
+pub record AreAlike (command : Command) (given other : Reply) : Type 0 where
+  pub status : given.status ≡ other.status
+  pub stream : given.stream ≡ other.stream
+  pub texts : AreAlikeTexts command given.text other.text
 
--- If the shelf's files are observable and it counted no fault, the run had no memory, or it gave a reply to the arguments by these files: they allow
--- this reply, and no other if the words have one reply.
+-- Two replies to words are equal if the words are no question, and otherwise alike for the question.
+abbrev pub AreAlikeFor : List (List ℕ) → (given other : Reply) → Type 0
+AreAlikeFor words given other = (ParseAsNothing words × (given ≡ other)) ⊎ ((command : Command) × ParseAs words command × AreAlike command given other)
+
+-- If the shelf's files are observable and it counted no fault, the run had no memory, or it gave a reply to the arguments by these files, and
+-- every reply to the arguments by these files is alike.
 abbrev pub IsComplete : List (List ℕ) → ShelfChange → (out err : SinkChange) → Status → Type 0
 IsComplete words shelf out err ended =
     IfSome shelf.before.told (λ files. (Rose shelf.before.faults shelf.after.faults → ⊥)
     → (ended ≡ status.Memory) ⊎ ((given : Reply) × RepliesTo words files given
-    × (HaveOneReply words → (other : Reply) → RepliesTo words files other → other ≡ given) × IsDelivered out err given ended))
+    × ((other : Reply) → RepliesTo words files other → AreAlikeFor words given other) × IsDelivered out err given ended))

@@ -57,8 +57,8 @@ pub fn run<H: Shelf, O: Sink, E: Sink>(
     ensures output_unchanged { result ≢ Status.Done → result ≢ Status.Violated → result ≢ Status.WriteFault → out.new ≡ out.old }
     ensures stderr_unchanged { (result ≡ Status.Done) ⊎ (result ≡ Status.Violated) → err.new ≡ err.old }
 
-    // The words and the known files decide the reply, and so the answer, byte by byte. The examples of packets in the
-    // answers of `flows` and `changes` may differ.
+    // The words and the known files decide the reply, and so the answer, byte by byte but for the examples of packets
+    // in the answers of `flows` and `changes`.
     ensures complete { IsComplete (map string_bytes words.now) (shelf_change H.Shelf shelf.old shelf.new)
         (sink_change O.Sink out.old out.new) (sink_change E.Sink err.old err.new) result }
 {
