@@ -84,6 +84,7 @@ sender_other xs same = let differ : ◌≡◌ {A = ℕ} 114 111 = ap (λ (bs : L
 pub services_named : (c : ℕ) → c < 2 ^ 32 → IsChainName (services_name c)
 services_named c low = record {
   letter = refl;
+  no_keyword = refl;
   bytes = digits_named (decimal c) (decimal_digits c (omega (arith, low)));
   short = omega (arith, length-append (codes "services_") (decimal c), length-decimal-le 10 c (omega arith) (omega (arith, low)) (omega (arith, low)));
   other = services_other (decimal c);
@@ -109,6 +110,7 @@ sender_named hosts i are low =
     let named = name_there hosts i low are.named in
     record {
       letter = refl;
+      no_keyword = refl;
       bytes = named_bytes (name_at hosts i) named;
       short = omega (arith, length-append (codes "from_") (name_at hosts i), short_name (name_at hosts i) named);
       other = sender_other (name_at hosts i);

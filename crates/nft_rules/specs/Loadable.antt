@@ -3,7 +3,7 @@
 -- chains, and an identifier with other characters.
 use Rattle.std.specs.Prelude.{◌≡◌, ◌≢◌, ℕ, ◌≤◌, ◌<◌, ◌+◌, ◌==◌, Bool, true, false, ◌&&◌, ◌||◌, nat_le, IsTrue, List, [], ◌∷◌, Option, Some, None, length, codes, slice_get}
 use Rattle.std.specs.Char.{is_ascii_alphabetic}
-use Rattle.std.specs.List.{list_all}
+use Rattle.std.specs.List.{list_all, list_any}
 use Rattle.text_core.specs.Name.{is_name_byte}
 use Rattle.host_net.specs.Service.{has_name, has_ports}
 use Rattle.nft_rules.specs.declared.table.Chain.{Chain}
@@ -58,13 +58,15 @@ AreRules n (r ∷ rs) = IsRule n r × AreRules n rs
 abbrev pub LeadBack : List Chain → Type 0
 LeadBack chains = (c : ℕ) (chain : Chain) → slice_get chains c ≡ Some chain → AreRules c chain.rules.items
 
--- A name begins with a letter, and consists of at most 128 letters, digits, `_` and `-`. The base chain has the name `forward`.
+-- A name begins with a letter, has a `_`, and consists of at most 128 letters, digits, `_` and `-`. No keyword of nft has a `_`, and a
+-- keyword is no name. The base chain has the name `forward`.
 abbrev pub begins_with_letter : List ℕ → Bool
 begins_with_letter [] = false
 begins_with_letter (b ∷ bs) = is_ascii_alphabetic b
 
 pub record IsChainName (name : List ℕ) : Type 0 where
   pub letter : IsTrue (begins_with_letter name)
+  pub no_keyword : IsTrue (list_any (λ b. b == 95) name)
   pub bytes : IsTrue (list_all is_name_byte name)
   pub short : length name ≤ 128
   pub other : name ≢ codes "forward"
