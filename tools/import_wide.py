@@ -1,7 +1,7 @@
 """Random saves, sets, routes and rules of nft for import-kernel-test: of all matches that IMPORT names."""
 from collections.abc import Iterable
 
-from import_random import DEVICES, NETWORKS, PORTS, Chance
+from import_random import DEVICES, NETWORKS, PORTS, STATES, Chance
 
 MATCHES = (  # further conditions, each with the protocol that it needs
     ('', '-m limit --limit 1/hour --limit-burst 3'), ('', '-m mark --mark 0x1'), ('', '-m mark ! --mark 0x1'),
@@ -33,21 +33,23 @@ MATCHES = (  # further conditions, each with the protocol that it needs
 TARGETS = (
     *('-j ACCEPT',) * 8, *('-j DROP',) * 8, *('-j RETURN',) * 3, '', '-j REJECT',
     '-j REJECT --reject-with icmp-host-prohibited', '-j LOG --log-prefix "-j DROP"', '-j LOG --log-prefix -j',
-    '-j MARK --set-xmark 0x1/0xffffffff', '-j CONNMARK --save-mark', '-j NFLOG --nflog-group 3', '-j TRACE', '-j AUDIT --type drop',
-    '-j CLASSIFY --set-class 1:1', '-j NFQUEUE --queue-num 3 --queue-bypass', '-j NFQUEUE --queue-num 3')
+    '-j MARK --set-xmark 0x1/0xffffffff', '-j CONNMARK --save-mark', '-j NFLOG --nflog-group 3', '-j TRACE',
+    '-j AUDIT --type drop', '-j CLASSIFY --set-class 1:1', '-j NFQUEUE --queue-num 3 --queue-bypass',
+    '-j NFQUEUE --queue-num 3')
 SET_OPTIONS = ('--return-nomatch', '--packets-gt 1', '--packets-eq 0', '--bytes-lt 50', '! --update-counters',
                '! --packets-lt 2', '! --bytes-eq 9')
 NFT_CONDITIONS = (
     'ip saddr {network}', 'ip saddr != {network}', 'ip daddr {network}', 'ip saddr { {host}, {other} }',
     'ip daddr != { {host}, {other} }', 'ip saddr {host}-10.3.255.255', 'ip daddr > {host}',
-    'ip saddr & 255.0.255.0 == 10.0.4.0', 'ip saddr & 255.0.0.0 == 10.0.0.1', 'ip protocol { tcp, udp }', 'ip protocol tcp',
-    'ip protocol != udp', 'ip protocol > 6', 'ip protocol 0', 'meta l4proto tcp', 'meta l4proto 6-17',
-    'meta l4proto != { tcp, icmp }', 'tcp dport {port}', 'tcp dport != {port}', 'tcp dport 22-80', 'tcp dport > {port}',
-    'tcp dport { 22, 80 }', 'tcp sport {port}', 'tcp sport {port} tcp dport {port}', 'udp dport {port}', 'udp length 20',
-    'tcp window 8192', 'tcp flags syn', 'tcp flags & (syn|ack) == syn', 'icmp type 8', 'icmp type { 8, 0 }',
-    'iifname {device}', 'iifname != {device}', 'oifname {device}', 'iifname { t1, t2 }', 'iif {device}', 'oif != {device}',
-    'meta mark 0', 'meta mark != 1', 'meta mark { 0, 1 }', 'ip ttl > 60', 'ip frag-off 0', 'ip frag-off & 0x1fff == 0',
-    'meta pkttype unicast', 'limit rate 5/second', 'counter', 'ip saddr . ip daddr { {host} . {other} }',
+    'ip saddr & 255.0.255.0 == 10.0.4.0', 'ip saddr & 255.0.0.0 == 10.0.0.1', 'ip protocol { tcp, udp }',
+    'ip protocol tcp', 'ip protocol != udp', 'ip protocol > 6', 'ip protocol 0', 'meta l4proto tcp',
+    'meta l4proto 6-17', 'meta l4proto != { tcp, icmp }', 'tcp dport {port}', 'tcp dport != {port}',
+    'tcp dport 22-80', 'tcp dport > {port}', 'tcp dport { 22, 80 }', 'tcp sport {port}',
+    'tcp sport {port} tcp dport {port}', 'udp dport {port}', 'udp length 20', 'tcp window 8192', 'tcp flags syn',
+    'tcp flags & (syn|ack) == syn', 'icmp type 8', 'icmp type { 8, 0 }', 'iifname {device}', 'iifname != {device}',
+    'oifname {device}', 'iifname { t1, t2 }', 'iif {device}', 'oif != {device}', 'meta mark 0', 'meta mark != 1',
+    'meta mark { 0, 1 }', 'ip ttl > 60', 'ip frag-off 0', 'ip frag-off & 0x1fff == 0', 'meta pkttype unicast',
+    'limit rate 5/second', 'counter', 'ip saddr . ip daddr { {host} . {other} }',
     'ip saddr . tcp dport { {host} . 80 }', 'meta protocol ip', 'ip length 40', 'ct state new')
 NFT_VERDICTS = ('accept', 'drop', 'return', 'jump X', 'goto X', 'counter drop', 'counter accept', '')
 NFT_MAPS = ('ip saddr vmap { {host} : accept, {other} : drop }', 'tcp dport vmap { 22 : accept, 80 : drop }')
@@ -58,6 +60,7 @@ class Wide(Chance):
     matches: Iterable[tuple[str, str]] = ()
     targets: Iterable[str] = ()
     sets: Iterable[tuple[str, str]] = ()  # names and directions
+    kinds: Iterable[str] = ()  # types of sets that the kernel has
 
     def rule(self, chain: str, later: list[str], doubts: float) -> str:
         protocol = self.choice(('tcp', 'tcp', 'udp', 'icmp', 'esp', 'sctp', '', '', '', '', '! udp'))
@@ -79,7 +82,7 @@ class Wide(Chance):
         if kind < 0.5:
             return f'-m iprange {self.sign()}--{self.choice(("src", "dst"))}-range {self.range()}'
         if kind < 0.6:
-            return f'-m conntrack {self.sign()}--ctstate {self.choice(("NEW", "ESTABLISHED", "RELATED,NEW", "INVALID"))}'
+            return f'-m conntrack {self.sign()}--ctstate {self.choice(STATES)}'
         return self.choice([match for needs, match in self.matches if needs in ('', protocol)])
 
     def set_match(self) -> str:
@@ -93,10 +96,11 @@ class Wide(Chance):
     def sets_text(self) -> str:
         """Returns sets of each type with random options and entries, for `ipset -exist restore`."""
         lines = []
-        for place, (kind, parts) in enumerate(SET_KINDS.items()):
+        for place, (kind, parts) in enumerate((kind, SET_KINDS[kind]) for kind in self.kinds):
             options = [option for option in SET_EXTRAS.get(kind, ()) + SET_SHARED if self.random() < 0.15]
+            options += [self.choice(('timeout 0', 'timeout 100'))] * (self.random() < 0.1)
             lines.append(f'create s{place} {kind} {" ".join([*SET_HEADS.get(kind, ()), *options])}')
-            for _ in range(self.randint(1, 6)):
+            for _ in range(self.randint(1, 2 if kind == 'hash:mac' else 6)):
                 entry = ','.join(getattr(self, f'{part}_part')() for part in parts)
                 is_exception = 'net' in parts and self.random() < 0.3
                 lines.append(f'add s{place} {entry}{" nomatch" if is_exception else ""}')
@@ -106,6 +110,9 @@ class Wide(Chance):
 
     def ip_part(self) -> str:
         return self.host()
+
+    def local_part(self) -> str:
+        return f'10.1.{self.choice((0, 4))}.{self.randint(0, 255)}'
 
     def net_part(self) -> str:
         return self.choice(NETWORKS)
@@ -161,7 +168,8 @@ class Wide(Chance):
     def routing_rule(self) -> str:
         network, other = self.choice(NETWORKS), self.choice(NETWORKS)
         selector = self.choice((f'from {network}', f'to {network}', f'iif {self.choice(DEVICES[:4])}', 'fwmark 0x1',
-                                'tos 0x10', f'not from {network}', 'from all', f'from {network} to {other}', 'ipproto tcp'))
+                                'tos 0x10', f'not from {network}', 'from all', f'from {network} to {other}',
+                                'ipproto tcp'))
         action = self.choice(('lookup 100', 'lookup 200', 'lookup 100', 'lookup main suppress_prefixlength 0',
                               'lookup 100 suppress_prefixlength 16', 'goto 32766', 'blackhole', 'lookup 77'))
         return f'rule add pref {self.randint(1, 300)} {selector} {action}'
@@ -191,9 +199,10 @@ class Wide(Chance):
 SET_KINDS = {
     'hash:ip': ('ip',), 'hash:net': ('net',), 'bitmap:ip': ('range',), 'bitmap:port': ('number',),
     'hash:ip,port': ('ip', 'port'), 'hash:net,port': ('net', 'port'), 'hash:ip,port,ip': ('ip', 'port', 'ip'),
-    'hash:ip,port,net': ('ip', 'port', 'net'), 'hash:net,net': ('net', 'net'), 'hash:net,port,net': ('net', 'port', 'net'),
-    'hash:ip,mark': ('ip', 'mark'), 'hash:net,iface': ('net', 'iface'), 'hash:mac': ('mac',), 'hash:ip,mac': ('ip', 'mac'),
-    'bitmap:ip,mac': ('ip', 'mac')}
-SET_HEADS = {'bitmap:ip': ('range 10.1.4.0/24',), 'bitmap:port': ('range 0-65535',), 'bitmap:ip,mac': ('range 10.1.0.0/16',)}
+    'hash:ip,port,net': ('ip', 'port', 'net'), 'hash:net,net': ('net', 'net'),
+    'hash:net,port,net': ('net', 'port', 'net'), 'hash:ip,mark': ('ip', 'mark'), 'hash:net,iface': ('net', 'iface'),
+    'hash:mac': ('mac',), 'hash:ip,mac': ('ip', 'mac'), 'bitmap:ip,mac': ('local', 'mac')}
+SET_HEADS = {
+    'bitmap:ip': ('range 10.1.4.0/24',), 'bitmap:port': ('range 0-65535',), 'bitmap:ip,mac': ('range 10.1.0.0/16',)}
 SET_EXTRAS = {'hash:ip': ('netmask 24',), 'bitmap:ip': ('netmask 28',)}
-SET_SHARED = ('timeout 100', 'counters', 'counters', 'comment', 'skbinfo', 'timeout 0')
+SET_SHARED = ('counters', 'comment', 'skbinfo')

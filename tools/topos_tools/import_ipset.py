@@ -23,7 +23,7 @@ COMMENT = re.compile('"[^"]*"')  # has no escapes
 MOST_SERVICE = (MOST_PROTOCOL << 16) + MOST_PORT
 WITH_PORTS = {6, 17}  # protocols whose ports a rule of topos has
 PORTED = {6, 17, 1, 132, 136}  # protocols of which a set has ports or types
-MOST_PRODUCTS = 5000
+MOST_PIECES = 1000  # of a rule with sets; with more the set is in doubt
 
 Product = tuple[Numbers, ...]
 

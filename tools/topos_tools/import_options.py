@@ -2,7 +2,7 @@
 from collections.abc import Callable
 from dataclasses import dataclass, field
 
-from .import_ipset import ADDRESS, MOST_PRODUCTS, NETWORK, Product, Set, services_of, united
+from .import_ipset import ADDRESS, MOST_PIECES, NETWORK, Product, Set, services_of, united
 from .import_parse import IMPLICIT, Given, Match, Parser
 from .import_pieces import BOTH, ESTABLISHED, NEW, OTHERS, Piece, Rule, in_doubt, in_states, restricted
 from .import_sets import (ALL_ADDRESSES, MOST_ADDRESS, MOST_PORT, MOST_PROTOCOL, Numbers, complement, difference,
@@ -158,15 +158,17 @@ class RuleReader:
         directions = [ENDS[word] for word in words if word in ENDS]
         is_read = found is not None and not found.cause and len(words) == len(directions) == len(found.dimensions())
         products = found.products(self.is_negated) if found and is_read else []
-        if found is None or not is_read or len(products) > MOST_PRODUCTS:
-            self.doubt(f'set {" ".join(given.values)}')
+        reason = f'set {" ".join(given.values)}'
+        if found is None or not is_read or len(products) * len(self.pieces) > MOST_PIECES:
+            self.doubt(reason)
             return
         for place, kind in enumerate(found.dimensions()):
             if kind in (ADDRESS, NETWORK):
                 self.rule.named.append(united((entry for entry, _ in found.entries), place))
-        reason = ('! ' if self.is_negated else '') + f'set {" ".join(given.values)}'
-        self.pieces = [part for product in products
-                       for part in self.within(product, found.dimensions(), directions, reason)]
+        reason = ('! ' if self.is_negated else '') + reason
+        parts = [part for product in products
+                 for part in self.within(product, found.dimensions(), directions, reason)]
+        self.pieces = parts if len(parts) <= MOST_PIECES else in_doubt(self.pieces, reason)
 
     def within(self, product: Product, dimensions: tuple[str, ...], directions: list[str], reason: str) -> list[Piece]:
         """Returns the parts of the pieces in a product of a set."""

@@ -2,6 +2,7 @@
 import re
 from collections.abc import Iterator
 
+from .import_ipset import MOST_PIECES
 from .import_nft import COMMAND
 from .import_pieces import Action, Piece, Rule
 from .import_save import OtherRule, Save
@@ -17,6 +18,7 @@ REWRITES = {
     **dict.fromkeys(('MARK', 'CONNMARK'), 'matches of marks are in doubt')}
 STOPPING = {'DROP', 'REJECT', 'policy DROP', 'TARPIT', 'QUEUE', 'NFQUEUE', 'SYNPROXY'}
 LONGEST = 110  # letters of a rule
+SIZE = f'more than {MOST_PIECES} parts, or another number of src and dst'
 SET = re.compile(r'set (?:--match-set )?([^-\s]\S*)')  # the name of a set in a doubt
 MOST_COMPARED = 1000  # pieces of a chain, each with each
 
@@ -100,7 +102,7 @@ def set_lines(save: Save, names: list[str]) -> Iterator[str]:
     missing = [name for name in names if name not in save.context.sets]
     if missing:
         yield f'sets that --sets (the output of `ipset save`) has not: {" ".join(missing)}'
-    found = [f'{name} ({save.context.sets[name].cause or "another number of src and dst"})' for name in names
+    found = [f'{name} ({save.context.sets[name].cause or SIZE})' for name in names
              if name in save.context.sets]
     if found:
         yield f'sets that stay in doubt: {", ".join(found)}'
