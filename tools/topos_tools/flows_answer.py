@@ -1,6 +1,6 @@
 """Asks `topos-query flows` what rules let pass, and leads its rules back to the lines of the save."""
 import re
-from dataclasses import dataclass
+from dataclasses import dataclass, field
 from typing import Any
 
 from .flows_services import ALL_SERVICES, PORTS, number_of
@@ -10,6 +10,7 @@ from .import_sets import Numbers, intersection, is_subset, joined, single
 from .query import Programs, Stopped
 
 Pair = tuple[str | None, str | None]  # None is for the addresses of no host
+Packet = dict[str, Any] | str  # as an answer has it, or as the line of an events file
 POLICY = 0  # in place of a line
 COMMENT = re.compile(r'-m comment --comment "line (\d+)')
 PROTOCOLS = {1: 'icmp', 6: 'tcp', 17: 'udp'}
@@ -19,17 +20,25 @@ PROTOCOLS = {1: 'icmp', 6: 'tcp', 17: 'udp'}
 class Range:
     """A range of services that pass, wholly or in part."""
     services: Numbers
-    passes: str
-    drops: str | None  # if some packets of the services do not pass
+    passing: Packet
+    dropped: Packet | None  # if some packets of the services do not pass
     lines: tuple[int, ...]
-    shown: int  # the service of `passes`
+    shown: int  # the service of `passing`
+
+    @property
+    def passes(self) -> str:
+        return event_of(self.passing)
+
+    @property
+    def drops(self) -> str | None:
+        return None if self.dropped is None else event_of(self.dropped)
 
     def example(self, services: Numbers) -> str | None:
         """Returns a packet of the services that passes, if one is known: if none is dropped, every packet passes."""
         shared = intersection(self.services, services)
         if is_subset(single(self.shown), shared):
             return self.passes
-        if not shared or self.drops is not None:
+        if not shared or self.dropped is not None:
             return None
         protocol, port = divmod(shared[0][0], PORTS)
         return f'{" ".join(self.passes.split()[:3])} {PROTOCOLS.get(protocol, protocol)} 0 {port}'
@@ -39,12 +48,21 @@ class Range:
 class Flows:
     """What one text lets pass, by pairs."""
     pairs: dict[Pair, list[Range]]
+    joined: dict[tuple[Pair, bool], Numbers] = field(default_factory=dict, compare=False)  # that were asked for
 
     def whole(self, pair: Pair) -> Numbers:
-        return joined(each for part in self.pairs.get(pair, ()) if part.drops is None for each in part.services)
+        """Returns the services of which every packet passes."""
+        return self.services(pair, True)
 
     def any(self, pair: Pair) -> Numbers:
-        return joined(each for part in self.pairs.get(pair, ()) for each in part.services)
+        """Returns the services of which some packet passes."""
+        return self.services(pair, False)
+
+    def services(self, pair: Pair, is_whole: bool) -> Numbers:
+        if (pair, is_whole) not in self.joined:
+            self.joined[pair, is_whole] = joined(each for part in self.pairs.get(pair, ())
+                                                 if part.dropped is None or not is_whole for each in part.services)
+        return self.joined[pair, is_whole]
 
     def meets(self, pair: Pair, services: Numbers) -> bool:
         """Whether some packet of the services passes."""
@@ -101,23 +119,27 @@ def encoded(text: str) -> bytes:
 
 def flows_of(answer: dict[str, Any], text: str) -> Flows:
     """Returns an answer on a text."""
-    places = places_of(text)
-    return Flows({(each['from'], each['to']): [range_of(part, places) for part in each['services']]
+    places, known = places_of(text), dict[tuple[tuple[str, int], ...], tuple[int, ...]]()
+    return Flows({(each['from'], each['to']): [range_of(part, places, known) for part in each['services']]
                   for each in answer['pairs']})
 
 
-def range_of(part: dict[str, Any], places: Places) -> Range:
-    rules = [(each['chain'], each['rule']) for each in part.get('rules', [])]
-    if not places.keys() >= set(rules):
-        raise Stopped('the answer of topos-query names a rule that the text does not have')
-    lines = {places[place] for place in rules} | ({POLICY} if part.get('default') else set())
-    drops = None if part['drops'] is None else event_of(part['drops'])
+def range_of(part: dict[str, Any], places: Places, known: dict[tuple[tuple[str, int], ...], tuple[int, ...]]) -> Range:
+    """Returns a range of an answer; `known` has the lines of the rules that were asked for."""
+    rules = tuple([(each['chain'], each['rule']) for each in part.get('rules', ())])
+    if rules not in known:
+        if not places.keys() >= set(rules):
+            raise Stopped('the answer of topos-query names a rule that the text does not have')
+        known[rules] = tuple(sorted({places[place] for place in rules}))
+    lines = (POLICY, *known[rules]) if part.get('default') else known[rules]
     passes = part['passes']
-    return Range(((number_of(part['low']), number_of(part['high'])),), event_of(passes), drops, tuple(sorted(lines)),
-                 number_of([passes['proto'], passes['dport']]))
+    return Range(((number_of(part['low']), number_of(part['high'])),), passes, part['drops'], lines,
+                 number_of((passes['proto'], passes['dport'])))
 
 
-def event_of(packet: dict[str, Any]) -> str:
+def event_of(packet: Packet) -> str:
     """Returns a packet as the line of an events file."""
+    if isinstance(packet, str):
+        return packet
     protocol = PROTOCOLS.get(packet['proto'], packet['proto'])
     return f'packet {packet["src"]} {packet["dst"]} {protocol} {packet["sport"]} {packet["dport"]}'

@@ -42,7 +42,7 @@ class Groups:
         self.listing = listing
         self.found: dict[Opening, Group] = {}
         for pair in listing.pairs():
-            whole = [part for part in listing.upper.pairs.get(pair, ()) if part.drops is None]
+            whole = [part for part in listing.upper.pairs.get(pair, ()) if part.dropped is None]
             for parts, is_whole in ((whole, True), (listing.parts(pair), False)):
                 for lines, ranges in grouped(parts).items():
                     self.add(pair, lines, ranges, is_whole)

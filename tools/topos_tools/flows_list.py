@@ -55,7 +55,7 @@ class Listing:
             yield from rules.dead(each.rule.line, each.takers)
 
     def parts(self, pair: Pair) -> list[Range]:
-        return [part for part in self.upper.pairs.get(pair, ()) if part.drops is not None]
+        return [part for part in self.upper.pairs.get(pair, ()) if part.dropped is not None]
 
     def entries(self, pair: Pair) -> Iterator[str]:
         """Yields the entry of a pair, and comments on what passes in part."""
@@ -73,7 +73,7 @@ class Listing:
 
     def notes(self, pair: Pair, listed: Numbers) -> Iterator[str]:
         """Yields the notes behind an entry."""
-        yield lines_text({line for part in self.upper.pairs[pair] if self.has_parts or part.drops is None
+        yield lines_text({line for part in self.upper.pairs[pair] if self.has_parts or part.dropped is None
                           for line in part.lines})
         interface = self.interfaces.get(pair[0] or '')
         if interface and interface == self.interfaces.get(pair[1] or ''):

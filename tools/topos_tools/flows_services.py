@@ -1,4 +1,7 @@
 """Services as sets of numbers: 65,536 times the protocol, plus the destination port."""
+import functools
+from collections.abc import Sequence
+
 from .import_sets import MOST_PORT, MOST_PROTOCOL, Numbers, complement, difference, intersection, is_subset, joined
 
 PORTS = MOST_PORT + 1
@@ -10,7 +13,7 @@ OTHER_NAMES = {47: 'gre', 50: 'esp', 51: 'ah', 132: 'sctp'}
 MOST_OF_FLOW = 16  # services of a flow in a description
 
 
-def number_of(service: list[int]) -> int:
+def number_of(service: Sequence[int]) -> int:
     """Returns the number of a service of an answer: protocol and port."""
     return service[0] * PORTS + service[1]
 
@@ -71,6 +74,7 @@ def other_words(services: Numbers) -> list[str]:
     return words
 
 
+@functools.cache
 def brief_services(services: Numbers) -> str:
     """Returns the services for a reader, or those that are missing if these are fewer."""
     missing = complement(services, MOST_SERVICE)

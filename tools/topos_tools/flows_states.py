@@ -18,7 +18,8 @@ def readings(text: str, save: Save) -> list[Save]:
 
     The other states take the places of `NEW` and `ESTABLISHED`.
     """
-    return [read_again(text, save, ()), *(read_again(text, save, states) for states in OTHER_STATES)]
+    own = read_again(text, save, ()) if save.context.is_syn_first else save
+    return [own, *(read_again(text, save, states) for states in OTHER_STATES)]
 
 
 def read_again(text: str, save: Save, states: tuple[str, ...]) -> Save:

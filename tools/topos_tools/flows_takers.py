@@ -78,6 +78,17 @@ class Way:
                 waiting += self.callers.get(chain, ())
         return self.arrives('FORWARD', self.rules[line].pieces)
 
+    def covering(self, line: int) -> set[int] | None:
+        """Returns the lines above in its chain that take all packets of a rule by themselves; None if it has none."""
+        parts, found = self.rules[line].pieces, set[int]()
+        for step in self.steps[self.chains[line]] if parts else ():
+            if step.rule.line == line:
+                break
+            sure = [piece for piece in step.pieces if not piece.doubts and step.action is not Action.JUMP]
+            if all(any(piece.covers(part) for piece in sure) for part in parts):
+                found.add(step.rule.line)
+        return found if parts else None
+
     def spend(self, count: int) -> None:
         self.count += count
         if self.count > MOST_STEPS:
@@ -155,14 +166,17 @@ class Takers:
     def taking(self, line: int) -> list[int] | None:
         if not any(way.is_led(line) for way in self.ways):
             return []
+        alone = set.intersection(*(found for way in self.ways if (found := way.covering(line)) is not None))
+        if alone:
+            return [min(alone)]
         for way in self.ways:
             way.taken.clear()
         if self.arriving(line, lambda each: True):
             return None
         taken = list(dict.fromkeys(each for way in self.ways for each in way.taken))
-        alone = next((each for each in taken if not self.arriving(line, {each}.__contains__)), None)
-        if alone is not None:
-            return [alone]
+        single = next((each for each in taken if not self.arriving(line, {each}.__contains__)), None)
+        if single is not None:
+            return [single]
         for each in taken[:] if len(taken) <= MOST_REDUCED else ():
             others = {other for other in taken if other != each}
             if not self.arriving(line, others.__contains__):

@@ -1,4 +1,5 @@
 """Writes rules that `topos` reads: a rule of products becomes lines with single prefixes and ranges."""
+import functools
 import itertools
 import math
 import re
@@ -43,6 +44,7 @@ class Factor(NamedTuple):
         return len(self.choices) > 1
 
 
+@functools.cache
 def address_factor(addresses: Numbers, flag: str, may_except: bool) -> Factor:
     """Returns the shorter of the list of the prefixes and the list of those outside."""
     if addresses == ALL_ADDRESSES:
