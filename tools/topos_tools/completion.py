@@ -76,13 +76,25 @@ def expected(usage: Usage, words: list[str]) -> Iterator[str]:
             yield plain[len(before)]
 
 
-def usage_of(command: str) -> Usage:
+def own_command(name: str) -> str | None:
+    """Returns the path of a tool of this installation or repository: the file that is typed may be of anybody."""
+    above = os.path.dirname(os.path.dirname(os.path.realpath(__file__)))
+    base = os.path.dirname(above)
+    folders = [os.path.join(os.path.dirname(base), 'bin')] if os.path.basename(above) == 'topos' else [
+        above, os.path.join(base, 'load')]
+    paths = (os.path.join(folder, name) for folder in folders)
+    return next((path for path in paths if os.path.isfile(path) and os.access(path, os.X_OK)), None)
+
+
+def usage_of(typed: str) -> Usage:
     """Asks a tool for its usage; the `topos` of a repository, which may build, is not run."""
-    name = os.path.basename(command)
+    name = os.path.basename(typed)
     if name in ('topos', 'topos-query'):
         topos = find_program(None)
-        command = topos if name == 'topos' else find_query(topos)
-    return Usage.read(name, printed([command, '--help']))
+        command: str | None = topos if name == 'topos' else find_query(topos)
+    else:
+        command = own_command(name)
+    return Usage.read(name, printed([command, '--help']) if command else '')
 
 
 def hosts(words: list[str]) -> list[str]:
