@@ -25,14 +25,15 @@ USAGE_TEXT = '''usage: topos-flows [--program TOPOS] [..] DESCRIPTION RULES
            lists what RULES let pass and DESCRIPTION does not permit, and the other way round
        topos-flows --hosts --interfaces FILE [..] RULES
            proposes hosts: the networks behind interfaces, and the addresses that rules single out
-       --interfaces FILE, --sets FILE, --syn   as of topos-import
+       --interfaces FILE, --sets FILE, --nft-list FILE, --syn   as of topos-import
        --json OUT          writes both lists as JSON too
        --in-part           with --list: lists services that pass in part as flows, too
        --omit SERVICES     leaves services out, as icmp,udp/123, except where all services pass
        --lower             lists what surely passes, in place of what may pass
        the program topos-query is that of TOPOS_QUERY, else the one beside topos, else that of the path
 '''
-VALUED = {'--program', '--interfaces', '--sets', '--json', '--omit'}
+INPUTS = ('--interfaces', '--sets', '--nft-list')
+VALUED = {'--program', *INPUTS, '--json', '--omit'}
 PLAIN = {'--against', '--hosts', '--in-part', '--list', '--lower', '--syn'}
 DIFFERS = 2
 
@@ -41,7 +42,8 @@ def read_save(text: str, values: dict[str, str], options: set[str]) -> Save | No
     """Returns the save, or None for a text that `topos-import` wrote."""
     if is_imported(text):
         return None
-    return import_save(text, values.get('--interfaces'), values.get('--sets'), '--syn' in options)
+    interfaces, sets, nft_list = map(values.get, INPUTS)
+    return import_save(text, interfaces, sets, '--syn' in options, nft_list)
 
 
 def propose(rules: str, values: dict[str, str], options: set[str]) -> int:
@@ -133,7 +135,7 @@ def main(values: dict[str, str], options: set[str], words: list[str]) -> int:
         need_words(words, 1, 'a file of rules is wanted')
         return propose(words[0], values, options)
     need_words(words, 2, 'a description and a file of rules are wanted')
-    keep_inputs([values.get('--json')], [*words, *map(values.get, ('--interfaces', '--sets'))])
+    keep_inputs([values.get('--json')], [*words, *map(values.get, INPUTS)])
     return list_flows(words, values, options)
 
 
