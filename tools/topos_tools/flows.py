@@ -36,6 +36,8 @@ INPUTS = ('--interfaces', '--sets', '--nft-list')
 VALUED = {'--program', *INPUTS, '--json', '--omit'}
 PLAIN = {'--against', '--hosts', '--in-part', '--list', '--lower', '--syn'}
 DIFFERS = 2
+MISPRINTED = ('all this is of the rules that iptables printed: it may print rules that nft made as other rules '
+              '(--nft-list decides)')
 
 
 def read_save(text: str, values: dict[str, str], options: set[str]) -> Save | None:
@@ -66,7 +68,8 @@ def omitted_services(values: dict[str, str]) -> Numbers:
 def notes_on(save: Save, owned: dict[str, Numbers]) -> list[str]:
     """Returns lines on hosts that rules split, on missing files, and on what the bounds leave out."""
     told = [*remedies(save, save.all_rules()), *caveats(save)]
-    return [*parts_of_hosts(save, owned), *map(plain, told)]
+    unsure = [] if save.is_checked else [MISPRINTED]
+    return [*unsure, *parts_of_hosts(save, owned), *map(plain, told)]
 
 
 @dataclass
