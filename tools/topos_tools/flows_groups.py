@@ -2,7 +2,7 @@
 from collections.abc import Iterator
 from dataclasses import dataclass, field
 
-from .flows_answer import Range
+from .flows_answer import Pair, Range
 from .flows_list import Listing, grouped
 from .flows_services import brief_services, size
 from .import_sets import Numbers, is_subset, joined
@@ -30,8 +30,10 @@ class Opening:
 
 @dataclass
 class Group:
-    """The pairs of hosts for which rules open the same, and an example."""
+    """Where rules open the same: between and within hosts, and between other addresses; and an example."""
     pairs: list[Ends] = field(default_factory=list)
+    hosts: list[str] = field(default_factory=list)
+    others: list[str] = field(default_factory=list)
     example: str = ''
 
 
@@ -40,21 +42,33 @@ class Groups:
 
     def __init__(self, listing: Listing) -> None:
         self.listing = listing
+        self.numbers = {host: number for number, host in enumerate(listing.hosts)}
         self.found: dict[Opening, Group] = {}
-        for pair in listing.pairs():
+        for pair in sorted(listing.upper.pairs, key=self.place_of):
             whole = [part for part in listing.upper.pairs.get(pair, ()) if part.dropped is None]
             for parts, is_whole in ((whole, True), (listing.parts(pair), False)):
                 for lines, ranges in grouped(parts).items():
                     self.add(pair, lines, ranges, is_whole)
 
-    def add(self, pair: Ends, lines: tuple[int, ...], ranges: list[Range], is_whole: bool) -> None:
+    def place_of(self, pair: Pair) -> tuple[int, int]:
+        """Returns a key of the order of hosts, in which the addresses of no host are the last."""
+        first, second = (len(self.numbers) if host is None else self.numbers[host] for host in pair)
+        return first, second
+
+    def add(self, pair: Pair, lines: tuple[int, ...], ranges: list[Range], is_whole: bool) -> None:
         services = joined(each for part in ranges for each in part.services)
         group = self.found.setdefault(Opening(lines, services, self.note(pair, services, is_whole)), Group())
-        group.pairs.append(pair)
+        if pair[0] is None or pair[1] is None:
+            ends = [host or 'no host' for host in pair]
+            group.others.append(f'from {ends[0]} to {ends[1]}: {{}}, as {ranges[0].passes}')
+        elif pair[0] == pair[1]:
+            group.hosts.append(pair[0])
+        else:
+            group.pairs.append((pair[0], pair[1]))
         if not (is_whole or group.example):
             group.example = f'{ranges[0].passes} passes, {ranges[0].drops} does not'
 
-    def note(self, pair: Ends, services: Numbers, is_whole: bool) -> str:
+    def note(self, pair: Pair, services: Numbers, is_whole: bool) -> str:
         if not is_whole:
             return 'in part' if self.listing.lower.meets(pair, services) else 'in part, in doubt'
         doubtful = self.listing.doubtful(pair, services)
@@ -74,6 +88,10 @@ class Groups:
                 yield from heads
             for senders, receivers in products(group.pairs):
                 yield f'  {arrow(senders, receivers, self.listing.hosts)}: {opening.told()}'
+            if group.hosts:
+                yield f'  within {told_hosts(group.hosts, self.listing.hosts)}: {opening.told()}'
+            for each in group.others:
+                yield f'  {each.format(opening.told())}'
             if group.example:
                 yield f'    {group.example}'
 
@@ -81,7 +99,7 @@ class Groups:
         """Returns the openings and all else that a reader of the rules has to know."""
         listing = self.listing
         return lines_text([*listing.head(rules.name, description), 'Below each rule is what it lets pass.',
-                           *self.lines(rules), *self.neighbours(), *listing.other_lines(rules), *notes])
+                           *self.lines(rules), *self.neighbours(), *listing.dead_lines(rules), *notes])
 
     def neighbours(self) -> Iterator[str]:
         """Yields a line for hosts behind one interface whose packets to each other the rules let pass."""
@@ -95,4 +113,5 @@ class Groups:
 
     def tree(self) -> list[dict[str, object]]:
         return [{'lines': list(opening.lines), 'services': brief_services(opening.services), 'note': opening.note,
-                 'flows': [list(pair) for pair in group.pairs]} for opening, group in self.ordered()]
+                 'flows': [list(pair) for pair in group.pairs], 'within': group.hosts}
+                for opening, group in self.ordered()]

@@ -51,6 +51,9 @@ class Listing:
         """Yields lines on what passes in other ways than between two hosts, and on dead rules."""
         yield from self.inner_lines()
         yield from self.nobody_lines()
+        yield from self.dead_lines(rules)
+
+    def dead_lines(self, rules: Rules) -> Iterator[str]:
         for each in self.dead:
             yield from rules.dead(each.rule.line, each.takers)
 
