@@ -125,7 +125,7 @@ def raw_packet(packet: Packet, phase: int, number: int) -> bytes:
         body = struct.pack('!HH', 0, 1) + bytes(12)
         content = struct.pack('!BBH', kind, 0, packets.checksum(struct.pack('!BBH', kind, 0, 0) + body)) + body
     else:
-        content = b'text'
+        content = bytes(12)  # a match of a protocol drops a packet that lacks its header
     whole: bytes = packets.header(event, len(content), number) + content
     return whole
 

@@ -19,7 +19,7 @@ REWRITES = {
 STOPPING = {'DROP', 'REJECT', 'policy DROP', 'TARPIT', 'QUEUE', 'NFQUEUE', 'SYNPROXY'}
 LONGEST = 110  # letters of a rule
 SIZE = f'more than {MOST_PIECES} parts, or another number of src and dst'
-SET = re.compile(r'set (?:--match-set )?([^-\s]\S*)')  # the name of a set in a doubt
+SET = re.compile(r'set ([^-\s]\S*)')  # the name of a set in a doubt
 MOST_COMPARED = 1000  # pieces of a chain, each with each
 
 
