@@ -36,6 +36,7 @@ INPUTS = ('--interfaces', '--sets', '--nft-list')
 VALUED = {'--program', *INPUTS, '--json', '--omit'}
 PLAIN = {'--against', '--hosts', '--in-part', '--list', '--lower', '--syn'}
 DIFFERS = 2
+NO_SAVE = 'dead rules are looked for in a save alone, and not in a text of topos-import'
 MISPRINTED = ('all this is of the rules that iptables printed: it may print rules that nft made as other rules '
               '(--nft-list decides)')
 
@@ -124,7 +125,7 @@ def list_flows(words: list[str], values: dict[str, str], options: set[str]) -> i
         lines = Differences(listing, permitted(programs, description, omitted), omitted, owned).text(rules)
         write_text(None, lines_text(lines or ['equal']))
         return DIFFERS if lines else 0
-    notes = [*found.notes(), *(notes_on(save, owned) if save else [])]
+    notes = [*found.notes(), *(notes_on(save, owned) if save else [NO_SAVE])]
     notes += [f'left out, except where all services pass: {values["--omit"]}'] if omitted else []
     form = listing.text if options & {'--list', '--in-part'} else Groups(listing).text
     write_text(None, form(rules, file_name(words[0]), notes))
