@@ -2,7 +2,7 @@
 from dataclasses import dataclass, field
 
 from .flows_against import Differences, permitted
-from .flows_answer import Flows, encoded, flows_of, is_imported, texts_of
+from .flows_answer import Flows, encoded, flows_of, is_imported, source_of, texts_of
 from .flows_dead import DeadRule, Search
 from .flows_groups import Groups
 from .flows_hosts import interfaces_of_hosts, owned_addresses, parts_of_hosts, proposal
@@ -118,7 +118,8 @@ def list_flows(words: list[str], values: dict[str, str], options: set[str]) -> i
         raise found.stopped
     listing = Listing(list(hosts), found.lower if '--lower' in options else found.upper, found.lower,
                       '--in-part' in options, interfaces_of_hosts(save, owned), found.dead)
-    rules = Rules(file_name(words[1]), {rule.line: shown(rule) for rule in save.all_rules()} if save else {})
+    texts = {rule.line: shown(rule) for rule in save.all_rules()} if save else {}
+    rules = Rules(file_name(words[1]), source_of(text) or file_name(words[1]), texts)
     if '--json' in values:
         write_text(values['--json'], data_text({**listing.tree(), 'by_rule': Groups(listing).tree()}))
     if '--against' in options:

@@ -12,6 +12,7 @@ from .query import Programs, Stopped
 Pair = tuple[str | None, str | None]  # None is for the addresses of no host
 Packet = dict[str, Any] | str  # as an answer has it, or as the line of an events file
 POLICY = 0  # in place of a line
+SOURCE = re.compile(rf'{MARK}\w+: forwards at .* what (.*) forwards\.\n')
 COMMENT = re.compile(r'-m comment --comment "line (\d+)')
 PROTOCOLS = {1: 'icmp', 6: 'tcp', 17: 'udp'}
 
@@ -93,6 +94,12 @@ def texts_of(text: str, save: Save | None) -> list[str]:
 
 def is_imported(text: str) -> bool:
     return text.startswith(MARK)
+
+
+def source_of(text: str) -> str:
+    """Returns the name of the save from which `topos-import` wrote a text, which has the lines of the save."""
+    found = SOURCE.match(text)
+    return found[1] if found else ''
 
 
 def places_of(text: str) -> Places:

@@ -37,7 +37,7 @@ class Listing:
     def text(self, rules: Rules, description: str, notes: list[str]) -> str:
         """Returns the list of flows as it goes into a description."""
         lines = [*(f'# {line}' for line in self.head(rules.name, description)),
-                 f'# Behind a flow are the lines of {rules.name} that let it pass.', 'flow = [']
+                 f'# Behind a flow are the lines of {rules.save} that let it pass.', 'flow = [']
         for pair in self.pairs():
             lines += self.entries(pair)
         return '\n'.join([*lines, ']', *(f'# {line}' for line in (*self.other_lines(rules), *notes)), ''])
