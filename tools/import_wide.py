@@ -36,8 +36,8 @@ TARGETS = (
     '-j MARK --set-xmark 0x1/0xffffffff', '-j CONNMARK --save-mark', '-j NFLOG --nflog-group 3', '-j TRACE',
     '-j AUDIT --type drop', '-j CLASSIFY --set-class 1:1', '-j NFQUEUE --queue-num 3 --queue-bypass',
     '-j NFQUEUE --queue-num 3')
-SET_OPTIONS = ('--return-nomatch', '--packets-gt 1', '--packets-eq 0', '--bytes-lt 50', '! --update-counters',
-               '! --packets-lt 2', '! --bytes-eq 9')
+SET_OPTIONS = ('--return-nomatch', '--return-nomatch', '--packets-gt 1', '--packets-gt 5', '--packets-eq 0',
+               '--bytes-lt 50', '! --update-counters', '! --packets-lt 2', '! --bytes-eq 9')
 NFT_CONDITIONS = (
     'ip saddr {network}', 'ip saddr != {network}', 'ip daddr {network}', 'ip saddr { {host}, {other} }',
     'ip daddr != { {host}, {other} }', 'ip saddr {host}-10.3.255.255', 'ip daddr > {host}',
@@ -61,8 +61,18 @@ class Wide(Chance):
     targets: Iterable[str] = ()
     sets: Iterable[tuple[str, str]] = ()  # names and directions
     kinds: Iterable[str] = ()  # types of sets that the kernel has
+    theme = ''  # what most rules have: sets, interfaces, or any matches
+
+    def save(self) -> str:
+        self.theme = self.choice(('sets', 'sets', 'interfaces', '', ''))
+        if self.theme == 'sets':
+            nets = [each for each in self.sets if each[0] == 's1']  # of networks, whose exceptions an option matches
+            self.sets = [*nets, *nets, *self.sample(list(self.sets), min(2, len(list(self.sets))))]
+        return super().save()
 
     def rule(self, chain: str, later: list[str], doubts: float) -> str:
+        if self.theme and self.random() < 0.6:
+            return f'-A {chain} {self.narrow()} -j {self.choice(("ACCEPT", "ACCEPT", "DROP", *later))}'
         protocol = self.choice(('tcp', 'tcp', 'udp', 'icmp', 'esp', 'sctp', '', '', '', '', '! udp'))
         words = [f'-A {chain}', *(self.ends() if self.random() < 0.6 else [])]
         if protocol:
@@ -72,6 +82,13 @@ class Wide(Chance):
         target = f'-{self.choice("jjjg")} {self.choice(later)}' if later and self.random() < 0.2 else (
             self.choice(list(self.targets)))
         return ' '.join(filter(None, [*words, target]))
+
+    def narrow(self) -> str:
+        """Returns a condition on a set alone, or on interfaces."""
+        if self.theme == 'sets' and self.sets:
+            return self.set_match()
+        ends = [f'{self.sign(0.3)}-{end} {self.choice(DEVICES)}' for end in self.choice(('i', 'i', 'o', 'io'))]
+        return ' '.join(ends)
 
     def match(self, protocol: str) -> str:
         kind = self.random()
@@ -88,8 +105,8 @@ class Wide(Chance):
     def set_match(self) -> str:
         name, directions = self.choice(list(self.sets))
         drawn = ','.join(self.choice(('src', 'dst')) for _ in directions)
-        option = f' {self.choice(SET_OPTIONS)}' if self.random() < 0.3 else ''
-        return f'-m set {self.sign(0.3)}--match-set {name} {drawn}{option}'
+        option = f' {self.choice(SET_OPTIONS)}' if self.random() < (0.6 if self.theme else 0.3) else ''
+        return f'-m set {self.sign(0.4)}--match-set {name} {drawn}{option}'
 
     # Sets.
 
@@ -102,7 +119,7 @@ class Wide(Chance):
             lines.append(f'create s{place} {kind} {" ".join([*SET_HEADS.get(kind, ()), *options])}')
             for _ in range(self.randint(1, 2 if kind == 'hash:mac' else 6)):
                 entry = ','.join(getattr(self, f'{part}_part')() for part in parts)
-                is_exception = 'net' in parts and self.random() < 0.3
+                is_exception = 'net' in parts and self.random() < 0.4
                 lines.append(f'add s{place} {entry}{" nomatch" if is_exception else ""}')
         lines.append('create s99 list:set')
         lines += [f'add s99 s{place}' for place in self.sample(range(3), 2)]
