@@ -171,7 +171,8 @@ CASES = (
     Case('-A FORWARD -j SYSRQ\n-A FORWARD -j DROP', {A: DOUBT}),
     Case('-A FORWARD -j LOG --log-prefix -j\n-A FORWARD -j ACCEPT', {A: DOUBT}),
     Case('-A FORWARD -m set --match-set w dst -j ACCEPT', {A: BOTH, SSH: NONE, DNS: NONE, ESP: NONE}, sets=SETS),
-    Case('-A FORWARD -m set ! --match-set w dst -j ACCEPT', {A: NONE, SSH: BOTH, DNS: BOTH, ESP: BOTH}, sets=SETS),
+    Case('-A FORWARD -m set ! --match-set w dst -j ACCEPT', {A: DOUBT, SSH: BOTH, DNS: BOTH, ESP: DOUBT}, sets=SETS),
+    Case('-A FORWARD -p tcp -m set ! --match-set w dst -j ACCEPT', {A: NONE, SSH: BOTH, DNS: NONE}, sets=SETS),
     Case('-A FORWARD -m set --match-set p src,dst -j ACCEPT', {A: BOTH, SSH: NONE, B: NONE, HIGH: NONE}, sets=SETS),
     Case('-A FORWARD -m set ! --match-set p src,dst -j ACCEPT', {A: NONE, SSH: BOTH, B: BOTH, ESP: BOTH}, sets=SETS),
     Case('-A FORWARD -m set --match-set p src,src -j ACCEPT', {A: NONE, HIGH: BOTH}, sets=SETS),
@@ -179,7 +180,7 @@ CASES = (
     Case('-A FORWARD -m set --match-set i src,dst,dst -j ACCEPT',
          {A: BOTH, SSH: NONE, PING: DOUBT, ESP: BOTH, B: NONE}, sets=SETS),
     Case('-A FORWARD -m set ! --match-set i src,dst,dst -j ACCEPT',
-         {A: NONE, SSH: BOTH, PING: DOUBT, ESP: NONE, B: BOTH}, sets=SETS),
+         {A: DOUBT, SSH: BOTH, PING: DOUBT, ESP: DOUBT, B: BOTH}, sets=SETS),
     Case('-A FORWARD -m set --match-set h src,dst -j ACCEPT', {A: BOTH, B: NONE, C: NONE}, sets=SETS),
     *(Case(f'-A FORWARD -m set --match-set {name} src,dst -j ACCEPT', {A: DOUBT}, sets=SETS) for name in 'ko'),
     *(Case(E_SAVE, {WEB: DOUBT}, routes) for routes in (

@@ -180,6 +180,8 @@ class RuleReader:
             before, parts = parts, []
             for protocols, allowed, is_sure in services_of(numbers):
                 found = restricted(restricted(before, 'protocols', protocols), PORTS_OF[direction], allowed)
+                if not all(is_written(part.protocols) for part in found):
+                    found, is_sure = before, False
                 parts += found if is_sure else in_doubt(found, reason)
         return parts
 
@@ -253,6 +255,12 @@ class RuleReader:
 
     def read_comment(self, given: Given) -> None:
         self.rule.comment = given.values[0]
+
+
+def is_written(protocols: Numbers) -> bool:
+    """Whether `topos` reads rules for the protocols: it has no `-p 0`."""
+    outside = complement(protocols, MOST_PROTOCOL)
+    return protocols[0][0] != 0 or not outside or len(outside) == 1 and outside[0][0] == outside[0][1]
 
 
 READERS: dict[str, Callable[[RuleReader, Given], None]] = {
