@@ -14,7 +14,7 @@ USAGE_TEXT = '''usage: topos-import [--interfaces FILE] [--sets FILE] [--syn] [-
        --interfaces FILE   networks behind interfaces: lines IFACE NET .., IFACE rest and IFACE rp_filter N, or what
                            ip -4 route show table all, ip -4 rule and sysctl printed
        --sets FILE         what ipset save printed
-       --nft-list FILE     what nft -t --debug=netlink list table ip filter printed
+       --nft-list FILE     what nft -t -d netlink list table ip filter printed
        --syn               assumes that a new TCP packet has SYN alone of FIN, SYN, RST and ACK
        --upper OUT         writes rules that forward at least what the box forwards
        --lower OUT         writes rules that forward at most what the box forwards
