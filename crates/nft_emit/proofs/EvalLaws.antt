@@ -14,7 +14,7 @@ use Rattle.nft_rules.specs.Semantics.{Decides, Gives, fits}
 use Rattle.nft_rules.specs.Semantics.Decides.{by_policy, by_next, by_accept, by_drop, by_goto}
 use Rattle.nft_emit.specs.inner.Building.{AreAccepting}
 
--- What follows a verdict of a rule, or no verdict: then the rules behind it decide.
+-- What follows a verdict of a rule, or no verdict: then the rules after it decide.
 abbrev pub Follows : List Chain → CtState → Packet → List Rule → Option Verdict → Bool → Type 0
 Follows chains state packet rules None passes = Decides chains state packet rules passes
 Follows chains state packet rules (Some Accept) passes = passes ≡ true

@@ -49,7 +49,7 @@ leads_some (e ∷ es) a = let later = leads_some es a in more_leads e es a (lies
 
 -- 2. The verdict of the map, and that of the owner.
 
--- The map has the verdict for an address: that of its owner, or none if the rule behind the map has the verdict of the owner.
+-- The map has the verdict for an address: that of its owner, or none if the rule after the map has the verdict of the owner.
 abbrev IsShown : (behind owned leads : Option Verdict) → Type 0
 IsShown behind owned (Some v) = shown behind owned ≡ Some v
 IsShown behind owned None = owned ≡ behind
@@ -96,7 +96,7 @@ leads_owner hosts verdicts cuts a None are low leads = elim (are.covered a low) 
 ]
 leads_owner hosts verdicts cuts a (Some v) are low leads = to_owner hosts (verdict_of verdicts (rest_of hosts)) verdicts cuts a v are.owned leads
 
--- 3. The rule behind the map.
+-- 3. The rule after the map.
 
 behind_only : (chains : List Chain) (state : CtState) (packet : Packet) (behind : Option Verdict) (passes : Bool)
     → Decides chains state packet (verdict_rules behind) passes → Ends chains state packet behind passes

@@ -87,7 +87,7 @@ fn push_element(
 }
 
 /// Returns the verdict of an element. A host without a verdict needs an element that drops only if
-/// the rule behind the map has a verdict.
+/// the rule after the map has a verdict.
 fn shown(behind: Option<Verdict>, verdict: Option<Verdict>) -> Option<Verdict>
     ensures { result ≡ shown behind verdict }
 {

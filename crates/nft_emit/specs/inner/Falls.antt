@@ -22,7 +22,7 @@ verdict_at verdicts j = option_and_then (λ v. v) (slice_get verdicts j)
 abbrev pub verdict_of : List (Option Verdict) → Option ℕ → Option Verdict
 verdict_of verdicts owner = option_and_then (verdict_at verdicts) owner
 
--- The verdict of an element, if the rule behind the map has the verdict `behind`.
+-- The verdict of an element, if the rule after the map has the verdict `behind`.
 abbrev pub shown : (behind verdict : Option Verdict) → Option Verdict
 shown behind (Some v) = Some v
 shown None None = None
