@@ -4,8 +4,8 @@
 
 mod chain;
 mod chains;
-mod filter;
 mod header;
+mod indexed_ruleset;
 mod jumps;
 mod loops;
 mod marks;
@@ -28,8 +28,8 @@ mod verdicts;
 mod walk;
 
 pub use chains::Chains;
-pub use filter::Filter;
 pub use host_net::Verdict;
+pub use indexed_ruleset::IndexedRuleset;
 pub use marks::{Marks, Place};
 pub use name::ChainName;
 pub use rule::{

@@ -13,7 +13,7 @@ use header_space::PacketBox;
 use host_net::{CtState, Packet, Verdict};
 
 impl Ruleset {
-    /// Returns the verdict on a packet that traverses `FORWARD` in this state. For many packets a `Filter` is
+    /// Returns the verdict on a packet that traverses `FORWARD` in this state. For many packets an `IndexedRuleset` is
     /// faster.
     pub fn verdict(&self, packet: &Packet, state: CtState) -> Verdict
         ensures { HasVerdict self.now packet.now state result }

@@ -10,7 +10,7 @@ ghost use Rattle.pkt_core.specs.Tracking.{Runs, no_connections};
 ghost use Rattle.report_core.specs.Trace.{IsTrace};
 
 use crate::line::push_answer;
-use ipt_rules::{Filter, Ruleset};
+use ipt_rules::{IndexedRuleset, Ruleset};
 use ofp_rules::{Frame, Table};
 use pkt_core::{Event, Track};
 use std::alloc::{AllocError, Global};
@@ -20,17 +20,21 @@ use std::alloc::{AllocError, Global};
 pub fn trace_rules(alloc: Global, rules: &Ruleset, events: &[Event]) -> Result<Vec<u8>, AllocError>
     ensures { IfOk result (λ text. IsTrace (Passes rules.now) events.now text.items) }
 {
-    let filter = Filter::of(alloc, rules, events.len())?;
-    trace_filter(alloc, &filter, events)
+    let indexed = IndexedRuleset::of(alloc, rules, events.len())?;
+    trace_indexed(alloc, &indexed, events)
 }
 
-fn trace_filter(alloc: Global, filter: &Filter<'_>, events: &[Event]) -> Result<Vec<u8>, AllocError>
-    ensures { IfOk result (λ text. IsTrace (Passes filter.now) events.now text.items) }
+fn trace_indexed(
+    alloc: Global,
+    indexed: &IndexedRuleset<'_>,
+    events: &[Event],
+) -> Result<Vec<u8>, AllocError>
+    ensures { IfOk result (λ text. IsTrace (Passes indexed.now) events.now text.items) }
 {
     let mut track = Track::new(alloc);
     let mut text = Vec::new(alloc);
     for (place, event) in events.iter().enumerate() {
-        let answer = answer(filter, &mut track, *event)?;
+        let answer = answer(indexed, &mut track, *event)?;
         push_answer(&mut text, place + 1, answer)?;
     }
     Ok(text)
@@ -50,15 +54,19 @@ pub fn trace_table(alloc: Global, table: &Table, events: &[Event]) -> Result<Vec
 
 /// Returns the result of one event, and tracks it: a run over the remaining events continues this
 /// run.
-fn answer(filter: &Filter<'_>, track: &mut Track, event: Event) -> Result<Option<bool>, AllocError>
+fn answer(
+    indexed: &IndexedRuleset<'_>,
+    track: &mut Track,
+    event: Event,
+) -> Result<Option<bool>, AllocError>
     ensures { IfOk result (λ answer. (events : List EventOf) (results : List (Option Bool))
-        → Runs (Passes filter.now) (kept_in track.new) events results
-        → Runs (Passes filter.now) (kept_in track.old) (event ∷ events) (answer ∷ results)) }
+        → Runs (Passes indexed.now) (kept_in track.new) events results
+        → Runs (Passes indexed.now) (kept_in track.old) (event ∷ events) (answer ∷ results)) }
 {
     match event {
         Event::Seen(packet) => {
             let connection = track.connection_of(&packet);
-            let verdict = filter.verdict(&packet, connection.state());
+            let verdict = indexed.verdict(&packet, connection.state());
             let passes = verdict.is_forward();
             track.step_in(connection, &packet, passes)?;
             Ok(Some(passes))

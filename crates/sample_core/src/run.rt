@@ -13,7 +13,7 @@ ghost use Rattle.emit_core.specs.Layout.{layout};
 use crate::packets::sample_packets;
 use emit_core::{NoChains, iptables_layout};
 use host_net::Packet;
-use ipt_rules::{Filter, Ruleset};
+use ipt_rules::{IndexedRuleset, Ruleset};
 use pkt_core::{FlowPolicy, Track};
 use std::alloc::{AllocError, Global};
 
@@ -37,8 +37,8 @@ pub(crate) fn run_counts(
 {
     let rules = rules_of(alloc, policy)?;
     let packets = sample_packets(alloc, count)?;
-    let filter = Filter::of(alloc, &rules, packets.len())?;
-    let forwarded = forwarded(alloc, &filter, &packets)?;
+    let indexed = IndexedRuleset::of(alloc, &rules, packets.len())?;
+    let forwarded = forwarded(alloc, &indexed, &packets)?;
     Ok(RunCounts {
         rules: rules.lines(),
         events: packets.len(),
@@ -60,13 +60,17 @@ fn rules_of(alloc: Global, policy: &FlowPolicy<'_>) -> Result<Ruleset, AllocErro
 }
 
 /// Returns the number of packets that are forwarded.
-fn forwarded(alloc: Global, filter: &Filter<'_>, packets: &[Packet]) -> Result<usize, AllocError>
-    ensures { IfOk result (AreForwarded (Passes filter.now) (map Seen packets.now)) }
+fn forwarded(
+    alloc: Global,
+    indexed: &IndexedRuleset<'_>,
+    packets: &[Packet],
+) -> Result<usize, AllocError>
+    ensures { IfOk result (AreForwarded (Passes indexed.now) (map Seen packets.now)) }
 {
     let mut track = Track::new(alloc);
     let mut count = 0;
     for (place, packet) in packets.iter().enumerate() {
-        let passes = is_forwarded(filter, &mut track, packet)?;
+        let passes = is_forwarded(indexed, &mut track, packet)?;
         count += one_if(passes);
     }
     Ok(count)
@@ -74,12 +78,16 @@ fn forwarded(alloc: Global, filter: &Filter<'_>, packets: &[Packet]) -> Result<u
 
 /// Whether the rules forward a packet. The packet is tracked: a run over the remaining packets
 /// continues this run.
-fn is_forwarded(filter: &Filter<'_>, track: &mut Track, packet: &Packet) -> Result<bool, AllocError>
+fn is_forwarded(
+    indexed: &IndexedRuleset<'_>,
+    track: &mut Track,
+    packet: &Packet,
+) -> Result<bool, AllocError>
     ensures { IfOk result (λ passes. (events : List Event) (results : List (Option Bool))
-        → Runs (Passes filter.now) (kept_in track.new) events results
-        → Runs (Passes filter.now) (kept_in track.old) (Seen packet.now ∷ events) (Some passes ∷ results)) }
+        → Runs (Passes indexed.now) (kept_in track.new) events results
+        → Runs (Passes indexed.now) (kept_in track.old) (Seen packet.now ∷ events) (Some passes ∷ results)) }
 {
-    let verdict = filter.verdict(packet, track.state_of(packet));
+    let verdict = indexed.verdict(packet, track.state_of(packet));
     let passes = verdict.is_forward();
     track.step(packet, passes)?;
     Ok(passes)

@@ -9,5 +9,5 @@ invariant-loop-place l = record {
   -- At most each packet was forwarded.
   few : l.count ≤ l.place;
   -- The number of forwarded packets among the remaining ones is added.
-  left : Leaves (Passes l.filter) l.packets (kept_in l.track) (drop l.place l.packets) l.count;
+  left : Leaves (Passes l.indexed) l.packets (kept_in l.track) (drop l.place l.packets) l.count;
 }

@@ -3,7 +3,7 @@ use Rattle.std.proofs.Common.{◌+◌, drop}
 use Rattle.ipt_rules.specs.Semantics.{Passes}
 use Rattle.pkt_core.specs.inner.ConnectionTable.{kept_in}
 use Rattle.report_core.proofs.Steps.{Leaves}
-use Rattle.report_core.proofs.run.trace_filter.Given as goal
+use Rattle.report_core.proofs.run.trace_indexed.Given as goal
 
 abbrev pub invariant-loop-place : goal.invariant-loop-place
-invariant-loop-place l = Leaves (Passes l.filter) l.events (kept_in l.track) (drop l.place l.events) (l.place + 1) l.text.items
+invariant-loop-place l = Leaves (Passes l.indexed) l.events (kept_in l.track) (drop l.place l.events) (l.place + 1) l.text.items

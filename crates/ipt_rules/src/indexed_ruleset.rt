@@ -1,4 +1,4 @@
-//! A filter: a rule set prepared to evaluate packets.
+//! A rule set with indexes of its rules, to evaluate many packets.
 
 ghost use Rattle.std.specs.Prelude.{◌≡◌, ◌<◌, ◌≤◌, IfOk, Some, None};
 ghost use Rattle.ipt_rules.specs.Semantics.{HasVerdictIn};
@@ -15,15 +15,15 @@ use std::marker::Model;
 /// An index of the rules pays off for more packets than this number.
 const FEW_PACKETS: usize = 64;
 
-/// A rule set that is prepared to evaluate packets.
+/// A rule set with indexes, to evaluate many packets.
 #[derive(Drop)]
-pub struct Filter<'a> {
+pub struct IndexedRuleset<'a> {
     rules: &'a Ruleset,
     /// An index of the addresses that the rules of each chain match on, or no indexes at all.
     indexes: Vec<TupleSpaceIndex>,
 }
 
-impl<'a> Model for Filter<'a> {
+impl<'a> Model for IndexedRuleset<'a> {
     ghost use Rattle.std.specs.Prelude.{List};
     ghost use Rattle.ipt_rules.specs.Chain.{Chain};
     ghost use Rattle.ipt_rules.specs.inner.Next.{AreIndexes};
@@ -35,9 +35,13 @@ impl<'a> Model for Filter<'a> {
     ghost invariant = { λ f. AreIndexes f.indexes.items f.rules.now };
 }
 
-impl<'a> Filter<'a> {
-    /// Returns the filter of these rules, for about this number of packets.
-    pub fn of(alloc: Global, rules: &'a Ruleset, packets: usize) -> Result<Filter<'a>, AllocError>
+impl<'a> IndexedRuleset<'a> {
+    /// Returns the rule set with indexes, if they pay off for this number of packets.
+    pub fn of(
+        alloc: Global,
+        rules: &'a Ruleset,
+        packets: usize,
+    ) -> Result<IndexedRuleset<'a>, AllocError>
         ensures { IfOk result (λ filter. filter ≡ rules.now) }
     {
         let indexes = if packets > FEW_PACKETS {
@@ -45,7 +49,7 @@ impl<'a> Filter<'a> {
         } else {
             Vec::new(alloc)
         };
-        Ok(Filter { rules, indexes })
+        Ok(IndexedRuleset { rules, indexes })
     }
 
     /// Returns its rules.

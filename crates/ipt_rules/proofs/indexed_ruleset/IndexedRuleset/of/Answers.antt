@@ -2,8 +2,8 @@ use Rattle.std.proofs.Common.{List, sym, ap, subst, ◌∙◌}
 use Rattle.host_net.specs.declared.tuple_space.TupleSpaceIndex.{TupleSpaceIndex}
 use Rattle.ipt_rules.specs.inner.Next.{AreIndexes}
 use Rattle.ipt_rules.proofs.NextLemmas.{no_indexes}
-use Rattle.ipt_rules.proofs.filter.Filter.of.Goals as goal
-use Rattle.ipt_rules.proofs.filter.Filter.of.Goals.{then-packets-gt-FEW_PACKETS+in_ok-indexes, else-packets-gt-FEW_PACKETS}
+use Rattle.ipt_rules.proofs.indexed_ruleset.IndexedRuleset.of.Goals as goal
+use Rattle.ipt_rules.proofs.indexed_ruleset.IndexedRuleset.of.Goals.{then-packets-gt-FEW_PACKETS+in_ok-indexes, else-packets-gt-FEW_PACKETS}
 
 pub invariant_of-result : goal.invariant_of-result
 invariant_of-result c = elim c.if-packets-gt-FEW_PACKETS.branch [

@@ -2,7 +2,7 @@ use Rattle.std.proofs.Common.{List, length, sym, ap, subst, arith, ◌∙◌}
 use Rattle.host_net.specs.declared.tuple_space.TupleSpaceIndex.{TupleSpaceIndex}
 use Rattle.ipt_rules.specs.inner.Next.{AreIndexes}
 use Rattle.ipt_rules.proofs.TableLaws.{has_built_in}
-use Rattle.ipt_rules.proofs.filter.Filter.verdict_in.Goals as goal
+use Rattle.ipt_rules.proofs.indexed_ruleset.IndexedRuleset.verdict_in.Goals as goal
 
 pub verdict_in-requires-clause-packets : goal.verdict_in-requires-clause-packets
 verdict_in-requires-clause-packets c =
