@@ -4,6 +4,7 @@
 
 mod chain;
 mod chains;
+mod chains_ref;
 mod header;
 mod indexed_ruleset;
 mod jumps;
@@ -28,6 +29,7 @@ mod verdicts;
 mod walk;
 
 pub use chains::Chains;
+pub use chains_ref::ChainsRef;
 pub use host_net::Verdict;
 pub use indexed_ruleset::IndexedRuleset;
 pub use marks::{Marks, Place};

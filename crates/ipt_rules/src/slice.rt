@@ -31,7 +31,7 @@ const MANY_RULES: u32 = 400_000;
 /// The part of a rule set that can decide packets of a box.
 #[derive(Drop)]
 pub struct Slice {
-    chains: Vec<Chain>,
+    pub(crate) chains: Vec<Chain>,
     rules: u32,
 }
 

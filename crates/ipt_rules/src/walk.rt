@@ -235,7 +235,7 @@ fn decided_verdict(chains: &[Chain], decider: Option<Place>) -> Option<Verdict>
 
 /// Returns the policy of a chain. A user chain has none.
 #[tactic(auto, using(crate::proofs::ChainLemmas::policy_of_read))]
-fn policy_of(chains: &[Chain], number: u16) -> Option<Policy>
+pub(crate) fn policy_of(chains: &[Chain], number: u16) -> Option<Policy>
     requires { number < length chains.now }
     ensures { result ≡ policy_of chains.now number }
 {
