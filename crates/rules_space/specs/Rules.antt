@@ -1,5 +1,5 @@
 -- The rules of both dialects, as filters.
-use Rattle.std.specs.Prelude.{List}
+use Rattle.std.specs.Prelude.{List, Option, Some, None}
 use Rattle.pkt_core.specs.Firewall.{Filter}
 use Rattle.ipt_rules.specs.Chain.{Chain}
 use Rattle.ipt_rules.specs.Semantics.{Passes as PassesChains}
@@ -15,3 +15,8 @@ pub data Rules : Type 0 where
 abbrev pub filter_of : Rules → Filter
 filter_of (Chains chains) = PassesChains chains
 filter_of (Entries entries) = PassesTable entries
+
+-- The chains of the rules. A flow table has none.
+abbrev pub chains_of : Rules → Option (List Chain)
+chains_of (Chains chains) = Some chains
+chains_of (Entries entries) = None

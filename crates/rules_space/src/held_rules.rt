@@ -3,14 +3,14 @@
 ghost use Rattle.std.specs.Prelude.{◌≡◌, IfOk, IfSome};
 ghost use Rattle.host_net.specs.declared.packet.Packet.{Packet};
 ghost use Rattle.header_space.specs.Boxes.{IsBox, IsIn, Narrows};
-ghost use Rattle.rules_space.specs.Rules.{Chains, filter_of};
+ghost use Rattle.rules_space.specs.Rules.{Chains, chains_of, filter_of};
 ghost use Rattle.rules_space.specs.RulesView.{rules_of};
 ghost use Rattle.rules_space.specs.Verdicts.{GivesOne, HaveSameVerdicts};
 
 use crate::rules_ref::RulesRef;
 use header_space::PacketBox;
 use host_net::CtState;
-use ipt_rules::Slice;
+use ipt_rules::{ChainsRef, Slice};
 use std::alloc::{AllocError, Global};
 use std::marker::Model;
 
@@ -61,6 +61,18 @@ impl<'a> HeldRules<'a> {
                 Held::Own(slice) => Held::Lent(slice),
                 Held::Lent(slice) => Held::Lent(slice),
             },
+        }
+    }
+
+    /// Returns the chains, if these are rules of a packet filter.
+    pub fn as_chains(&self) -> Option<ChainsRef<'_>>
+        ensures { result ≡ chains_of self.now }
+    {
+        match &self.held {
+            Held::Whole(RulesRef::Ipt(rules)) => Some(rules.as_chains()),
+            Held::Whole(RulesRef::Ofp(_)) => None,
+            Held::Own(slice) => Some(slice.as_chains()),
+            Held::Lent(slice) => Some(slice.as_chains()),
         }
     }
 
