@@ -1,0 +1,4 @@
+pub mod Finding
+pub mod Nodes
+pub mod Sets
+pub mod inner
