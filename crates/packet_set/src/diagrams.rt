@@ -1,6 +1,7 @@
 //! Decision diagrams that share their nodes.
 
 ghost use Rattle.std.specs.Prelude.{◌≡◌, ◌<◌, ◌≤◌, length, true, false, IfOk, IfErr, IfSome};
+ghost use Rattle.host_net.specs.declared.packet.Packet.{Packet};
 ghost use Rattle.packet_set.specs.Nodes.{has, next_of, node_at, AreNodes};
 ghost use Rattle.packet_set.specs.Sets.{combined, IsRefusedBy, IsSet, Keeps};
 ghost use Rattle.packet_set.specs.inner.Kept.{IsRight};
@@ -38,7 +39,7 @@ pub(crate) struct Entry {
 pub const NODE_LIMIT: usize = 1 << 20;
 
 /// The initial number of places for results.
-const FIRST_RESULTS: usize = 1 << 9;
+const FIRST_RESULTS: usize = 1 << 6;
 
 /// A result that holds in all diagrams, for a place without another result.
 const NO_RESULT: Entry = Entry {
@@ -95,6 +96,13 @@ impl Diagrams {
         // The use of this field makes the invariant known.
         let _nodes = &self.nodes;
         EMPTY
+    }
+
+    /// Whether a set is known to have no packets, by its number. Sets with other numbers may have no packets either.
+    pub fn is_empty(&self, set: u32) -> bool
+        ensures { result ≡ true → (p : Packet) → has self.now set p ≡ false }
+    {
+        set == EMPTY
     }
 
     /// Returns the set of all packets.
