@@ -2,7 +2,9 @@ mod AreaLemmas
 pub mod DeadLemmas
 mod MeetingLemmas
 mod NewPacketsLemmas
+mod NewServicesLaws
 pub mod PairLemmas
+mod PairSurveyLaws
 pub mod PlaceLaws
 mod RangeLemmas
 mod SurveyLemmas

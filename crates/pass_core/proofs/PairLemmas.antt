@@ -284,6 +284,12 @@ some_services Holds Between [] p is between held are =
     absurd ((are.not (service_of p) small).0 (λ kind lies. lies) p between refl held)
 some_services Holds Between (r ∷ rs) p is between held are = omega arith
 
+-- If no service passes, no packet passes.
+pub none_passing : (Holds Between : Packet → Type 0) (rs : List PassingRange) → ((p : Packet) → Between p → IsPacket p) → ArePassing Holds Between rs
+    → length rs ≡ 0 → (p : Packet) → Between p → Holds p → ⊥
+none_passing Holds Between rs packets are none p between held =
+    let some = some_services Holds Between rs p (packets p between) between held are in omega (arith, some, none)
+
 module _ (Holds : Packet → Type 0) (from sources to : List AddressRange) (are : AreSources Holds from sources) where
   pub into_pair : PassesSome Holds (GoesBetween sources to) → PassesSome Holds (GoesBetween from to)
   into_pair (p, goes, held) = (p, record { packet = goes.packet; src = are.within p.src goes.src; dst = goes.dst }, held)

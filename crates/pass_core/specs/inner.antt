@@ -4,6 +4,7 @@ pub mod Joining
 pub mod Listing
 pub mod Meeting
 pub mod Numbers
+pub mod PairSurveys
 pub mod Places
 pub mod Surveying
 pub mod Sweeping

@@ -173,7 +173,7 @@ fn passes_in<Q: Question>(alloc: Global, question: &Q, area: Area) -> Result<boo
 }
 
 /// Returns a range that contains all of the ranges.
-fn hull(ranges: &[AddressRange]) -> AddressRange
+pub(crate) fn hull(ranges: &[AddressRange]) -> AddressRange
     requires { All IsRange ranges.now }
     ensures range { IsRange result }
     ensures covers { (a : ℕ) → LiesInOne ranges.now a → LiesIn result a }
@@ -211,7 +211,7 @@ fn joined(left: AddressRange, right: AddressRange) -> AddressRange
 }
 
 /// Returns the range of all addresses.
-fn every_address() -> AddressRange
+pub(crate) fn every_address() -> AddressRange
     ensures { result ≡ every_address }
 {
     AddressRange {

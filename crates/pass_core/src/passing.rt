@@ -38,7 +38,7 @@ pub fn services_between<Q: Question>(
 }
 
 /// Appends the range of a survey, if packets of its services pass.
-fn append(ranges: &mut Vec<PassingRange>, found: &Survey) -> Result<(), AllocError>
+pub(crate) fn append(ranges: &mut Vec<PassingRange>, found: &Survey) -> Result<(), AllocError>
     ensures { IfOk result (λ _. Appends found.now ranges.old.items ranges.new.items) }
 {
     let Some(passes) = found.passes else {

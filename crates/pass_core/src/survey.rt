@@ -101,7 +101,7 @@ fn raised(within: &PacketBox, last: Service) -> PacketBox
 }
 
 /// Returns the last service that a box contains without a gap from its least service.
-fn last_alike(part: &PacketBox) -> Service
+pub(crate) fn last_alike(part: &PacketBox) -> Service
     requires { IsBox part.now }
     ensures low { service_of part.now.least ≤ number result }
     ensures inside { (f : Packet) → IsPacket f → service_of part.now.least ≤ service_of f → service_of f ≤ number result → HasService part.now f }

@@ -4,10 +4,10 @@ use Rattle.header_space.specs.Owners.{GoesBetween}
 use Rattle.rules_space.specs.Rules.{Rules}
 use Rattle.pass_core.specs.NewPackets.{LetsPass}
 use Rattle.pass_core.specs.Passing.{ArePassing}
-use Rattle.pass_core.proofs.passes_new.passing_between.Goals as goal
+use Rattle.pass_core.proofs.new_services.passing_between.Goals as goal
 
 pub returns : goal.returns
 returns c =
     subst
-    (λ (r : Rules). IfOk c.services_between-2.result (λ ranges. ArePassing (LetsPass r) (GoesBetween c.args.from.now c.args.to.now) ranges.items))
-    c.whole.ensures c.services_between-2.ensures
+    (λ (r : Rules). IfOk c.services-2.result (λ ranges. ArePassing (LetsPass r) (GoesBetween c.args.from.now c.args.to.now) ranges.items))
+    c.whole.ensures c.services-2.ensures
