@@ -71,6 +71,9 @@ class Flows:
 
     def without(self, omitted: Numbers) -> 'Flows':
         """Returns the flows without the services, which stay where all services pass."""
+        if not omitted:
+            return self
+
         def left(pair: Pair, parts: list[Range]) -> list[Range]:
             if self.whole(pair) == ALL_SERVICES:
                 return parts

@@ -18,17 +18,25 @@ def readings(text: str, save: Save) -> list[Save]:
 
     The other states take the places of `NEW` and `ESTABLISHED`.
     """
-    own = read_again(text, save, ()) if save.context.is_syn_first else save
-    return [own, *(read_again(text, save, states) for states in OTHER_STATES)]
+    chains = Tables(text).filters[-1].chains
+    own = read_again(chains, save, ()) if save.context.is_syn_first else save
+    return [own, *(read_again(chains, save, states) for states in OTHER_STATES)]
 
 
-def read_again(text: str, save: Save, states: tuple[str, ...]) -> Save:
-    found, table = copy.copy(save), Tables(text).filters[-1]
+def read_again(chains: dict[str, list[Given]], save: Save, states: tuple[str, ...]) -> Save:
+    """Reads the rules of a save for other states. A rule without an option of states is read alike."""
+    found = copy.copy(save)
     found.context, found.rules = replace(save.context, is_syn_first=False), {}
+    of_states = {line for rules in chains.values() for line, _, words in rules if any(map(is_of_states, words))}
     if states:
-        table.chains = {chain: [renamed(given, states) for given in rules] for chain, rules in table.chains.items()}
-    found.read_rules(table)
+        chains = {chain: [renamed(given, states) if given[0] in of_states else given for given in rules]
+                  for chain, rules in chains.items()}
+    found.read_rules(chains, {rule.line: rule for rule in save.all_rules() if rule.line not in of_states})
     return found
+
+
+def is_of_states(word: Word) -> bool:
+    return word.text in OF_TRACKED or word.text in STATE_OPTIONS
 
 
 def renamed(given: Given, states: tuple[str, ...]) -> Given:

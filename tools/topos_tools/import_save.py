@@ -167,14 +167,14 @@ class Save:
         self.misread = set(misread_lines(nft_list, lines) if nft_list is not None else ())
         self.rules: dict[str, list[Rule]] = {}
         try:
-            self.read_rules(table)
+            self.read_rules(table.chains, {})
         except TimedOut as stopped:
             stopped.part = self
             raise
         self.left = {chain: len(rules) for chain, rules in table.chains.items() if chain not in self.rules}
 
-    def read_rules(self, table: Filter) -> None:
-        """Reads the rules of `FORWARD`, and of each chain that a rule leads to."""
+    def read_rules(self, chains: dict[str, list[Given]], known: dict[int, Rule]) -> None:
+        """Reads the rules of `FORWARD`, and of each chain that a rule leads to. Some are known by their lines."""
         waiting = ['FORWARD']
         while waiting:
             chain = waiting.pop()
@@ -182,10 +182,10 @@ class Save:
                 continue
             rules: list[Rule] = []
             self.rules[chain] = rules
-            for given in table.chains[chain]:
+            for given in chains[chain]:
                 if given[0] % EACH == 0:
                     PROGRESS.doing = f'reading line {given[0]}'
-                rules.append(self.read_rule(given))
+                rules.append(known.get(given[0]) or self.read_rule(given))
             waiting += reversed(self.targets(chain))
 
     def read_rule(self, given: Given) -> Rule:
