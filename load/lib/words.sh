@@ -35,6 +35,7 @@ options
   --repair             load the flows that violate no invariant (topos repair), and list the omitted flows
   --every-flow         accept a description without the key `flow`, which requests every flow
   --log                log dropped packets, at most ten a minute for each rule: 'topos HOST: ' and the packet
+  --version            print the version of topos
   --verbose            print every note in full, also if an earlier load printed it
   --wait SECONDS       time limit for the confirmation: 60 by default, 0 to load without a confirmation
   --backend nft|legacy the back end of iptables; by default that of iptables-restore
@@ -50,6 +51,17 @@ exit status
   72 refused: this machine has no address of the host yet, 75 rolled back;
   of --check 1 if other rules are loaded; otherwise that of topos, which prints the reason
 END
+}
+
+# Prints the version: of the file that `packaging/install` writes, else that of the clone.
+print_version() {
+  local file=${self%/*/*}/lib/topos/version version=unknown
+  if [ -e "${self%/*}/lib/words.sh" ]; then
+    version=$("${self%/*/*}/packaging/version") || version=unknown
+  elif [ -r "$file" ]; then
+    version=$(<"$file")
+  fi
+  echo "topos-load of topos $version"
 }
 
 # Prints a message, without control characters: a file name may have codes for a terminal.
@@ -97,6 +109,7 @@ read_words() {
   while [ $# -gt 0 ]; do
     case $1 in
       --help) usage; exit 0 ;;
+      --version) print_version; exit 0 ;;
       --local) option[machine]=yes ;;
       --text) option[from]=text ;;
       --check | --remove | --clean | --confirm | --back | --guard) only_action "$1" ;;

@@ -402,8 +402,14 @@ class Tool:
             allow(values.pop(OPTION))
         if options.isdisjoint({'--help', '--version'}):
             return self.work(values, options, words)
-        write_text(None, self.usage if '--help' in options else f'{self.version}\n')
+        write_text(None, self.usage if '--help' in options else self.version_line())
         return 0
+
+    def version_line(self) -> str:
+        """Returns the version of the tool, of topos, and of the answers that are read."""
+        from .version import version
+        own, comma, answers = self.version.partition(',')
+        return f'{own} of topos {version()}{comma}{answers}\n'
 
     def run(self) -> None:
         """Runs the tool on the words of the command line, and ends the process with its status."""
