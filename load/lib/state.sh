@@ -67,7 +67,10 @@ end_broken_load() {
   run[was]=$(cat "${run[state]}/before") run[loaded]=$(cat "${run[state]}/rules")
   await_changes
   now=$(filter_now) || refuse "${run[save]} cannot read the table filter: nothing is changed"
-  if ! has_all "$now" "${run[loaded]}" || [ -z "${run[was]}" ]; then
+  if [ -z "${run[was]}" ]; then
+    say 'a load was interrupted, and the rules from before it are not known: no rollback'
+    rm -f "${run[state]}/armed"
+  elif ! has_all "$now" "${run[loaded]}"; then
     keep_old "${run[state]}/before"
     say "a load was interrupted, and its rules are no longer present:" \
       "the rules from before it are saved as ${run[kept_as]}"
