@@ -2,20 +2,22 @@
 # --check: the differences between the loaded rules and those that are asked for. What other rules do is a question for
 # topos-query. Writes run[folder]; reads `state`, `save` and `query` of run[..], option[..] and form[..].
 
-# Prints the differences, and a verdict as the last line; nothing if these rules are loaded.
+# Prints the differences, and a verdict as the last line; nothing if these rules are loaded. The status is 2 if they are
+# loaded and nobody has confirmed them.
 check_rules() {
-  local found around=''
+  local found around='' pending=''
   run[folder]=$(mktemp -d 2>/dev/null) || run[folder]=$(mktemp -d -p /run) || refuse 'cannot create a directory for the comparison'
   trap 'rm -rf "${run[folder]}"' EXIT
   write_rules "${run[folder]}/rules"
   save_filter "${run[folder]}/saved"
   without_logs "${run[folder]}/saved" >"${run[folder]}/now"
   if ! [ -s "${run[folder]}/now" ]; then refuse "cannot write ${run[folder]}: nothing is compared"; fi
-  tell_pending
+  if tell_pending; then pending=yes; fi
   found=$(out_of_force)
   if tell_surroundings; then around=yes; fi
   if is_same "${run[folder]}/now" "${run[folder]}/rules" && [ -z "$found" ]; then
-    if [ -n "${option[verbose]}$around" ]; then say "the ${form[wall]} has these rules"; fi
+    if [ -n "${option[verbose]}$around$pending" ]; then say "the ${form[wall]} has these rules"; fi
+    if [ -n "$pending" ]; then exit 2; fi
     return
   fi
   if [ -n "$found" ]; then say "$found"; fi
@@ -27,11 +29,12 @@ check_rules() {
   exit 1
 }
 
-# Prints that a load has not ended and does not await its confirmation.
+# Prints that nobody has confirmed a load yet, and why. Whether there is such a load.
 tell_pending() {
-  if ! is_pending "${run[state]}"; then return; fi
+  if ! is_pending "${run[state]}"; then return 1; fi
   if ! is_held "${run[state]}"; then say 'a load was interrupted before its confirmation: topos-load --back ends it'
   elif ! [ -e "${run[state]}/asked" ]; then say 'a load is in progress: topos-load --back ends it'
+  else say 'a load is awaiting confirmation (--confirm, --back)'
   fi
 }
 

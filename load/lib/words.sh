@@ -49,7 +49,8 @@ options
 exit status
   0 done, 64 usage error, 69 refused: nothing was changed, 71 the previous rules could not be restored,
   72 refused: this machine has no address of the host yet, 75 rolled back;
-  of --check 1 if other rules are loaded; otherwise that of topos, which prints the reason
+  of --check 1 if other rules are loaded, 2 if these rules are loaded without a confirmation yet; otherwise that of
+  topos, which prints the reason
 END
 }
 
