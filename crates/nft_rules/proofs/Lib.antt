@@ -1,0 +1,2 @@
+pub mod EvalLaws
+pub mod MapLaws

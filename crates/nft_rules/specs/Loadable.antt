@@ -1,7 +1,7 @@
 -- The tables that `nft -f` accepts and that `nft list table` prints with the same names (nft(8), "MAPS", "CHAINS", "LEXICAL CONVENTIONS"). nft
 -- rejects intervals of a map that overlap, an empty map, an empty range of ports, a `goto` to a chain that does not exist, a loop of
 -- chains, and an identifier with other characters.
-use Rattle.std.specs.Prelude.{◌≡◌, ◌≢◌, ℕ, ◌≤◌, ◌<◌, ◌+◌, ◌==◌, Bool, true, false, ◌&&◌, ◌||◌, nat_le, IsTrue, List, [], ◌∷◌, Option, Some, None, length, codes, slice_get}
+use Rattle.std.specs.Prelude.{◌≡◌, ◌≢◌, ℕ, ◌≤◌, ◌<◌, ◌+◌, ◌==◌, Bool, true, false, ◌&&◌, nat_le, IsTrue, List, [], ◌∷◌, Option, Some, None, length, codes, slice_get}
 use Rattle.std.specs.Char.{is_ascii_alphabetic}
 use Rattle.std.specs.List.{list_all, list_any}
 use Rattle.text_core.specs.Name.{is_name_byte}

@@ -1,0 +1,3 @@
+mod FirstLaws
+mod IntervalLaws
+mod OneLaws

@@ -1,0 +1,9 @@
+//! A table of nftables that can be loaded, and its verdict on packets and on boxes of packets.
+#![tactic(auto)]
+
+mod interval;
+mod loadable_table;
+mod rule;
+mod walk;
+
+pub use loadable_table::LoadableTable;
