@@ -1,1 +1,3 @@
 pub mod IntervalLaws
+mod NameLaws
+mod PieceLaws

@@ -1,1 +1,5 @@
 pub mod IntervalSteps
+pub mod LineSteps
+pub mod ReaderView
+pub mod ServedView
+pub mod TableSteps

@@ -19,7 +19,7 @@ pub fn read_interval(text: &[u8]) -> Option<AddressRange>
     read_exact(text)
 }
 
-fn read_exact(text: &[u8]) -> Option<AddressRange>
+pub(crate) fn read_exact(text: &[u8]) -> Option<AddressRange>
     ensures { result ≡ interval_of text.now }
 {
     match candidate(text) {

@@ -1,7 +1,14 @@
-//! A parser for the parts of a text of nftables, as `nft list table` prints them: intervals of
-//! addresses.
+//! A parser for the texts of nftables that `nft list table` prints: intervals of addresses, and whole
+//! tables that can be loaded.
 #![tactic(auto)]
 
+mod fault;
 mod interval;
+mod matches;
+mod reader;
+mod rule;
+mod verdict;
+mod words;
 
+pub use fault::{NftFault, NftWhy};
 pub use interval::read_interval;
