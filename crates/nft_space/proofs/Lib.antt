@@ -1,3 +1,5 @@
+mod CheckLaws
 mod FirstLaws
 mod IntervalLaws
+mod LoopLaws
 mod OneLaws

@@ -1,6 +1,7 @@
 //! A table of nftables that can be loaded, and its verdict on packets and on boxes of packets.
 #![tactic(auto)]
 
+mod check;
 mod interval;
 mod loadable_table;
 mod rule;

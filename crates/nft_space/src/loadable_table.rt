@@ -1,6 +1,6 @@
 //! A table that can be loaded.
 
-ghost use Rattle.std.specs.Prelude.{◌≡◌, Bool};
+ghost use Rattle.std.specs.Prelude.{◌≡◌, Bool, IfNone, IfOk, IfSome};
 ghost use Rattle.host_net.specs.declared.packet.Packet.{Packet};
 ghost use Rattle.host_net.specs.declared.packet.CtState.{CtState};
 ghost use Rattle.host_net.specs.Packet.{IsPacket};
@@ -8,10 +8,12 @@ ghost use Rattle.header_space.specs.Boxes.{IsBox, IsIn, Narrows};
 ghost use Rattle.nft_rules.specs.Loadable.{IsLoadable};
 ghost use Rattle.nft_rules.specs.Semantics.{Passes};
 
+use crate::check::is_loadable;
 use crate::walk::walk;
 use header_space::PacketBox;
 use host_net::{CtState, Packet};
 use nft_rules::Table;
+use std::alloc::{AllocError, Global};
 use std::marker::Model;
 
 /// A table that `nft -f` accepts. For each packet in each state it has one verdict.
@@ -38,6 +40,18 @@ impl LoadableTable {
         ensures { result ≡ table }
     {
         LoadableTable { table }
+    }
+
+    /// Returns the table as one that can be loaded, or `None` if it cannot be loaded.
+    pub fn checked(alloc: Global, table: Table) -> Result<Option<LoadableTable>, AllocError>
+        ensures some { IfOk result (λ checked. IfSome checked (λ own. own ≡ table)) }
+        ensures none { IfOk result (λ checked. IfNone checked (IsLoadable table → ⊥)) }
+    {
+        if is_loadable(alloc, &table)? {
+            Ok(Some(LoadableTable::of(table)))
+        } else {
+            Ok(None)
+        }
     }
 
     /// Returns the chains and rules.
