@@ -90,7 +90,7 @@ checked_said text (Some range) = by_test (bytes_eq text (range_text range)) refl
 pub interval_said : (text : List ℕ) (r : Option AddressRange) → r ≡ interval_of text → IfSome r (λ range. text ≡ range_text range)
 interval_said text r is = subst (λ (o : Option AddressRange). IfSome o (λ range. text ≡ range_text range)) (sym is) (checked_said text (candidate text))
 
-own_text : (range : AddressRange) → range.first < 2 ^ 32 → range.last < 2 ^ 32 → interval_of (range_text range) ≡ Some range
+pub own_text : (range : AddressRange) → range.first < 2 ^ 32 → range.last < 2 ^ 32 → interval_of (range_text range) ≡ Some range
 own_text range first last =
     ap (checked (range_text range)) (candidate_own range first last)
     ∙ ap (λ (b : Bool). some_if b range) (bytes_own (range_text range))

@@ -1,3 +1,6 @@
 pub mod IntervalLaws
+mod MatchRound
 mod NameLaws
 mod PieceLaws
+mod TableRound
+mod WordRound
