@@ -2,5 +2,7 @@ pub mod IntervalLaws
 mod MatchRound
 mod NameLaws
 mod PieceLaws
+mod ShapeLaws
 mod TableRound
+mod WholeLaws
 mod WordRound

@@ -1,7 +1,7 @@
 -- A printed rule is parsed.
-use Rattle.std.proofs.Common.{◌≡◌, ◌≢◌, ◌∙◌, ◌⊎◌, inl, inr, ◌+◌, ◌≤◌, ◌<◌, ◌^◌, ◌==◌, ◌&&◌, ◌||◌, not, ℕ, zero, suc, Bool, true, false, List, [], ◌∷◌, ◌++◌, append_assoc, Option, Some, None, length, refl, sym, ap, ap₂, subst, arith}
-use Rattle.std.specs.Prelude.{bytes_eq, codes, decimal, if◌then◌else◌, nat_eq, nat_le}
-use Rattle.std.specs.List.{AllByRecursion, concat, list_all}
+use Rattle.std.proofs.Common.{◌≡◌, ◌≢◌, ◌∙◌, ◌⊎◌, inl, inr, ◌<◌, ◌^◌, ◌==◌, ◌||◌, ℕ, Bool, true, false, List, [], ◌∷◌, ◌++◌, append_assoc, Option, Some, None, refl, sym, ap, ap₂, subst, arith}
+use Rattle.std.specs.Prelude.{codes, decimal, if◌then◌else◌, nat_eq, nat_le}
+use Rattle.std.specs.List.{AllByRecursion, concat}
 use Rattle.std.specs.Option.{option_and_then, option_map}
 use Rattle.std.proofs.lemmas.List.{append-nil}
 use Rattle.std.proofs.lemmas.Bool.{and_parts}
@@ -26,9 +26,9 @@ use Rattle.nft_rules.specs.declared.table.Verdict.TheVariants.{Accept, Drop, Got
 use Rattle.nft_rules.specs.Loadable.{IsRule, LeadBelow, LeadsBelow, are_ports, is_service_match}
 use Rattle.nft_text.specs.Text.{element_pieces, map_head, match_line, port_word, protocol_match, rule_pieces, service_match, state_text, verdict_text}
 use Rattle.nft_read.specs.Reading.{ElementFits, PortsFit, RuleFits, ServiceFits}
-use Rattle.nft_read.specs.Shape.{RuleShape, MapOf, MatchOf, rule_shape}
-use Rattle.nft_read.specs.inner.LineSteps.{after, elements_of, match_by, match_of, match_with, pieces, ports_by, ports_of, ports_with, rule_destination, rule_of, rule_source, served_of, served_ports, served_with, verdict_of, Served}
-use Rattle.nft_read.proofs.WordRound.{IsMark, Known, EndsWord, at_end, blank, body_lacks, body_read, body_text, line_end, map_body, verdict_lacks, verdict_read}
+use Rattle.nft_read.specs.Shape.{MapOf, MatchOf, rule_shape}
+use Rattle.nft_read.specs.inner.LineSteps.{after, match_of, match_with, ports_by, ports_of, ports_with, rule_destination, rule_of, rule_source, served_of, served_ports, served_with, verdict_of}
+use Rattle.nft_read.proofs.WordRound.{IsMark, Known, at_end, blank, body_lacks, body_read, body_text, line_end, map_body, verdict_lacks, verdict_read}
 
 -- ---- Ports
 
@@ -37,6 +37,7 @@ ports_lack m low high mark low_fits high_fits = by_same (low == high)
   where
     dashed : lacks m (45 ∷ decimal high) ≡ true
     dashed = rw mark.dash (decimal_lacks m high mark.digit high_fits)
+
     by_same : (b : Bool) → lacks m (if b then decimal low else decimal low ++ (codes "-" ++ decimal high)) ≡ true
     by_same true = decimal_lacks m low mark.digit low_fits
     by_same false = lacks-append m (decimal low) (45 ∷ decimal high) (decimal_lacks m low mark.digit low_fits) dashed
@@ -46,13 +47,16 @@ ports_read m low high = by_same (m.low == m.high) refl
   where
     low_read : number 65535 (decimal m.low) ≡ Some m.low
     low_read = number-decimal 65535 m.low (omega (arith, low)) (omega (arith, low))
+
     high_read : number 65535 (decimal m.high) ≡ Some m.high
     high_read = number-decimal 65535 m.high (omega (arith, high)) (omega (arith, high))
+
     single : m.low ≡ m.high → ports_of m.end (decimal m.low) ≡ Some m
     single same =
         ap (ports_by m.end (decimal m.low)) (split_once_none 45 (decimal m.low) (decimal_lacks 45 m.low refl (omega (arith, low))))
         ∙ ap₂ (ports_with m.end) low_read low_read
         ∙ ap (λ (h : ℕ). Some (record { end = m.end; low = m.low; high = h })) same
+
     by_same : (b : Bool) → (m.low == m.high) ≡ b
         → ports_of m.end (if b then decimal m.low else decimal m.low ++ (codes "-" ++ decimal m.high)) ≡ Some m
     by_same true is = single (let same : m.low ≡ m.high = grind (arith, nat_tests, is) in same)
@@ -69,8 +73,6 @@ protocol_cases proto is = by_test (proto == 6) refl is
     by_test : (b : Bool) → (proto == 6) ≡ b → (b || (proto == 17)) ≡ true → (proto ≡ 6) ⊎ (proto ≡ 17)
     by_test true six is = inl (let e : proto ≡ 6 = grind (arith, nat_tests, six) in e)
     by_test false six is = inr (let e : proto ≡ 17 = grind (arith, nat_tests, is) in e)
-
-
 
 name_cases : (proto : ℕ) → has_name proto ≡ true → (proto ≡ 1) ⊎ (has_ports proto ≡ true)
 name_cases proto is = by_test (proto == 1) refl is
@@ -97,10 +99,10 @@ served_some : (m : PortMatch) (proto : ℕ) (text : List ℕ) → PortsFit (Some
 served_some m proto text fits =
     let ports = ports_text m.low m.high in
     let cut : split_once 32 ((ports ++ codes " ") ++ text) ≡ Some (ports, text) =
-      ap (split_once 32) (append_assoc ports (codes " ") text)
-      ∙ split_once-append 32 ports text (ports_lack 32 m.low m.high blank (omega (arith, fits.0)) (omega (arith, fits.1))) in
+    ap (split_once 32) (append_assoc ports (codes " ") text)
+    ∙ split_once-append 32 ports text (ports_lack 32 m.low m.high blank (omega (arith, fits.0)) (omega (arith, fits.1))) in
     ap (λ (o : Option (List ℕ × List ℕ)).
-      option_and_then (λ parts. option_map (λ p. (Some (record { proto = proto; ports = Some p }), parts.1)) (ports_of m.end parts.0)) o) cut
+    option_and_then (λ parts. option_map (λ p. (Some (record { proto = proto; ports = Some p }), parts.1)) (ports_of m.end parts.0)) o) cut
     ∙ ap (λ (o : Option PortMatch). option_map (λ p. (Some (record { proto = proto; ports = Some p }), text)) o) (ports_read m fits.0 fits.1)
 
 -- The word for an end, without its first blank.
@@ -153,11 +155,11 @@ match_body all r = state_text r.established ++ (service_match r.service ++ verdi
 with_verdict : (names : List (List ℕ)) (all : List Chain) (n : ℕ) (established : Bool) (service : Option ServiceMatch) (v : Verdict) → Known names all n
     → LeadsBelow n v → is_service_match service ≡ true → ServiceFits service
     → option_and_then (match_with names established) (served_of (service_match service ++ verdict_text all v))
-      ≡ Some (record { established = established; service = service; verdict = v })
+    ≡ Some (record { established = established; service = service; verdict = v })
 with_verdict names all n established service v known leads is fits =
     ap (option_and_then (match_with names established)) (service_read all service v is fits)
     ∙ ap (λ o. option_map (λ verdict. record { established = established; service = service; verdict = verdict }) o)
-      (ap (verdict_of names) (sym (append-nil (verdict_text all v))) ∙ verdict_read names all n v [] at_end known leads)
+    (ap (verdict_of names) (sym (append-nil (verdict_text all v))) ∙ verdict_read names all n v [] at_end known leads)
 
 -- The first byte of what follows the state is neither that of a state nor that of a map.
 pub record BeginsOther (text : List ℕ) : Type 0 where
@@ -198,7 +200,7 @@ stateless names text begins =
 pub match_read : (names : List (List ℕ)) (all : List Chain) (n : ℕ) (established : Bool) (service : Option ServiceMatch) (v : Verdict) → Known names all n
     → LeadsBelow n v → is_service_match service ≡ true → ServiceFits service
     → match_of names (state_text established ++ (service_match service ++ verdict_text all v))
-      ≡ Some (record { established = established; service = service; verdict = v })
+    ≡ Some (record { established = established; service = service; verdict = v })
 match_read names all n true service v known leads is fits = with_verdict names all n true service v known leads is fits
 match_read names all n false service v known leads is fits =
     stateless names (service_match service ++ verdict_text all v) (served_begins all service v is)
@@ -219,7 +221,7 @@ tabbed names b rest other =
 pub tabs_read : (names : List (List ℕ)) (all : List Chain) (established : Bool) (service : Option ServiceMatch) (v : Verdict)
     → is_service_match service ≡ true
     → rule_of names (9 ∷ 9 ∷ (state_text established ++ (service_match service ++ verdict_text all v)))
-      ≡ option_map (λ r. MatchOf r) (match_of names (state_text established ++ (service_match service ++ verdict_text all v)))
+    ≡ option_map (λ r. MatchOf r) (match_of names (state_text established ++ (service_match service ++ verdict_text all v)))
 tabs_read names all true service v is = tabbed names 99 (codes "t state established " ++ (service_match service ++ verdict_text all v)) refl
 tabs_read names all false service v is =
     let begins = served_begins all service v is in

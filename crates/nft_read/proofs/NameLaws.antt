@@ -27,7 +27,7 @@ map_last f (y ∷ xs) x = ap (λ ys. f y ∷ ys) (map_last f xs x)
 pub keys_pushed : (keys : List (Vec ℕ Global)) (key : Vec ℕ Global) (name : List ℕ) → key.items ≡ name
     → position_from (bytes_eq name) 0 (map (λ (k : Vec ℕ Global). k.items) keys) ≡ None
     → map (λ (k : Vec ℕ Global). k.items) (if list_any (λ (k : Vec ℕ Global). bytes_eq key.items k.items) keys then keys else keys ++ key ∷ [])
-      ≡ map (λ (k : Vec ℕ Global). k.items) keys ++ name ∷ []
+    ≡ map (λ (k : Vec ℕ Global). k.items) keys ++ name ∷ []
 keys_pushed keys key name is none =
     let fresh = none_any (λ (k : Vec ℕ Global). bytes_eq name k.items) 0 keys (place_mapped (λ (k : Vec ℕ Global). k.items) (bytes_eq name) 0 keys ∙ none) in
     ap (λ (n : List ℕ). map (λ (k : Vec ℕ Global). k.items) (if list_any (λ (k : Vec ℕ Global). bytes_eq n k.items) keys then keys else keys ++ key ∷ [])) is

@@ -1,8 +1,8 @@
 -- The parts of a printed line are parsed: intervals, verdicts, elements.
-use Rattle.std.proofs.Common.{◌≡◌, ◌∙◌, ◌⊎◌, inl, inr, ◌+◌, ◌≤◌, ◌<◌, ◌^◌, ◌==◌, ◌&&◌, ◌||◌, not, ℕ, zero, suc, Bool, true, false, List, [], ◌∷◌, ◌++◌, append_assoc, Option, Some, None, length, refl, sym, ap, ap₂, subst, arith}
-use Rattle.std.specs.Prelude.{bytes_eq, codes, decimal, if◌then◌else◌, nat_eq, nat_le}
+use Rattle.std.proofs.Common.{◌≡◌, ◌∙◌, ◌<◌, ◌==◌, ℕ, Bool, true, false, List, [], ◌∷◌, ◌++◌, append_assoc, Option, Some, None, refl, sym, ap, ap₂, arith}
+use Rattle.std.specs.Prelude.{codes, decimal, if◌then◌else◌, nat_eq}
 use Rattle.std.specs.Char.{is_ascii_digit}
-use Rattle.std.specs.List.{AllByRecursion, concat, list_all, position_from}
+use Rattle.std.specs.List.{AllByRecursion, concat, list_all}
 use Rattle.std.specs.Option.{option_and_then, option_map}
 use Rattle.std.proofs.lemmas.List.{append-nil}
 use Rattle.std.proofs.lemmas.Bool.{and_parts}
@@ -20,10 +20,9 @@ use Rattle.nft_rules.specs.declared.table.Element.{Element}
 use Rattle.nft_rules.specs.declared.table.Verdict.{Verdict}
 use Rattle.nft_rules.specs.declared.table.Verdict.TheVariants.{Accept, Drop, Goto}
 use Rattle.nft_rules.specs.Loadable.{LeadBelow, LeadsBelow}
-use Rattle.nft_text.specs.Text.{after_element, element_pieces, element_text, interval_text, name_of, range_prefix, range_text, verdict_text}
+use Rattle.nft_text.specs.Text.{element_pieces, element_text, interval_text, name_of, range_prefix, range_text, verdict_text}
 use Rattle.nft_read.specs.Reading.{ElementFits}
-use Rattle.nft_read.specs.inner.IntervalSteps.{interval_of}
-use Rattle.nft_read.specs.inner.LineSteps.{after, element_of, element_parts, element_with, elements_of, index_of, pieces, plain_verdict, verdict_by, verdict_of, with_more, word}
+use Rattle.nft_read.specs.inner.LineSteps.{element_of, element_parts, element_with, elements_of, index_of, pieces, plain_verdict, verdict_of, with_more, word}
 use Rattle.nft_read.proofs.IntervalLaws.{own_text}
 use Rattle.nft_read.proofs.PieceLaws.{pieces_ended, pieces_whole}
 
@@ -62,6 +61,7 @@ range_lacks m range mark = by_prefix (range_prefix range)
     by_length : (p : Prefix) (b : Bool) → lacks m (if b then address_text p.addr else prefix_text p) ≡ true
     by_length p true = address_lacks m p.addr mark.digit mark.dot
     by_length p false = prefix_lacks m p mark
+
     by_prefix : (o : Option Prefix) → lacks m (interval_text range o) ≡ true
     by_prefix None =
         lacks-append m (address_text range.first) (45 ∷ address_text range.last) (address_lacks m range.first mark.digit mark.dot)
@@ -140,7 +140,7 @@ pub element_read : (names : List (List ℕ)) (all : List Chain) (n : ℕ) (e : E
 element_read names all n e tail ends known leads fits =
     let v = verdict_text all e.verdict in
     let shifted : (range_text e.range ++ (codes " : " ++ v)) ++ tail ≡ range_text e.range ++ (32 ∷ (codes ": " ++ (v ++ tail))) =
-      append_assoc (range_text e.range) (codes " : " ++ v) tail in
+    append_assoc (range_text e.range) (codes " : " ++ v) tail in
     ap (λ (text : List ℕ). option_and_then (element_parts names) (split_once 32 text)) shifted
     ∙ ap (option_and_then (element_parts names)) (split_once-append 32 (range_text e.range) (codes ": " ++ (v ++ tail)) (range_lacks 32 e.range blank))
     ∙ ap₂ element_with (own_text e.range fits.0 fits.1) (verdict_read names all n e.verdict tail ends known leads)
@@ -172,7 +172,7 @@ body_read names all n e [] known leads fits =
     ∙ ap (λ (o : Option Element). with_more o (Some [])) (element_read names all n e (codes " }") (at_blank (codes "}")) known leads.0 fits.0)
 body_read names all n e (f ∷ es) known leads fits =
     let here : element_of names (element_line all e) ≡ Some e =
-      ap (element_of names) (sym (append-nil (element_line all e))) ∙ element_read names all n e [] at_end known leads.0 fits.0 in
+    ap (element_of names) (sym (append-nil (element_line all e))) ∙ element_read names all n e [] at_end known leads.0 fits.0 in
     ap (elements_of names) (pieces_ended (element_line all e) (map_body all f es) (element_lacks 44 names all n e comma refl refl known leads.0))
     ∙ ap₂ with_more here (body_read names all n f es known leads.1 fits.1)
 

@@ -2,4 +2,5 @@ pub mod IntervalSteps
 pub mod LineSteps
 pub mod ReaderView
 pub mod ServedView
+pub mod Stops
 pub mod TableSteps

@@ -8,7 +8,9 @@ mod matches;
 mod reader;
 mod rule;
 mod verdict;
+mod whole;
 mod words;
 
 pub use fault::{NftFault, NftWhy};
 pub use interval::read_interval;
+pub use whole::{BYTE_LIMIT, read_table};

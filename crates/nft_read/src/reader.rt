@@ -1,16 +1,17 @@
 //! The lines of a table so far.
 
-ghost use Rattle.std.specs.Prelude.{◌≡◌, ◌<◌, ◌∷◌, ◌++◌, [], IfOk, None, length};
-ghost use Rattle.nft_read.specs.declared.reader.Phase.TheVariants.{Within};
-ghost use Rattle.nft_read.specs.Shape.{rule_shape};
-ghost use Rattle.nft_read.specs.inner.TableSteps.{closed, expected, names_of, opened, pushed, start, step, with_rule};
+ghost use Rattle.std.specs.Prelude.{◌≡◌, ◌<◌, ◌∷◌, ◌++◌, [], IfNone, IfOk, IfSome, None, length};
+ghost use Rattle.nft_read.specs.declared.reader.Phase.TheVariants.{Done, Within};
+ghost use Rattle.nft_rules.specs.declared.table.Table.{Table};
+ghost use Rattle.nft_read.specs.Shape.{rule_shape, table_shape};
+ghost use Rattle.nft_read.specs.inner.TableSteps.{closed, done_state, expected, names_of, opened, pushed, start, step, with_rule};
 ghost use Rattle.nft_read.specs.inner.LineSteps.{index_of};
 
 use crate::rule::read_rule;
 use crate::verdict::index_of;
 use crate::words::{after, word};
 use indexmap::IndexSet;
-use nft_rules::{Chain, Rule};
+use nft_rules::{Chain, Rule, Table};
 use std::alloc::{AllocError, Global};
 use std::marker::Model;
 
@@ -188,5 +189,19 @@ impl Reader {
         let mut reader = self;
         reader.rules.push(rule)?;
         Ok(reader)
+    }
+
+    /// Returns the table after its last line.
+    pub fn finish(self) -> Option<Table>
+        ensures some { IfSome result (λ table. done_state (table_shape table) ≡ self) }
+        ensures none { IfNone result ((table : Table) → done_state (table_shape table) ≡ self → ⊥) }
+    {
+        match self.phase {
+            Phase::Done if self.name.is_empty() => Some(Table {
+                forward: self.rules,
+                chains: self.chains,
+            }),
+            _ => None,
+        }
     }
 }

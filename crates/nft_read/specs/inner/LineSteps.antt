@@ -1,5 +1,5 @@
 -- Parsing the rules of a chain, step by step. What follows the last part of a line is not tested: the whole text is compared at the end.
-use Rattle.std.specs.Prelude.{◌≡◌, ℕ, Bool, true, false, ◌==◌, if◌then◌else◌, List, [], ◌∷◌, ◌++◌, Option, Some, None, length, take, drop, codes, bytes_eq}
+use Rattle.std.specs.Prelude.{ℕ, Bool, true, false, ◌==◌, if◌then◌else◌, List, [], ◌∷◌, Option, Some, None, length, take, drop, codes, bytes_eq}
 use Rattle.std.specs.List.{onto_first, position_from}
 use Rattle.std.specs.Option.{option_map, option_and_then}
 use Rattle.text_core.specs.inner.Decimal.{number}

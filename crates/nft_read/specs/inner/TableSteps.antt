@@ -1,9 +1,9 @@
 -- Parsing a table line by line.
-use Rattle.std.specs.Prelude.{ℕ, ◌==◌, Bool, true, false, if◌then◌else◌, List, [], ◌∷◌, ◌++◌, Option, Some, None, length, map, codes, bytes_eq, nat_lt}
+use Rattle.std.specs.Prelude.{ℕ, if◌then◌else◌, List, [], ◌∷◌, ◌++◌, Option, Some, None, length, map, codes, bytes_eq, nat_lt}
 use Rattle.std.specs.Option.{option_map, option_and_then}
 use Rattle.nft_read.specs.declared.reader.Phase.{Phase}
 use Rattle.nft_read.specs.declared.reader.Phase.TheVariants.{Start, Between, Base, Within, Blank, Forward, Closed, Done}
-use Rattle.nft_read.specs.Shape.{ChainShape, RuleShape}
+use Rattle.nft_read.specs.Shape.{ChainShape, RuleShape, TableShape}
 use Rattle.nft_read.specs.inner.LineSteps.{after, index_of, rule_of, word}
 
 -- The place in the text, the name and the rules of the current chain, and the chains before it.
@@ -62,3 +62,7 @@ step s line = step_in s.phase s line
 abbrev pub run : State → List (List ℕ) → Option State
 run s [] = Some s
 run s (line ∷ lines) = option_and_then (λ t. run t lines) (step s line)
+
+-- The state after the last line of a table.
+abbrev pub done_state : TableShape → State
+done_state shape = record { phase = Done; name = []; rules = shape.forward; chains = shape.chains }

@@ -1,4 +1,4 @@
-use Rattle.std.proofs.Common.{◌≡◌, ◌∙◌, ℕ, Vec, Global, sym}
+use Rattle.std.proofs.Common.{◌∙◌, ℕ, Vec, Global}
 use Rattle.std.specs.Prelude.{bytes_eq}
 use Rattle.std.proofs.lemmas.Iterator.Adapters.{position_from-zero}
 use Rattle.nft_read.proofs.NameLaws.{place_mapped}

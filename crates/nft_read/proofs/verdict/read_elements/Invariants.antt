@@ -1,4 +1,4 @@
-use Rattle.std.proofs.Common.{◌≡◌, ◌++◌, ℕ, List, Option, length, map}
+use Rattle.std.proofs.Common.{◌≡◌, ◌++◌, List, length, map}
 use Rattle.std.specs.Option.{option_map}
 use Rattle.nft_rules.specs.declared.table.Element.{Element}
 use Rattle.nft_read.specs.inner.LineSteps.{elements_of, pieces}

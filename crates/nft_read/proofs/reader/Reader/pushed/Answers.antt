@@ -1,4 +1,4 @@
-use Rattle.std.proofs.Common.{◌≡◌, ◌∙◌, ◌++◌, ◌≤◌, ◌<◌, ◌+◌, ℕ, suc, refl, List, [], ◌∷◌, Option, None, Vec, Global, map, length, length-append, sym, ap, subst, arith}
+use Rattle.std.proofs.Common.{◌≡◌, ◌∙◌, ◌++◌, ◌≤◌, ◌<◌, ◌+◌, ℕ, suc, refl, List, [], ◌∷◌, None, Vec, Global, map, length, length-append, sym, ap, subst, arith}
 use Rattle.std.specs.List.{position_from}
 use Rattle.std.specs.Prelude.{bytes_eq}
 use Rattle.nft_rules.specs.declared.table.Chain.{Chain}
@@ -32,7 +32,7 @@ invariant_of-result c =
       same =
           ap (λ (ks : List (Vec ℕ Global)). map (λ (k : Vec ℕ Global). k.items) ks) c.in_ok-insert.ensures.keys
           ∙ keys_pushed keys c.in_ok-key.key name (c.in_ok-key.ensures.items ∙ c.deref.ensures.value)
-            (ap (λ (ns : List (List ℕ)). position_from (bytes_eq name) 0 ns) c.self.invariant.same ∙ none)
+          (ap (λ (ns : List (List ℕ)). position_from (bytes_eq name) 0 ns) c.self.invariant.same ∙ none)
           ∙ ap (λ (ns : List (List ℕ)). ns ++ name ∷ []) c.self.invariant.same
           ∙ sym (names_pushed chains (record { name = c.self.inside.name; rules = c.self.inside.rules }))
           ∙ ap (λ (xs : List Chain). names_of (map chain_shape xs)) (sym c.in_ok-push.ensures.items);
