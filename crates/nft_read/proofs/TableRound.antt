@@ -1,9 +1,9 @@
 -- The text of a table is parsed, line by line.
 use Rattle.std.proofs.Common.{◌≡◌, ◌≢◌, ◌∙◌, ◌+◌, ◌≤◌, ◌<◌, ℕ, zero, suc, Bool, true, false, List, [], ◌∷◌, ◌++◌, append_assoc, Some, None, map, length, refl, sym, ap, subst, arith}
-use Rattle.std.specs.Prelude.{bytes_eq, codes, drop, nat_lt, slice_get}
+use Rattle.std.specs.Prelude.{bytes_eq, codes, drop, nat_lt, slice_get, if◌then◌else◌}
 use Rattle.std.specs.Bool.{Decides}
 use Rattle.std.specs.List.{AllByRecursion, concat, list_all, position_from}
-use Rattle.std.specs.Option.{option_and_then, option_map, option_map_or}
+use Rattle.std.specs.Option.{option_and_then, option_map_or}
 use Rattle.std.proofs.lemmas.List.{append-nil}
 use Rattle.std.proofs.lemmas.List.Folds.{concat-append}
 use Rattle.std.proofs.lemmas.Bool.Decides.{nat_tests}
@@ -21,15 +21,18 @@ use Rattle.nft_rules.specs.declared.table.Table.{Table}
 use Rattle.nft_rules.specs.declared.table.End.{End}
 use Rattle.nft_rules.specs.declared.table.End.TheVariants.{Source, Destination}
 use Rattle.nft_rules.specs.declared.table.Element.{Element}
-use Rattle.nft_rules.specs.Loadable.{AreDistinct, AreNamed, AreRules, IsChainName, LeadBack}
+use Rattle.nft_rules.specs.Loadable.{AreDistinct, AreNamed, AreRules, IsChainName, LeadBack, IsRule}
 use Rattle.nft_text.specs.Text.{chain_end, chain_head, chain_pieces, chains_pieces, forward_head, forward_pieces, name_of, rule_pieces, rules_pieces, table_end, table_head, table_text}
 use Rattle.nft_read.specs.declared.reader.Phase.{Phase}
 use Rattle.nft_read.specs.declared.reader.Phase.TheVariants.{Between, Base, Within, Blank, Forward, Closed, Done}
 use Rattle.nft_read.specs.Reading.{ChainFits, IsTable, RuleFits}
 use Rattle.nft_read.specs.Shape.{ChainShape, RuleShape, chain_shape, rule_shape, table_shape}
 use Rattle.nft_read.specs.inner.LineSteps.{index_of, word}
-use Rattle.nft_read.specs.inner.TableSteps.{State, closed_by, done_state, names_of, run, start, step, with_rule}
+use Rattle.nft_read.specs.inner.TableSteps.{State, closed_by, done_state, names_of, run, is_shape, start, step, with_rule, with_shape}
+use Rattle.nft_space.specs.inner.Checks.{is_chain_name}
+use Rattle.nft_space.proofs.CheckLaws.{name_decided, rule_decided}
 use Rattle.nft_read.proofs.NameLaws.{map_last}
+use Rattle.nft_read.proofs.ShapeTests.{shape_tested}
 use Rattle.nft_read.proofs.WordRound.{Known, at_blank, blank, line_end, name_lacks, word_read}
 use Rattle.nft_read.proofs.MatchRound.{map_line, rule_lacks, rule_line, rule_read, rule_text}
 
@@ -40,6 +43,12 @@ run_line : (s t : State) (l rest : List ℕ) → lacks 10 l ≡ true → step s 
 run_line s t l rest ended is = ap (run s) (lines_ended l rest ended) ∙ ap (λ o. option_and_then (λ u. run u (lines rest)) o) is
 
 -- ---- The rules of a chain
+
+valid_shape : (n : ℕ) (s : State) (r : Rule) → length s.chains ≡ n → IsRule n r → with_shape s (rule_shape r) ≡ Some (record s { rules = s.rules ++ rule_shape r ∷ [] })
+valid_shape n s r count is =
+    let valid : is_shape (length s.chains) (rule_shape r) ≡ true =
+    ap (λ k. is_shape k (rule_shape r)) count ∙ sym (shape_tested n r) ∙ (rule_decided n r).1 is in
+    rw valid refl
 
 data InChain : Phase → Type 0 where
   within : InChain Within
@@ -61,10 +70,10 @@ rule_open all (Map m) = map_open all m.end m.elements.items
 rule_open all (Match r) = refl
 
 rules_run : (all : List Chain) (n : ℕ) (p : Phase) (name : List ℕ) (chains : List ChainShape) → InChain p → Known (names_of chains) all n
-    → (rules : List RuleShape) (rs : List Rule) → AreRules n rs → AllByRecursion RuleFits rs → (rest : List ℕ)
+    → length chains ≡ n → (rules : List RuleShape) (rs : List Rule) → AreRules n rs → AllByRecursion RuleFits rs → (rest : List ℕ)
     → run (at p name rules chains) (lines (concat (rules_pieces all rs) ++ rest)) ≡ run (at p name (rules ++ map rule_shape rs) chains) (lines rest)
-rules_run all n p name chains inside known rules [] are fits rest = ap (λ xs. run (at p name xs chains) (lines rest)) (sym (append-nil rules))
-rules_run all n p name chains inside known rules (r ∷ rs) are fits rest =
+rules_run all n p name chains inside known count rules [] are fits rest = ap (λ xs. run (at p name xs chains) (lines rest)) (sym (append-nil rules))
+rules_run all n p name chains inside known count rules (r ∷ rs) are fits rest =
     let names = names_of chains in
     let more = concat (rules_pieces all rs) ++ rest in
     let text : concat (rule_pieces all r ++ rules_pieces all rs) ++ rest ≡ rule_line all r ++ (10 ∷ more) =
@@ -72,10 +81,11 @@ rules_run all n p name chains inside known rules (r ∷ rs) are fits rest =
     ∙ append_assoc (concat (rule_pieces all r)) (concat (rules_pieces all rs)) rest ∙ rule_text all n r more are.0 in
     let stepped : step (at p name rules chains) (rule_line all r) ≡ Some (at p name (rules ++ rule_shape r ∷ []) chains) =
     rule_step p name rules chains (rule_line all r) inside (rule_open all r)
-    ∙ ap (λ o. option_map (λ x. at p name (rules ++ x ∷ []) chains) o) (rule_read names all n r known are.0 fits.0) in
+    ∙ ap (option_and_then (with_shape (at p name rules chains))) (rule_read names all n r known are.0 fits.0)
+    ∙ valid_shape n (at p name rules chains) r count are.0 in
     ap (λ x. run (at p name rules chains) (lines x)) text
     ∙ run_line (at p name rules chains) (at p name (rules ++ rule_shape r ∷ []) chains) (rule_line all r) more (rule_lacks names all n r known are.0 fits.0) stepped
-    ∙ rules_run all n p name chains inside known (rules ++ rule_shape r ∷ []) rs are.1 fits.1 rest
+    ∙ rules_run all n p name chains inside known count (rules ++ rule_shape r ∷ []) rs are.1 fits.1 rest
     ∙ ap (λ xs. run (at p name xs chains) (lines rest)) (append_assoc rules (rule_shape r ∷ []) (map rule_shape rs))
 
 -- ---- A chain
@@ -96,7 +106,8 @@ head_step : (name : List ℕ) (chains : List ChainShape) → IsChainName name
 unfolding step
 head_step name chains named =
     rw (head_other name named)
-    (ap (λ w. Some (at Within w [] chains)) (word_read name (codes " {") (name_lacks 32 name blank named.bytes) (at_blank (codes "{"))))
+    (ap (λ w. if is_chain_name w then Some (at Within w [] chains) else None) (word_read name (codes " {") (name_lacks 32 name blank named.bytes) (at_blank (codes "{")))
+    ∙ rw ((name_decided name).1 named) refl)
 
 head_text : (name rest : List ℕ) → chain_head name ++ rest ≡ (codes "\tchain " ++ (name ++ codes " {")) ++ (10 ∷ rest)
 unfolding chain_head
@@ -138,7 +149,7 @@ chain_run all x chains rest known are fits named few fresh =
     ap (λ y. run (at Between [] [] chains) (lines y)) text
     ∙ run_line (at Between [] [] chains) (at Within name [] chains) (codes "\tchain " ++ (name ++ codes " {")) (concat pieces ++ behind)
     (head_lacks name named) (head_step name chains named)
-    ∙ rules_run all (length chains) Within name chains within known [] rs are fits behind
+    ∙ rules_run all (length chains) Within name chains within known refl [] rs are fits behind
     ∙ ap (λ y. run (at Within name (map rule_shape rs) chains) (lines y)) (end_text rest)
     ∙ run_line (at Within name (map rule_shape rs) chains) (at Blank [] [] (chains ++ chain_shape x ∷ [])) (codes "\t}") ([] ++ (10 ∷ rest)) refl
     (close_step name (map rule_shape rs) chains below fresh)
@@ -289,7 +300,7 @@ forward_run table is =
     (codes "\t\ttype filter hook forward priority filter; policy drop;" ++ (10 ∷ (concat pieces ++ (table_end ++ [])))) refl (base_step chains)
     ∙ run_line (at Base [] [] chains) (at Forward [] [] chains) (codes "\t\ttype filter hook forward priority filter; policy drop;")
     (concat pieces ++ (table_end ++ [])) refl (type_step chains)
-    ∙ rules_run all (length all) Forward [] chains forward known [] rs is.loadable.forward is.forward (table_end ++ [])
+    ∙ rules_run all (length all) Forward [] chains forward known (counted all) [] rs is.loadable.forward is.forward (table_end ++ [])
     ∙ ap (λ y. run (at Forward [] (map rule_shape rs) chains) (lines y)) table_end_text
     ∙ run_line (at Forward [] (map rule_shape rs) chains) (at Closed [] (map rule_shape rs) chains) (codes "\t}") (codes "}" ++ (10 ∷ [])) refl
     (last_step (map rule_shape rs) chains)

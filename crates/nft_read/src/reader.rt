@@ -4,7 +4,7 @@ ghost use Rattle.std.specs.Prelude.{◌≡◌, ◌<◌, ◌∷◌, ◌++◌, [],
 ghost use Rattle.nft_read.specs.declared.reader.Phase.TheVariants.{Done, Within};
 ghost use Rattle.nft_rules.specs.declared.table.Table.{Table};
 ghost use Rattle.nft_read.specs.Shape.{rule_shape, table_shape};
-ghost use Rattle.nft_read.specs.inner.TableSteps.{closed, done_state, expected, names_of, opened, pushed, start, step, with_rule};
+ghost use Rattle.nft_read.specs.inner.TableSteps.{closed, done_state, expected, names_of, opened, pushed, start, step, with_rule, with_shape};
 ghost use Rattle.nft_read.specs.inner.LineSteps.{index_of};
 
 use crate::rule::read_rule;
@@ -12,6 +12,7 @@ use crate::verdict::index_of;
 use crate::words::{after, word};
 use indexmap::IndexSet;
 use nft_rules::{Chain, Rule, Table};
+use nft_space::{is_chain_name, is_rule};
 use std::alloc::{AllocError, Global};
 use std::marker::Model;
 
@@ -122,7 +123,10 @@ impl Reader {
         }
         match after(b"\tchain ", line) {
             None => Ok(None),
-            Some(text) => Ok(Some(self.opened_as(alloc, word(text))?)),
+            Some(text) if is_chain_name(word(text)) => {
+                Ok(Some(self.opened_as(alloc, word(text))?))
+            }
+            Some(_) => Ok(None),
         }
     }
 
@@ -179,7 +183,19 @@ impl Reader {
     {
         match read_rule(alloc, &self.names, line)? {
             None => Ok(None),
-            Some(rule) => Ok(Some(self.with(rule)?)),
+            Some(rule) => self.with_valid(rule),
+        }
+    }
+
+    /// Adds a rule, if it is valid after the chains so far.
+    #[tactic(auto, using(crate::proofs::ShapeTests::shape_tested))]
+    fn with_valid(self, rule: Rule) -> Result<Option<Reader>, AllocError>
+        ensures { IfOk result (λ next. next ≡ with_shape self (rule_shape rule)) }
+    {
+        if is_rule(self.chains.len(), &rule) {
+            Ok(Some(self.with(rule)?))
+        } else {
+            Ok(None)
         }
     }
 

@@ -13,6 +13,7 @@ use Rattle.nft_rules.specs.declared.table.Element.{Element}
 use Rattle.nft_rules.specs.declared.table.Rule.{Rule}
 use Rattle.nft_rules.specs.declared.table.Rule.TheVariants.{Map, Match}
 use Rattle.nft_rules.specs.declared.table.Table.{Table}
+use Rattle.nft_rules.specs.declared.table.VerdictMap.{VerdictMap}
 use Rattle.nft_rules.specs.declared.table.Verdict.{Verdict}
 use Rattle.nft_rules.specs.declared.table.Verdict.TheVariants.{Accept, Drop, Goto}
 use Rattle.nft_rules.specs.Loadable.{AreDistinct, AreRules, AscendFrom, IsChainName, IsLoadable, IsRule, LeadBelow, LeadsBelow, begins_with_letter, is_service_match}
@@ -57,7 +58,7 @@ elements_decided n es =
 true_decided : (b : Bool) → Decides b (IsTrue b)
 true_decided b = (λ is. is, λ is. is)
 
-rule_decided : (n : ℕ) (rule : Rule) → Decides (is_rule n rule) (IsRule n rule)
+pub rule_decided : (n : ℕ) (rule : Rule) → Decides (is_rule n rule) (IsRule n rule)
 rule_decided n (Map m) = elements_decided n m.elements.items
 rule_decided n (Match r) =
     Decides-and (is_service_match r.service) (leads_below n r.verdict) (true_decided (is_service_match r.service)) (leads_decided n r.verdict)
@@ -68,7 +69,7 @@ rules_decided n (rule ∷ rules) = Decides-and (is_rule n rule) (are_rules n rul
 
 -- ---- Chains
 
-name_decided : (name : List ℕ) → Decides (is_chain_name name) (IsChainName name)
+pub name_decided : (name : List ℕ) → Decides (is_chain_name name) (IsChainName name)
 name_decided name =
     let other = Decides-not (bytes_eq name (codes "forward")) (bytes_eq-Decides name (codes "forward")) in
     let short = Decides-and (nat_le (length name) 128) (not (bytes_eq name (codes "forward"))) (le_decided (length name) 128) other in
@@ -245,3 +246,7 @@ seen_first keys key x xs added is tells new =
     ap (λ (b : Bool). are_distinct (map (λ (k : Vec ℕ Global). k.items) (if b then keys else keys ++ key ∷ [])) xs) fresh
     ∙ ap (λ (ns : List (List ℕ)). are_distinct ns xs) (map_last keys key ∙ ap (λ (n : List ℕ). map (λ (k : Vec ℕ Global). k.items) keys ++ n ∷ []) is)
     ∙ rw (seen_here keys key x added is tells ∙ new) refl
+
+pub map_decided : (n : ℕ) (rule : Rule) (m : VerdictMap) (b : Bool) → rule ≡ Map m → b ≡ are_elements n m.elements.items → Decides b (IsRule n rule)
+map_decided n rule m b is tested =
+    subst (λ (r : Rule). Decides b (IsRule n r)) (sym is) (subst (λ (t : Bool). Decides t (IsRule n (Map m))) (sym tested) (elements_decided n m.elements.items))

@@ -1,4 +1,4 @@
-mod CheckLaws
+pub mod CheckLaws
 mod FirstLaws
 mod IntervalLaws
 mod LoopLaws

@@ -1,8 +1,9 @@
 //! The test whether a table can be loaded.
 
 ghost use Rattle.std.specs.Prelude.{◌≡◌, ◌==◌, [], IfOk};
-ghost use Rattle.nft_rules.specs.Loadable.{are_ports, begins_with_letter, is_service_match};
+ghost use Rattle.nft_rules.specs.Loadable.{IsChainName, IsRule, are_ports, begins_with_letter, is_service_match};
 ghost use Rattle.nft_space.specs.inner.Checks.{are_chains, are_distinct, are_elements, are_rules, ascend_from, begins_later, is_chain, is_chain_name, is_loadable, is_rule, leads_below};
+ghost use Rattle.std.specs.Bool.{Decides};
 ghost use Rattle.std.specs.List.{list_all, list_any};
 ghost use Rattle.text_core.specs.Name.{is_name_byte};
 ghost use Rattle.host_net.specs.Service.{has_ports};
@@ -55,8 +56,11 @@ fn are_distinct(alloc: Global, chains: &[Chain]) -> Result<bool, AllocError>
     Ok(true)
 }
 
-fn is_chain_name(name: &[u8]) -> bool
-    ensures { result ≡ is_chain_name name.now }
+/// Whether nft takes the name for a chain besides the base chain.
+#[tactic(auto, using(crate::proofs::CheckLaws::name_decided))]
+pub fn is_chain_name(name: &[u8]) -> bool
+    ensures value { result ≡ is_chain_name name.now }
+    ensures decides { Decides result (IsChainName name.now) }
 {
     begins_with_letter(name)
         && has_underscore(name)
@@ -100,8 +104,11 @@ fn are_rules(below: usize, rules: &[Rule]) -> bool
     rules.iter().all(|rule| is_rule(below, rule))
 }
 
-fn is_rule(below: usize, rule: &Rule) -> bool
-    ensures { result ≡ is_rule below rule.now }
+/// Whether a rule is valid, and each `goto` of it leads to one of the first `below` chains.
+#[tactic(auto, using(crate::proofs::CheckLaws::rule_decided))]
+pub fn is_rule(below: usize, rule: &Rule) -> bool
+    ensures value { result ≡ is_rule below rule.now }
+    ensures decides { Decides result (IsRule below rule.now) }
 {
     match rule {
         Rule::Map(map) => are_elements(below, &map.elements),

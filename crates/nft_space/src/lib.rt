@@ -7,4 +7,5 @@ mod loadable_table;
 mod rule;
 mod walk;
 
+pub use check::{is_chain_name, is_rule};
 pub use loadable_table::LoadableTable;

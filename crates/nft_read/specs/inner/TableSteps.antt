@@ -1,9 +1,11 @@
 -- Parsing a table line by line.
-use Rattle.std.specs.Prelude.{ℕ, if◌then◌else◌, List, [], ◌∷◌, ◌++◌, Option, Some, None, length, map, codes, bytes_eq, nat_lt}
-use Rattle.std.specs.Option.{option_map, option_and_then}
+use Rattle.std.specs.Prelude.{ℕ, if◌then◌else◌, List, [], ◌∷◌, ◌++◌, Option, Some, None, length, map, codes, bytes_eq, nat_lt, Bool, ◌&&◌}
+use Rattle.std.specs.Option.{option_and_then}
+use Rattle.nft_rules.specs.Loadable.{is_service_match}
+use Rattle.nft_space.specs.inner.Checks.{are_elements, is_chain_name, leads_below}
 use Rattle.nft_read.specs.declared.reader.Phase.{Phase}
 use Rattle.nft_read.specs.declared.reader.Phase.TheVariants.{Start, Between, Base, Within, Blank, Forward, Closed, Done}
-use Rattle.nft_read.specs.Shape.{ChainShape, RuleShape, TableShape}
+use Rattle.nft_read.specs.Shape.{ChainShape, RuleShape, TableShape, MapOf, MatchOf}
 use Rattle.nft_read.specs.inner.LineSteps.{after, index_of, rule_of, word}
 
 -- The place in the text, the name and the rules of the current chain, and the chains before it.
@@ -25,7 +27,7 @@ expected s line text phase = if bytes_eq line text then Some (record s { phase =
 
 abbrev pub opened_by : State → Option (List ℕ) → Option State
 opened_by s None = None
-opened_by s (Some text) = Some (record s { phase = Within; name = word text; rules = [] })
+opened_by s (Some text) = if is_chain_name (word text) then Some (record s { phase = Within; name = word text; rules = [] }) else None
 
 abbrev pub opened : State → List ℕ → Option State
 opened s line = if bytes_eq line (codes "\tchain forward {") then Some (record s { phase = Base }) else opened_by s (after (codes "\tchain ") line)
@@ -42,8 +44,16 @@ closed_by s None = Some (pushed s)
 abbrev pub closed : State → Option State
 closed s = if nat_lt (length s.chains) 100000 then closed_by s (index_of (names_of s.chains) s.name) else None
 
+-- The rule is valid after n chains.
+abbrev pub is_shape : ℕ → RuleShape → Bool
+is_shape n (MapOf end es) = are_elements n es
+is_shape n (MatchOf r) = is_service_match r.service && leads_below n r.verdict
+
+abbrev pub with_shape : State → RuleShape → Option State
+with_shape s r = if is_shape (length s.chains) r then Some (record s { rules = s.rules ++ r ∷ [] }) else None
+
 abbrev pub with_rule : State → List ℕ → Option State
-with_rule s line = option_map (λ r. record s { rules = s.rules ++ r ∷ [] }) (rule_of (names_of s.chains) line)
+with_rule s line = option_and_then (with_shape s) (rule_of (names_of s.chains) line)
 
 abbrev pub step_in : Phase → State → List ℕ → Option State
 step_in Start s line = expected s line (codes "table ip topos {") Between
