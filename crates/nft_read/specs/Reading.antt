@@ -55,8 +55,8 @@ pub record IsReading (text : List ℕ) (table : Table) : Type 0 where
 abbrev pub BeginsTable : List (List ℕ) → Type 0
 BeginsTable front = (table : Table) × IsTable table × (behind : List (List ℕ)) × (lines (table_text table) ≡ front ++ behind)
 
--- Why a file is refused: it is too long; no text of a table begins with its lines up to this one; or each line is one of a text, but the
--- file is the text of no table. Line 0 stands for the whole file.
+-- Why a file is refused: it is too long; no text of a table begins with its lines up to this one; or it is the text of no table. Line 0
+-- stands for the whole file.
 abbrev pub HasCause : List ℕ → TextFault NftWhy → Type 0
 HasCause text (Refused line TooLong) = (line ≡ 0) × (byte_limit < length text)
 HasCause text (Refused line BadLine) = BeginsTable (take line (lines text)) → ⊥
