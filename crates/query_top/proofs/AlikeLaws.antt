@@ -1,7 +1,6 @@
 -- Two replies to a question by the same files are alike.
-use Rattle.std.proofs.Common.{◌≡◌, inl, inr, ℕ, List, Option, Some, true, false, refl, sym, ap, subst, ◌∙◌}
-use Rattle.std.specs.Prelude.{IfSome, Bool}
-use Rattle.std.specs.FinMap.{get}
+use Rattle.std.proofs.Common.{◌≡◌, inl, inr, ℕ, List, true, false, refl, sym, ap, subst, ◌∙◌}
+use Rattle.std.specs.Prelude.{Bool}
 use Rattle.change_core.specs.Changes.{AreChanges}
 use Rattle.edge_io.specs.Observable.{Files}
 use Rattle.host_net.specs.Host.{Host}
@@ -17,50 +16,20 @@ use Rattle.query_core.specs.FlowsJson.{flows_json}
 use Rattle.query_core.specs.Weakening.{IsWeakening}
 use Rattle.report_core.specs.FlowPolicies.{flow_policy_of}
 use Rattle.rules_space.specs.Rules.{Rules}
-use Rattle.topos_top.specs.CommandPlan.{CommandPlan, HoldsAtStop, ends, reads}
-use Rattle.topos_top.specs.Dialects.{rule_dialect_of}
-use Rattle.topos_top.specs.FileFormats.{format_of}
-use Rattle.topos_top.specs.Outcomes.{Answers, AnswersFirst, stream_of}
-use Rattle.topos_top.specs.Replies.{Replies, Stops, observable_shelf}
-use Rattle.topos_top.specs.Reply.{Reply}
-use Rattle.topos_top.specs.Shelf.{Shelf}
-use Rattle.topos_top.proofs.CommandPlanLaws.{stops_once, stops_or_read, told_once}
-use Rattle.topos_top.proofs.KindLaws.{IsSound, IsSound-Reads, reads_once}
+use Rattle.run_core.specs.Dialects.{rule_dialect_of}
+use Rattle.run_core.specs.Outcomes.{Answers, stream_of}
+use Rattle.run_core.specs.Replies.{Replies, RepliesTo, observable_shelf}
+use Rattle.run_core.specs.Reply.{Reply}
+use Rattle.run_core.proofs.CommandPlanLaws.{AreRelated, HoldsAtEnds, told_once, told_related}
+use Rattle.run_core.proofs.FormatLaws.{description_laws}
+use Rattle.query_top.proofs.PlainLaws.{plain_laws}
 use Rattle.query_top.specs.Changes.{IsChangesAnswer, changes_outcomes}
 use Rattle.query_top.specs.Command.{Changes, Command, Compare, Flows, Network, Why}
-use Rattle.query_top.specs.Commands.{plan_of}
+use Rattle.query_top.specs.Commands.{plan_of, topos_query}
 use Rattle.query_top.specs.Flows.{IsFlowsAnswer, flows_outcomes}
 use Rattle.query_top.specs.Promises.{AreAlike, AreAlikeFor}
-use Rattle.query_top.specs.Replies.{RepliesTo}
-use Rattle.query_top.proofs.CommandLaws.{settled, weaken_or_not}
+use Rattle.query_top.proofs.CommandLaws.{HasOneAnswer, settled, weaken_or_not}
 use Rattle.query_top.proofs.ParseLaws.{one_ask}
-
--- ---- the replies along a plan
-
--- Any two replies of the outcomes at the end of the plan are related.
-abbrev AreRelatedAlong : (Reply → Reply → Type 0) → CommandPlan → Type 0
-AreRelatedAlong R (reads kind file next) = (said : (format_of kind).Said) → IsSound kind said → AreRelatedAlong R (next said)
-AreRelatedAlong R (ends outcomes) = (r s : Reply) → Answers true outcomes r → Answers true outcomes s → R r s
-
-abbrev Told : CommandPlan → Shelf → Files → Reply → Type 0
-Told plan shelf files r =
-    HoldsAtStop (Unit {0}) plan shelf (λ kind file at. Stops kind file (get files file) r) (λ outcomes at. Answers true outcomes r × AnswersFirst outcomes r)
-
-told_related : (R : Reply → Reply → Type 0) → ((r s : Reply) → r ≡ s → R r s) → (plan : CommandPlan) (shelf other : Shelf) (files : Files) (r s : Reply)
-    → AreRelatedAlong R plan → shelf.told ≡ Some files → other.told ≡ Some files → Told plan shelf files r → Told plan other files s → R r s
-told_related R same (reads kind file next) shelf other files r s related told also (inl p) (inl q) = same r s (stops_once kind file (get files file) r s p q)
-told_related R same (reads kind file next) shelf other files r s related told also (inl p) (inr q) =
-    stops_or_read kind file q.bytes (get files file) r q.said (subst (λ (t : Option Files). IfSome t (λ fs. get fs file ≡ Some q.bytes)) also q.held) p q.read
-told_related R same (reads kind file next) shelf other files r s related told also (inr p) (inl q) =
-    stops_or_read kind file p.bytes (get files file) s p.said (subst (λ (t : Option Files). IfSome t (λ fs. get fs file ≡ Some p.bytes)) told p.held) q p.read
-told_related R same (reads kind file next) shelf other files r s related told also (inr p) (inr q) =
-    let a : get files file ≡ Some p.bytes = subst (λ (t : Option Files). IfSome t (λ fs. get fs file ≡ Some p.bytes)) told p.held in
-    let b : get files file ≡ Some q.bytes = subst (λ (t : Option Files). IfSome t (λ fs. get fs file ≡ Some q.bytes)) also q.held in
-    let bytes : q.bytes ≡ p.bytes = cc (a, b) in
-    let said : q.said ≡ p.said = reads_once kind p.bytes q.said p.said (subst (λ (bs : List ℕ). (format_of kind).Reads bs q.said) bytes q.read) p.read in
-    told_related R same (next p.said) p.after q.after files r s (related p.said (IsSound-Reads kind p.bytes p.said p.read)) (p.took.began.told ∙ told)
-    (q.took.began.told ∙ also) p.next (subst (λ (x : (format_of kind).Said). Told (next x) q.after files s) said q.next)
-told_related R same (ends outcomes) shelf other files r s related told also p q = related r s p.0 q.0
 
 -- ---- answers to `flows`
 
@@ -139,33 +108,41 @@ itself (Changes old new) r = record { status = refl; stream = refl; texts = inl 
 same_alike : (command : Command) (r s : Reply) → r ≡ s → AreAlike command r s
 same_alike command r s same = subst (AreAlike command r) same (itself command r)
 
+-- A question with one answer.
+one_alike : (command : Command) → HasOneAnswer command → (told : Files) (r s : Reply) → Replies true (plan_of command) told r → Replies true (plan_of command) told s
+    → AreAlike command r s
+one_alike command any told r s p q = same_alike command r s (told_once true (plan_of command) told r s (settled command any) p q)
+
+-- A question of whose answers any two are alike.
+each_alike : (command : Command) → HoldsAtEnds (AreRelated true (AreAlike command)) (plan_of command) → (told : Files) (r s : Reply)
+    → Replies true (plan_of command) told r → Replies true (plan_of command) told s → AreAlike command r s
+each_alike command related told r s p q =
+    told_related true (AreAlike command) (same_alike command) (plan_of command) (observable_shelf told) (observable_shelf told) told r s related refl refl p q
+
 replies_alike : (command : Command) (told : Files) (r s : Reply) → Replies true (plan_of command) told r → Replies true (plan_of command) told s
     → AreAlike command r s
-replies_alike (Why file from to) told r s p q =
-    same_alike (Why file from to) r s
-    (told_once true (plan_of (Why file from to)) (observable_shelf told) (observable_shelf told) told r s (settled (Why file from to) tt) refl refl p q)
-replies_alike (Network file) told r s p q =
-    same_alike (Network file) r s
-    (told_once true (plan_of (Network file)) (observable_shelf told) (observable_shelf told) told r s (settled (Network file) tt) refl refl p q)
-replies_alike (Compare dialect file rules) told r s p q =
-    same_alike (Compare dialect file rules) r s
-    (told_once true (plan_of (Compare dialect file rules)) (observable_shelf told) (observable_shelf told) told r s (settled (Compare dialect file rules) tt) refl
-    refl p q)
+replies_alike (Why file from to) told r s p q = one_alike (Why file from to) tt told r s p q
+replies_alike (Network file) told r s p q = one_alike (Network file) tt told r s p q
+replies_alike (Compare dialect file rules) told r s p q = one_alike (Compare dialect file rules) tt told r s p q
 replies_alike (Flows dialect file rules) told r s p q =
-    told_related (AreAlike (Flows dialect file rules)) (same_alike (Flows dialect file rules)) (plan_of (Flows dialect file rules)) (observable_shelf told)
-    (observable_shelf told) told r s
-    (λ d sound said reading. λ a b one other. flows_related (Flows dialect file rules) d.hosts ((rule_dialect_of dialect).audited said) a b
-    (λ text also alike status stream here there. record {
-      status = status;
-      stream = stream;
-      texts = inr (subst (AreAlikeFlows a.text) there (subst (λ (t : List ℕ). AreAlikeFlows t also) here alike));
-    }) one other) refl refl p q
+    each_alike (Flows dialect file rules) (
+      description_laws,
+      λ bytes d read. (
+        plain_laws dialect,
+        λ also said parsed. λ a b one other. flows_related (Flows dialect file rules) d.hosts ((rule_dialect_of dialect).audited said) a b
+            (λ text also alike status stream here there. record {
+              status = status;
+              stream = stream;
+              texts = inr (subst (AreAlikeFlows a.text) there (subst (λ (t : List ℕ). AreAlikeFlows t also) here alike));
+            }) one.0 other.0,
+      ),
+    ) told r s p q
 replies_alike (Changes old new) told r s p q =
-    told_related (AreAlike (Changes old new)) (same_alike (Changes old new)) (plan_of (Changes old new)) (observable_shelf told) (observable_shelf told) told r s
-    (λ before sound after also. λ a b one other. changes_related old new before after a b one other) refl refl p q
+    each_alike (Changes old new)
+    (description_laws, λ bytes before read. (description_laws, λ other after also. λ a b one same. changes_related old new before after a b one.0 same.0)) told r s p q
 
 -- Two replies to the words by the same files are alike.
-pub alike_law : (words : List (List ℕ)) (told : Files) (r s : Reply) → RepliesTo words told r → RepliesTo words told s → AreAlikeFor words r s
+pub alike_law : (words : List (List ℕ)) (told : Files) (r s : Reply) → RepliesTo topos_query words told r → RepliesTo topos_query words told s → AreAlikeFor words r s
 alike_law words told r s (inl p) (inl q) = inl (p.0, p.1 ∙ sym q.1)
 alike_law words told r s (inl p) (inr q) = absurd (p.0 q.0 q.1)
 alike_law words told r s (inr p) (inl q) = absurd (q.0 p.0 p.1)

@@ -9,15 +9,17 @@ use Rattle.query_core.proofs.WeakeningOnceLaws.{weakens_once}
 use Rattle.query_core.specs.Json.{is_nothing}
 use Rattle.query_core.specs.NetworkText.{IsNetworkText}
 use Rattle.query_core.specs.Weakening.{IsWeakening}
-use Rattle.topos_top.proofs.CommandLaws.{IsOwedAlong}
-use Rattle.topos_top.proofs.OutcomesLaws.{settled_writes}
+use Rattle.run_core.proofs.CommandPlanLaws.{HoldsAtEnds, holds_at_ends}
+use Rattle.run_core.proofs.FormatLaws.{description_laws}
+use Rattle.run_core.proofs.OutcomesLaws.{AreKept, IsSettled, settled_kept, settled_writes}
 use Rattle.query_top.specs.Command.{Command, Changes, Compare, Flows, Network, Why}
-use Rattle.query_top.specs.Changes.{IsChangesAnswer}
+use Rattle.query_top.specs.Changes.{IsChangesAnswer, changes_outcomes}
 use Rattle.query_top.specs.Commands.{plan_of}
 use Rattle.query_top.specs.Network.{IsNetworkAnswer}
 use Rattle.query_top.proofs.CompareLaws.{settled_comparison}
-use Rattle.query_top.proofs.KeptLaws.{IsKeptAlong, kept_along}
-use Rattle.topos_top.specs.Dialects.{rule_dialect_of}
+use Rattle.run_core.specs.Dialects.{rule_dialect_of}
+use Rattle.query_top.proofs.PlainLaws.{plain_laws}
+use Rattle.query_top.specs.Why.{why_outcomes}
 use Rattle.query_top.proofs.WhyLaws.{no_flow_is_one, no_flow_named, why_text_is_one}
 
 -- A network has one answer.
@@ -45,25 +47,38 @@ HasOneAnswer (Flows dialect file rules) = ⊥
 HasOneAnswer (Changes old new) = ⊥
 HasOneAnswer _ = Unit {0}
 
-pub settled : (command : Command) → HasOneAnswer command → IsOwedAlong (plan_of command)
-settled (Why file from to) any = λ d sound. record {
+settled_why : (d : Described) (from to : List ℕ) → IsSettled (why_outcomes d from to)
+settled_why d from to = record {
   owed = (
     record { status = refl; one = no_flow_is_one d.hosts from to; guarantees = λ now line is. is },
     (record { status = refl; one = why_text_is_one d from to; guarantees = λ now text is. is }, tt),
   );
   apart = ((λ none named. no_flow_named d.hosts from to none.1 named.0 none.2 named.1, tt), (tt, tt));
 }
-settled (Network file) any = λ d sound. settled_writes _ _ (network_text_is_one d) (λ text is. is)
-settled (Compare dialect file rules) any = λ d sound said reading. settled_comparison d ((rule_dialect_of dialect).audited said)
-settled (Flows dialect file rules) none = absurd none
-settled (Changes old new) none = absurd none
 
-pub kept : (command : Command) → IsKeptAlong (plan_of command)
-kept (Why file from to) = kept_along (plan_of (Why file from to)) (settled (Why file from to) tt)
-kept (Network file) = kept_along (plan_of (Network file)) (settled (Network file) tt)
-kept (Compare dialect file rules) = kept_along (plan_of (Compare dialect file rules)) (settled (Compare dialect file rules) tt)
-kept (Flows dialect file rules) = λ d sound said reading. record { each = (record { status = refl; guarantees = λ now text is. is }, tt); apart = (tt, tt) }
-kept (Changes old new) = λ before sound after also. record {
+kept_changes : (before after : Described) → AreKept (changes_outcomes before after)
+kept_changes before after = record {
   each = (record { status = refl; guarantees = λ now text is. is }, (record { status = refl; guarantees = λ now text is. is }, tt));
   apart = ((λ weaken none. weaken_or_not before after weaken.0 none.0 weaken.1 none.1, tt), (tt, tt));
 }
+
+pub settled : (command : Command) → HasOneAnswer command → HoldsAtEnds IsSettled (plan_of command)
+settled (Why file from to) any = (description_laws, λ bytes d read. settled_why d from to)
+settled (Network file) any = (description_laws, λ bytes d read. settled_writes _ _ (network_text_is_one d) (λ text is. is))
+settled (Compare dialect file rules) any =
+    (description_laws, λ bytes d read. (plain_laws dialect, λ other said also. settled_comparison d ((rule_dialect_of dialect).audited said)))
+settled (Flows dialect file rules) none = absurd none
+settled (Changes old new) none = absurd none
+
+kept_if_one : (command : Command) → HasOneAnswer command → HoldsAtEnds AreKept (plan_of command)
+kept_if_one command any = holds_at_ends IsSettled AreKept settled_kept (plan_of command) (settled command any)
+
+pub kept : (command : Command) → HoldsAtEnds AreKept (plan_of command)
+kept (Why file from to) = kept_if_one (Why file from to) tt
+kept (Network file) = kept_if_one (Network file) tt
+kept (Compare dialect file rules) = kept_if_one (Compare dialect file rules) tt
+kept (Flows dialect file rules) = (
+  description_laws,
+  λ bytes d read. (plain_laws dialect, λ other said also. record { each = (record { status = refl; guarantees = λ now text is. is }, tt); apart = (tt, tt) }),
+)
+kept (Changes old new) = (description_laws, λ bytes before read. (description_laws, λ other after also. kept_changes before after))

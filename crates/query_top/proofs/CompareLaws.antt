@@ -7,37 +7,30 @@ use Rattle.audit_core.specs.Findings.{DifferSomewhere}
 use Rattle.audit_core.specs.Pairs.{AreDifferences, Case, IsComplete, IsDifference, all_cases}
 use Rattle.header_space.specs.Owners.{owners_of}
 use Rattle.rules_space.specs.Rules.{Rules, filter_of}
-use Rattle.audit_core.specs.Sides.{AreEquivalent, AreSafe, Sides, sides_of}
+use Rattle.audit_core.specs.Sides.{AreEquivalent}
 use Rattle.rules_space.specs.Verdicts.{GivesOne}
 use Rattle.audit_core.specs.declared.difference.Difference.{Difference}
 use Rattle.net_core.proofs.PolicyLaws.{IsSubset-stateful}
 use Rattle.net_core.specs.Network.{Network}
 use Rattle.net_core.specs.Policies.{IsPolicyOf, Policy}
-use Rattle.pkt_core.proofs.AnyTrackingLaws.{forwards_only_expected}
 use Rattle.query_core.proofs.CompareLaws.{equal_text}
 use Rattle.query_core.specs.CompareJson.{compare_json}
 use Rattle.query_top.specs.Compare.{ReportsDifferences, compare_outcomes, equal_json}
 use Rattle.query_top.specs.inner.Replies.{differences_reply}
-use Rattle.report_core.specs.FlowPolicies.{flow_policy_of}
-use Rattle.topos_top.proofs.AuditLaws.{sides_for}
-use Rattle.topos_top.proofs.OutcomesLaws.{IsSettled}
-use Rattle.topos_top.proofs.RulesLaws.{moved as same_policy}
-use Rattle.topos_top.specs.Audit.{OfSides}
-use Rattle.topos_top.specs.Outcomes.{Answers}
-use Rattle.topos_top.specs.Reply.{Reply}
-use Rattle.topos_top.specs.declared.status.Status.TheVariants.{Done, Violated}
-use Rattle.topos_top.specs.declared.status.Stream.TheVariants.{Output}
-use Rattle.topos_top.specs.inner.Views.{reply_on}
+use Rattle.run_core.proofs.OfPolicyLaws.{safe_where_equal, sides_for, sides_moved}
+use Rattle.run_core.proofs.OutcomesLaws.{IsSettled}
+use Rattle.run_core.specs.OfPolicy.{OfSides}
+use Rattle.run_core.specs.Outcomes.{Answers}
+use Rattle.run_core.specs.Reply.{Reply}
+use Rattle.run_core.specs.declared.status.Status.TheVariants.{Done, Violated}
+use Rattle.run_core.specs.declared.status.Stream.TheVariants.{Output}
+use Rattle.run_core.specs.inner.Views.{reply_on}
 
 module _ (d : Network) (rules : Rules) where
-  -- What holds of the sides by one policy of the network holds of those by the other.
-  moved : (Holds Other : Sides → Type 0) (p : OfSides d rules Holds) (q : OfSides d rules Other) → Holds (sides_for d rules q.policy)
-  moved Holds Other p q = same_policy d (λ policy. Holds (sides_of policy rules)) (λ policy. Other (sides_of policy rules)) p q
-
   -- Differences are reported in one text.
   text_is_one : (a b : List ℕ) → OfSides d rules (λ sides. ReportsDifferences sides a) → OfSides d rules (λ sides. ReportsDifferences sides b) → a ≡ b
   text_is_one a b p q =
-      let first = moved (λ sides. ReportsDifferences sides a) (λ sides. ReportsDifferences sides b) p q in
+      let first = sides_moved d rules (λ sides. ReportsDifferences sides a) (λ sides. ReportsDifferences sides b) p q in
       let second = q.so in
       let sides = sides_for d rules q.policy in
       first.written
@@ -46,21 +39,13 @@ module _ (d : Network) (rules : Rules) where
 
   differ_or_agree : OfSides d rules DifferSomewhere → OfSides d rules AreEquivalent → ⊥
   differ_or_agree differ agree =
-      no_difference_where_expected (sides_for d rules agree.policy) agree.so (moved DifferSomewhere AreEquivalent differ agree)
-
-  -- Rules that forward what is expected forward only that with any connection tracking.
-  safe_where_equal : OfSides d rules AreEquivalent → OfSides d rules (λ sides. AreEquivalent sides × AreSafe sides)
-  safe_where_equal agree = record {
-    policy = agree.policy;
-    is_policy = agree.is_policy;
-    so = (agree.so, forwards_only_expected (filter_of rules) (flow_policy_of d agree.policy) agree.so);
-  }
+      no_difference_where_expected (sides_for d rules agree.policy) agree.so (sides_moved d rules DifferSomewhere AreEquivalent differ agree)
 
   pub settled_comparison : IsSettled (compare_outcomes d rules)
   settled_comparison = record {
     owed = (
       record { status = refl; one = text_is_one; guarantees = λ now text is. is },
-      (record { status = refl; one = λ a b p q. p ∙ sym q; guarantees = λ now text is. (safe_where_equal now, is) }, tt),
+      (record { status = refl; one = λ a b p q. p ∙ sym q; guarantees = λ now text is. (safe_where_equal d rules now, is) }, tt),
     );
     apart = ((differ_or_agree, tt), (tt, tt));
   }

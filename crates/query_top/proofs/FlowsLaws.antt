@@ -1,17 +1,16 @@
 -- The flows between all pairs of owners have every packet that the rules let pass as a packet of a new connection.
-use Rattle.std.proofs.Common.{◌≡◌, ◌⊎◌, inl, inr, ℕ, ◌<◌, ◌≤◌, Bool, List, [], ◌∷◌, Option, length, map, refl, sym, subst, ◌∙◌, arith}
+use Rattle.std.proofs.Common.{◌≡◌, ◌⊎◌, inl, inr, ℕ, ◌<◌, ◌≤◌, Bool, List, [], ◌∷◌, Option, map, refl, sym, subst, ◌∙◌, arith}
 use Rattle.std.specs.List.{Contains}
 use Rattle.std.proofs.lemmas.List.Elements.{Contains-append_left, Contains-append_right}
 use Rattle.rules_space.specs.Rules.{Rules}
 use Rattle.rules_space.proofs.ListLaws.{contains_cases, contains_first, contains_later, contains_none}
 use Rattle.audit_core.proofs.PairLaws.{owner_among}
-use Rattle.decide_core.specs.Flows.{AreFlows, AreFlowsOf, AreFlowsOfEach, IsOfRange}
+use Rattle.decide_core.specs.Flows.{AreFlows, AreFlowsOf, AreFlowsOfEach}
 use Rattle.decide_core.specs.declared.flows.FlowRange.{FlowRange}
 use Rattle.decide_core.specs.declared.flows.PairFlows.{PairFlows}
 use Rattle.header_space.proofs.SplitLaws.{le_or_lt}
 use Rattle.header_space.specs.Owners.{IsOfPair, owners_of}
 use Rattle.host_net.specs.Host.{Host, owner_of}
-use Rattle.host_net.specs.Packet.{IsPacket}
 use Rattle.host_net.specs.declared.packet.Packet.{Packet}
 use Rattle.pass_core.specs.NewPackets.{LetsPass}
 use Rattle.pass_core.specs.Pairs.{AreListedFor, IsEntryOf, IsListedFor}
@@ -19,7 +18,7 @@ use Rattle.pass_core.specs.Passing.{LiesInRange}
 use Rattle.pass_core.specs.Services.{service_count, service_of}
 use Rattle.pass_core.specs.declared.pairs.PairServices.{PairServices}
 use Rattle.pass_core.specs.declared.passing_range.PassingRange.{PassingRange}
-use Rattle.query_top.specs.Flows.{AreComplete, HavePacket}
+use Rattle.query_top.specs.Flows.{AreComplete}
 
 -- ---- ranges
 

@@ -1,10 +1,8 @@
-pub mod AlikeLaws
-pub mod AnsweredLaws
+pub mod PlainLaws
 pub mod ParseLaws
-pub mod CommandLaws
-pub mod CompareLaws
-pub mod CompleteLaws
-pub mod FlowsLaws
-pub mod KeptLaws
-pub mod RunLaws
 pub mod WhyLaws
+pub mod CompareLaws
+pub mod FlowsLaws
+pub mod CommandLaws
+pub mod AnsweredLaws
+pub mod AlikeLaws

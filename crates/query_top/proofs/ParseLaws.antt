@@ -1,13 +1,15 @@
 -- The code parses the question that the arguments form.
-use Rattle.std.proofs.Common.{◌≡◌, inl, inr, ℕ, List, [], ◌∷◌, Option, None, Some, refl, ap, sym, ◌∙◌}
-use Rattle.topos_top.specs.Reply.{Reply}
-use Rattle.topos_top.specs.Shelf.{ShelfChange}
-use Rattle.topos_top.proofs.DialectLaws.{named_word}
-use Rattle.topos_top.proofs.FormLaws.{AreForms, among_forms, file_form, files_form, none_asked, three_form, two_form}
+use Rattle.std.proofs.Common.{◌≡◌, ℕ, List, [], ◌∷◌, None, Some, refl, ap, ◌∙◌}
+use Rattle.run_core.specs.Replies.{AllowsReply}
+use Rattle.run_core.specs.Reply.{Reply}
+use Rattle.run_core.specs.Shelf.{ShelfChange}
+use Rattle.run_core.proofs.DialectLaws.{named_word}
+use Rattle.query_top.specs.Commands.{topos_query}
+use Rattle.run_core.proofs.ParseLaws.{one_command, none_read, reply_allowed}
+use Rattle.run_core.proofs.FormLaws.{AreForms, among_forms, file_form, files_form, none_asked, three_form, two_form}
 use Rattle.query_top.specs.Command.{Command, ParseAs, ParseAsNothing, Changes, Compare, Flows, Network, Why, arguments_of}
-use Rattle.query_top.specs.Replies.{AllowsReply}
 use Rattle.query_top.specs.inner.Command.{command_of, forms}
-use Rattle.query_top.specs.inner.Replies.{AllowsReplyTo}
+use Rattle.run_core.specs.inner.Replies.{AllowsReplyTo}
 
 -- ---- a question is read of its words
 
@@ -24,10 +26,7 @@ is_read words command asks = ap command_of asks ∙ read_of command
 
 -- Arguments form at most one question.
 pub one_ask : (words : List (List ℕ)) (command other : Command) → ParseAs words command → ParseAs words other → command ≡ other
-one_ask words command other p q =
-    let here = is_read words command p in
-    let there = is_read words other q in
-    cc (here, there)
+one_ask words command other p q = one_command topos_query command_of is_read words command other p q
 
 -- ---- a question that is read has these words
 
@@ -41,18 +40,10 @@ is_asked (word ∷ rest) command is = among_forms ParseAs forms are_forms word r
 
 -- No question is read of words that are no form.
 pub not_read : (words : List (List ℕ)) → ParseAsNothing words → command_of words ≡ None
-not_read words nothing = by_read (command_of words) refl
-  where
-    by_read : (asked : Option Command) → command_of words ≡ asked → command_of words ≡ None
-    by_read None is = is
-    by_read (Some command) is = absurd (nothing command (is_asked words command is))
+not_read words nothing = none_read topos_query command_of is_read is_asked words nothing
 
 -- ---- the reply
 
--- The reply by the question that was read is a reply that may be given.
-pub may_give : (words : List (List ℕ)) (shelf : ShelfChange) (given : Reply) → AllowsReplyTo (command_of words) shelf given → AllowsReply words shelf given
-may_give words shelf given may = by_read (command_of words) refl may
-  where
-    by_read : (asked : Option Command) → command_of words ≡ asked → AllowsReplyTo asked shelf given → AllowsReply words shelf given
-    by_read None is may = inl (λ command asks. none_asked command (sym is ∙ is_read words command asks), may.0, may.1)
-    by_read (Some command) is may = inr (command, is_asked words command is, may)
+-- The reply for the parsed command is one that may be given.
+pub may_give : (words : List (List ℕ)) (shelf : ShelfChange) (given : Reply) → AllowsReplyTo topos_query (command_of words) shelf given → AllowsReply topos_query words shelf given
+may_give words shelf given may = reply_allowed topos_query command_of is_read is_asked words shelf given may

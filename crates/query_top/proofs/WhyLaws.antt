@@ -10,11 +10,11 @@ use Rattle.net_core.specs.Policies.{Policy}
 use Rattle.query_core.proofs.OneAnswerLaws.{why_is_one}
 use Rattle.query_core.specs.Explanations.{IsExplanation}
 use Rattle.query_top.specs.Why.{IsFlowNamed, IsNoFlow, IsWhy, IsWhyOf, NoReceiver, NoSender, SameHost, no_flow_line, why_outcomes}
-use Rattle.topos_top.specs.Outcomes.{Answers}
-use Rattle.topos_top.specs.Reply.{Reply, error}
-use Rattle.topos_top.specs.inner.Views.{reply_on}
-use Rattle.topos_top.specs.declared.status.Status.TheVariants.{Done, NotEmittable}
-use Rattle.topos_top.specs.declared.status.Stream.TheVariants.{Output}
+use Rattle.run_core.specs.Outcomes.{Answers}
+use Rattle.run_core.specs.Reply.{Reply, error}
+use Rattle.run_core.specs.inner.Views.{reply_on}
+use Rattle.run_core.specs.declared.status.Status.TheVariants.{Done, NotEmittable}
+use Rattle.run_core.specs.declared.status.Stream.TheVariants.{Output}
 
 -- There is no flow, or the names are of a flow.
 pub no_flow_named : (hosts : List Host) (from to line : List ℕ) (f : Flow) → IsNoFlow hosts from to line → IsFlowNamed hosts from to f → ⊥

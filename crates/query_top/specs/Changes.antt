@@ -10,9 +10,9 @@ use Rattle.query_core.specs.ChangesJson.{changes_json}
 use Rattle.query_core.specs.Weakening.{IsWeakening}
 use Rattle.query_core.specs.declared.weakening.Weakening.{Weakening}
 use Rattle.report_core.specs.FlowPolicies.{flow_policy_of}
-use Rattle.topos_top.specs.Outcomes.{Outcome, Outcomes}
-use Rattle.topos_top.specs.declared.status.Status.{Status}
-use Rattle.topos_top.specs.declared.status.Status.TheVariants.{Done, Violated}
+use Rattle.run_core.specs.Outcomes.{Outcome, Outcomes}
+use Rattle.run_core.specs.declared.status.Status.{Status}
+use Rattle.run_core.specs.declared.status.Status.TheVariants.{Done, Violated}
 
 -- The list has all changes from one policy to another: one for each kind and pair of owners of which some packet changes, and no other.
 -- It is empty if and only if the policies permit the same packets, and answers to the same packets.

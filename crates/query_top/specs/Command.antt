@@ -1,9 +1,8 @@
 -- The question of a command line (docs/QUERIES.md): a constructor for each form, with all its words.
 use Rattle.std.specs.Prelude.{◌≡◌, ℕ, List, [], ◌∷◌, ◌++◌, codes}
-use Rattle.topos_top.specs.Dialects.{rule_dialect_of}
-use Rattle.topos_top.specs.Reply.{Reply, error}
-use Rattle.topos_top.specs.declared.dialect.Dialect.{Dialect}
-use Rattle.topos_top.specs.declared.status.Status.TheVariants as status
+use Rattle.run_core.specs.Dialects.{rule_dialect_of}
+use Rattle.run_core.specs.Program.{FormNothing}
+use Rattle.run_core.specs.declared.dialect.Dialect.{Dialect}
 
 pub data Command : Type 0 where
   Why : (file from to : List ℕ) → Command
@@ -26,7 +25,7 @@ ParseAs words command = words ≡ arguments_of command
 
 -- The words are no form of the command line.
 abbrev pub ParseAsNothing : List (List ℕ) → Type 0
-ParseAsNothing words = (command : Command) → ParseAs words command → ⊥
+ParseAsNothing = FormNothing ParseAs
 
 -- The forms of the command line.
 unfoldable pub usage_text : List ℕ
@@ -36,7 +35,3 @@ usage_text =
     ++ (codes "       topos-query flows iptables|openflow FILE RULES\n"
     ++ (codes "       topos-query compare iptables|openflow FILE RULES\n"
     ++ codes "       topos-query changes OLD NEW\n")))
-
--- The reply to words that are no form.
-abbrev pub usage : Reply
-usage = error status.Usage usage_text

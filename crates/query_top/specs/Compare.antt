@@ -7,9 +7,9 @@ use Rattle.audit_core.specs.Sides.{AreEquivalent, AreSafe, Sides}
 use Rattle.audit_core.specs.declared.difference.Difference.{Difference}
 use Rattle.net_core.specs.Network.{Network}
 use Rattle.query_core.specs.CompareJson.{compare_json}
-use Rattle.topos_top.specs.Audit.{OfSides}
-use Rattle.topos_top.specs.Outcomes.{Outcome, Outcomes}
-use Rattle.topos_top.specs.declared.status.Status.TheVariants.{Done, Violated}
+use Rattle.run_core.specs.OfPolicy.{OfSides}
+use Rattle.run_core.specs.Outcomes.{Outcome, Outcomes}
+use Rattle.run_core.specs.declared.status.Status.TheVariants.{Done, Violated}
 
 -- The text of no differences.
 abbrev pub equal_json : List ℕ

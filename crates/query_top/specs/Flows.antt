@@ -12,7 +12,7 @@ use Rattle.host_net.specs.declared.packet.Packet.{Packet}
 use Rattle.ipt_rules.specs.declared.marks.Place.{Place}
 use Rattle.pass_core.specs.NewPackets.{LetsPass}
 use Rattle.query_core.specs.FlowsJson.{flows_json}
-use Rattle.topos_top.specs.Outcomes.{Outcomes, writes}
+use Rattle.run_core.specs.Outcomes.{Outcomes, writes}
 
 -- The flows have a packet: one of them is of the owners of its addresses, and has a range with its service.
 pub record HavePacket (hosts : List Host) (flows : List PairFlows) (p : Packet) : Type 0 where

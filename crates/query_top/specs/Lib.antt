@@ -1,10 +1,10 @@
 pub mod Command
+pub mod PlainRules
 pub mod Changes
-pub mod Commands
 pub mod Compare
 pub mod Flows
 pub mod Network
-pub mod Promises
-pub mod Replies
 pub mod Why
+pub mod Commands
+pub mod Promises
 pub mod inner

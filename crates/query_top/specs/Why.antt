@@ -7,14 +7,11 @@ use Rattle.net_core.specs.Policies.{IsPolicyOf, Policy}
 use Rattle.query_core.specs.Explanations.{HasReasons, IsExplanation, ReasonsHaveFlow}
 use Rattle.query_core.specs.Json.{why_json}
 use Rattle.query_core.specs.declared.explanation.Explanation.{Explanation}
-use Rattle.topos_top.specs.Outcomes.{Outcomes, says_why}
-use Rattle.topos_top.specs.Reply.{not_emittable}
-use Rattle.topos_top.specs.declared.status.Status.TheVariants.{NotEmittable, Done}
+use Rattle.run_core.specs.Outcomes.{Outcomes, says_why}
+use Rattle.run_core.specs.Reply.{no_host_line, not_emittable}
+use Rattle.run_core.specs.declared.status.Status.TheVariants.{NotEmittable, Done}
 
--- The line for a name that no host has, as of `topos local`, and the line for two names of one host.
-abbrev pub no_host_line : (host : List ℕ) → List ℕ
-no_host_line host = not_emittable (codes "no host " ++ (host ++ codes "\n"))
-
+-- The line for two names of one host.
 abbrev pub no_flow_line : (host : List ℕ) → List ℕ
 no_flow_line host = not_emittable (codes "no flow from " ++ (host ++ codes " to itself\n"))
 

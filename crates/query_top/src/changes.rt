@@ -4,14 +4,14 @@ ghost use Rattle.std.specs.Prelude.{◌≡◌, Bool, IfOk, length, not, true, if
 ghost use Rattle.net_core.specs.Policies.{IsPolicyOf};
 ghost use Rattle.query_core.specs.Json.{is_nothing};
 ghost use Rattle.query_core.specs.Weakening.{IsWeakening};
-ghost use Rattle.topos_top.specs.CommandPlan.{reads, ends};
-ghost use Rattle.topos_top.specs.Outcomes.{Answers};
-ghost use Rattle.topos_top.specs.Replies.{IsPossibleReply};
-ghost use Rattle.topos_top.specs.Shelf.{shelf_change};
-ghost use Rattle.topos_top.specs.inner.Views.{reply_in, reply_on, reply_view};
-ghost use Rattle.topos_top.specs.declared.status.Status.TheVariants.{Done, Violated};
-ghost use Rattle.topos_top.specs.declared.status.Stream.TheVariants.{Output};
-ghost use Rattle.topos_top.specs.declared.kind.Kind.TheVariants as kind;
+ghost use Rattle.run_core.specs.CommandPlan.{reads, ends};
+ghost use Rattle.run_core.specs.Outcomes.{Answers};
+ghost use Rattle.run_core.specs.Replies.{IsPossibleReply};
+ghost use Rattle.run_core.specs.Shelf.{shelf_change};
+ghost use Rattle.run_core.specs.inner.Views.{reply_in, reply_on, reply_view};
+ghost use Rattle.run_core.specs.declared.status.Status.TheVariants.{Done, Violated};
+ghost use Rattle.run_core.specs.declared.status.Stream.TheVariants.{Output};
+ghost use Rattle.run_core.specs.FileFormats.{description};
 ghost use Rattle.query_top.specs.Command.{Changes};
 ghost use Rattle.query_top.specs.Changes.{IsChangesAnswer, changes_outcomes};
 ghost use Rattle.query_top.specs.Commands.{plan_of};
@@ -21,8 +21,8 @@ use desc_core::Description;
 use edge_io::Shelf;
 use net_core::{Policy, policy_of};
 use query_core::{Weakening, changes_json, weakening_of};
+use run_core::{Answer, Text, policy_between, read_description};
 use std::alloc::{AllocError, Global};
-use topos_top::{Answer, Text, policy_between, read_description};
 
 /// Returns the answer for the networks that the files describe.
 pub fn reply<'a, H: Shelf>(
@@ -45,7 +45,7 @@ fn reply_from<'a, H: Shelf>(
     new: &'a str,
     shelf: &mut H,
 ) -> Result<Answer<'a>, Answer<'a>>
-    ensures { IsPossibleReply true (reads kind.Description new.now (λ d. ends (changes_outcomes old.now d)))
+    ensures { IsPossibleReply true (reads description new.now (λ d. ends (changes_outcomes old.now d)))
         (shelf_change H.Shelf shelf.old shelf.new) (reply_in result) }
 {
     let description = read_description(alloc, new, shelf)?;

@@ -1,11 +1,11 @@
 //! The question of a command line.
 
 ghost use Rattle.std.specs.Prelude.{◌≡◌, map, string_bytes, option_map};
-ghost use Rattle.topos_top.specs.inner.Forms.{among};
+ghost use Rattle.run_core.specs.inner.Forms.{among};
 ghost use Rattle.query_top.specs.Command.{usage_text};
 ghost use Rattle.query_top.specs.inner.Command.{command_of, command_view, forms};
 
-use topos_top::{Dialect, one_word, three_words, two_words};
+use run_core::{Dialect, one_word, three_words, two_words};
 
 /// A question: a variant for each form, with all its words.
 #[derive(Clone, Copy)]

@@ -1,17 +1,17 @@
 //! The table of the questions.
 
 ghost use Rattle.std.specs.Prelude.{true};
-ghost use Rattle.topos_top.specs.Replies.{IsPossibleReply};
-ghost use Rattle.topos_top.specs.Shelf.{shelf_change};
-ghost use Rattle.topos_top.specs.inner.Views.{reply_in};
+ghost use Rattle.run_core.specs.Replies.{IsPossibleReply};
+ghost use Rattle.run_core.specs.Shelf.{shelf_change};
+ghost use Rattle.run_core.specs.inner.Views.{reply_in};
 ghost use Rattle.query_top.specs.Commands.{plan_of};
 ghost use Rattle.query_top.specs.inner.Command.{command_view};
 
 use crate::command::Command;
 use crate::{changes, compare, flows, network, why};
 use edge_io::Shelf;
+use run_core::Answer;
 use std::alloc::Global;
-use topos_top::Answer;
 
 /// Returns the answer to the question. An `Err` is an answer that ended the run early.
 pub fn reply<'a, H: Shelf>(

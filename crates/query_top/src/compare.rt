@@ -2,26 +2,27 @@
 
 ghost use Rattle.std.specs.Prelude.{◌≡◌, All, IfOk, true};
 ghost use Rattle.query_core.specs.inner.Fitting.{FitsDifference};
-ghost use Rattle.topos_top.specs.Dialects.{rule_dialect_of};
-ghost use Rattle.topos_top.specs.CommandPlan.{reads, ends};
-ghost use Rattle.topos_top.specs.Outcomes.{Answers};
-ghost use Rattle.topos_top.specs.Replies.{IsPossibleReply};
-ghost use Rattle.topos_top.specs.Shelf.{shelf_change};
-ghost use Rattle.topos_top.specs.inner.Views.{reply_in, reply_view, rules_view};
-ghost use Rattle.topos_top.specs.declared.kind.Kind.TheVariants as kind;
+ghost use Rattle.run_core.specs.Dialects.{rule_dialect_of};
+ghost use Rattle.run_core.specs.CommandPlan.{reads, ends};
+ghost use Rattle.run_core.specs.Outcomes.{Answers};
+ghost use Rattle.run_core.specs.Replies.{IsPossibleReply};
+ghost use Rattle.run_core.specs.Shelf.{shelf_change};
+ghost use Rattle.run_core.specs.inner.Views.{reply_in, reply_view, rules_view};
+ghost use Rattle.query_top.specs.PlainRules.{plain_rules};
 ghost use Rattle.query_top.specs.Command.{Compare};
 ghost use Rattle.query_top.specs.Commands.{plan_of};
 ghost use Rattle.query_top.specs.Compare.{compare_outcomes};
 ghost use Rattle.query_top.specs.inner.Replies.{differences_reply};
 
+use crate::plain_rules::read_plain_rules;
 use audit_core::{Difference, compare_pairs};
 use desc_core::Description;
 use edge_io::Shelf;
 use host_net::Hosts;
 use net_core::policy_of;
 use query_core::compare_json;
+use run_core::{Answer, Dialect, Rules, Text, policy_between, read_description};
 use std::alloc::{AllocError, Global};
-use topos_top::{Answer, Dialect, Rules, Text, policy_between, read_description, read_plain_rules};
 
 /// Returns the answer for the network that the file describes and the rules of the other file.
 pub fn reply<'a, H: Shelf>(
@@ -46,7 +47,7 @@ fn reply_for<'a, H: Shelf>(
     rules: &'a str,
     shelf: &mut H,
 ) -> Result<Answer<'a>, Answer<'a>>
-    ensures { IsPossibleReply true (reads (kind.PlainRules dialect) rules.now (λ said. ends (compare_outcomes description.now ((rule_dialect_of dialect).audited said))))
+    ensures { IsPossibleReply true (reads (plain_rules dialect) rules.now (λ said. ends (compare_outcomes description.now ((rule_dialect_of dialect).audited said))))
         (shelf_change H.Shelf shelf.old shelf.new) (reply_in result) }
 {
     let rules = read_plain_rules(alloc, dialect, rules, shelf)?;

@@ -1,23 +1,24 @@
 //! `flows DIALECT FILE RULES`: what rules let pass between the hosts of a network.
 
 ghost use Rattle.std.specs.Prelude.{IfOk, true};
-ghost use Rattle.topos_top.specs.Dialects.{rule_dialect_of};
-ghost use Rattle.topos_top.specs.CommandPlan.{reads, ends};
-ghost use Rattle.topos_top.specs.Outcomes.{Answers};
-ghost use Rattle.topos_top.specs.Replies.{IsPossibleReply};
-ghost use Rattle.topos_top.specs.Shelf.{shelf_change};
-ghost use Rattle.topos_top.specs.inner.Views.{reply_in, reply_view, rules_view};
-ghost use Rattle.topos_top.specs.declared.kind.Kind.TheVariants as kind;
+ghost use Rattle.run_core.specs.Dialects.{rule_dialect_of};
+ghost use Rattle.run_core.specs.CommandPlan.{reads, ends};
+ghost use Rattle.run_core.specs.Outcomes.{Answers};
+ghost use Rattle.run_core.specs.Replies.{IsPossibleReply};
+ghost use Rattle.run_core.specs.Shelf.{shelf_change};
+ghost use Rattle.run_core.specs.inner.Views.{reply_in, reply_view, rules_view};
+ghost use Rattle.query_top.specs.PlainRules.{plain_rules};
 ghost use Rattle.query_top.specs.Command.{Flows};
 ghost use Rattle.query_top.specs.Commands.{plan_of};
 ghost use Rattle.query_top.specs.Flows.{flows_outcomes};
 
+use crate::plain_rules::read_plain_rules;
 use decide_core::{dead_places, flows_by_pairs};
 use edge_io::Shelf;
 use host_net::Hosts;
 use query_core::flows_json;
+use run_core::{Answer, Dialect, Rules, Text, read_description};
 use std::alloc::{AllocError, Global};
-use topos_top::{Answer, Dialect, Rules, Text, read_description, read_plain_rules};
 
 /// Returns the answer for the hosts that the file describes and the rules of the other file.
 pub fn reply<'a, H: Shelf>(
@@ -42,7 +43,7 @@ fn reply_for<'a, H: Shelf>(
     rules: &'a str,
     shelf: &mut H,
 ) -> Result<Answer<'a>, Answer<'a>>
-    ensures { IsPossibleReply true (reads (kind.PlainRules dialect) rules.now (λ said. ends (flows_outcomes hosts.now ((rule_dialect_of dialect).audited said))))
+    ensures { IsPossibleReply true (reads (plain_rules dialect) rules.now (λ said. ends (flows_outcomes hosts.now ((rule_dialect_of dialect).audited said))))
         (shelf_change H.Shelf shelf.old shelf.new) (reply_in result) }
 {
     let rules = read_plain_rules(alloc, dialect, rules, shelf)?;

@@ -3,7 +3,7 @@
 //!
 //! The arguments form a question. A question has a plan: the files that it reads, then its outcomes. Each form
 //! has a file of its own here and in `specs/`; `command` and `commands`, `specs/Command.antt` and `specs/Commands.antt` list
-//! them. Files are read and answers are written by the calls of `topos` (`topos_top`), so readings, faults, lines of
+//! them. Files are read and answers are written by the calls of `run_core`, so readings, faults, lines of
 //! the error stream and statuses are those of `topos`.
 #![tactic(auto)]
 
@@ -13,8 +13,9 @@ mod commands;
 mod compare;
 mod flows;
 mod network;
+mod plain_rules;
 mod program;
 mod why;
 
 pub use program::run;
-pub use topos_top::Status;
+pub use run_core::Status;

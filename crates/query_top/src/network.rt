@@ -1,10 +1,10 @@
 //! `network FILE`: all that the description and its policy say of hosts, invariants and flows.
 
 ghost use Rattle.std.specs.Prelude.{IfOk, true};
-ghost use Rattle.topos_top.specs.Outcomes.{Answers};
-ghost use Rattle.topos_top.specs.Replies.{IsPossibleReply};
-ghost use Rattle.topos_top.specs.Shelf.{shelf_change};
-ghost use Rattle.topos_top.specs.inner.Views.{reply_in, reply_view};
+ghost use Rattle.run_core.specs.Outcomes.{Answers};
+ghost use Rattle.run_core.specs.Replies.{IsPossibleReply};
+ghost use Rattle.run_core.specs.Shelf.{shelf_change};
+ghost use Rattle.run_core.specs.inner.Views.{reply_in, reply_view};
 ghost use Rattle.query_top.specs.Command.{Network};
 ghost use Rattle.query_top.specs.Commands.{plan_of};
 ghost use Rattle.query_top.specs.Network.{IsNetworkAnswer, network_outcomes};
@@ -13,8 +13,8 @@ use desc_core::Description;
 use edge_io::Shelf;
 use net_core::policy_of;
 use query_core::network_json;
+use run_core::{Answer, Text, read_description};
 use std::alloc::{AllocError, Global};
-use topos_top::{Answer, Text, read_description};
 
 /// Returns the answer for the network that the file describes.
 pub fn reply<'a, H: Shelf>(

@@ -1,20 +1,21 @@
 //! The whole program, over any shelf of files and any two sinks.
 
 ghost use Rattle.std.specs.Prelude.{◌≡◌, ◌≢◌, ◌≤◌, ◌↔◌, ◌⊎◌, None, map, string_bytes};
-ghost use Rattle.topos_top.specs.Promises.{HasCauses};
-ghost use Rattle.topos_top.specs.Shelf.{shelf_change};
-ghost use Rattle.topos_top.specs.SinkChanges.{sink_change};
-ghost use Rattle.topos_top.specs.inner.Views.{reply_view};
+ghost use Rattle.run_core.specs.Promises.{HasCauses};
+ghost use Rattle.run_core.specs.Shelf.{shelf_change};
+ghost use Rattle.run_core.specs.SinkChanges.{sink_change};
+ghost use Rattle.run_core.specs.inner.Views.{reply_view};
 ghost use Rattle.query_top.specs.Command.{Command, ParseAs, ParseAsNothing};
 ghost use Rattle.query_top.specs.Promises.{DeliversReply, HasCause, HasRules, IsComplete, AnswersQuestion, OutputsDifferences};
 ghost use Rattle.query_top.specs.inner.Command.{command_of};
-ghost use Rattle.query_top.specs.inner.Replies.{AllowsReplyTo};
+ghost use Rattle.query_top.specs.Commands.{topos_query};
+ghost use Rattle.run_core.specs.inner.Replies.{AllowsReplyTo};
 
 use crate::command::{parse_command, usage};
 use crate::commands::reply;
 use edge_io::{Shelf, Sink};
+use run_core::{Answer, Status, Text, deliver};
 use std::alloc::Global;
-use topos_top::{Answer, Status, Text, deliver};
 
 /// Answers the question of the words: reads its files off the shelf, and writes the answer to `out`, or to `err` the
 /// line that says why there is none. All memory is taken before the first byte is written.
@@ -68,7 +69,7 @@ pub fn run<H: Shelf, O: Sink, E: Sink>(
 
 // Returns the reply to the words, with their files taken off the shelf.
 fn answer_to<'a, H: Shelf>(alloc: Global, words: &'a [String], shelf: &mut H) -> Answer<'a>
-    ensures reply { AllowsReplyTo (command_of (map string_bytes words.now))
+    ensures reply { AllowsReplyTo topos_query (command_of (map string_bytes words.now))
         (shelf_change H.Shelf shelf.old shelf.new) (reply_view result) }
     ensures opens_no_file { command_of (map string_bytes words.now) ≡ None → shelf.new ≡ shelf.old }
 {

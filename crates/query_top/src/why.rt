@@ -2,10 +2,10 @@
 
 ghost use Rattle.std.specs.Prelude.{◌≡◌, IfOk, length, true};
 ghost use Rattle.flow_set.specs.Flow.{IsFlow};
-ghost use Rattle.topos_top.specs.Outcomes.{Answers};
-ghost use Rattle.topos_top.specs.Replies.{IsPossibleReply};
-ghost use Rattle.topos_top.specs.Shelf.{shelf_change};
-ghost use Rattle.topos_top.specs.inner.Views.{reply_in, reply_view};
+ghost use Rattle.run_core.specs.Outcomes.{Answers};
+ghost use Rattle.run_core.specs.Replies.{IsPossibleReply};
+ghost use Rattle.run_core.specs.Shelf.{shelf_change};
+ghost use Rattle.run_core.specs.inner.Views.{reply_in, reply_view};
 ghost use Rattle.query_top.specs.Command.{Why};
 ghost use Rattle.query_top.specs.Commands.{plan_of};
 ghost use Rattle.query_top.specs.Why.{IsFlowNamed, IsWhyOf, no_flow_line, why_outcomes};
@@ -15,8 +15,8 @@ use edge_io::Shelf;
 use flow_set::Flow;
 use net_core::policy_of;
 use query_core::{explain, why_json};
+use run_core::{Answer, Text, no_host_line, read_description};
 use std::alloc::{AllocError, Global};
-use topos_top::{Answer, Text, no_host_line, read_description};
 
 /// Returns the answer for the flow between the hosts of these names, in the network that the file describes.
 pub fn reply<'a, H: Shelf>(

@@ -13,8 +13,7 @@ use Rattle.audit_core.specs.Lists.{front_of}
 use Rattle.audit_core.specs.Places.{representatives_of}
 use Rattle.rules_space.specs.Rules.{Rules, filter_of}
 use Rattle.rules_space.specs.Verdicts.{GivesOne}
-use Rattle.pkt_core.proofs.AnyTrackingLaws.{forwards_only_expected}
-use Rattle.audit_core.specs.Sides.{AreSafe, AreEquivalent, Sides, sides_of}
+use Rattle.audit_core.specs.Sides.{AreSafe, AreEquivalent, Sides}
 use Rattle.audit_core.specs.declared.finding.Finding.{Finding}
 use Rattle.audit_core.specs.declared.finding.Finding.TheVariants.{Equal, Differ as Differing}
 use Rattle.audit_core.specs.declared.finding.Trace.{Trace}
@@ -28,18 +27,21 @@ use Rattle.pkt_core.specs.declared.event.Event.TheVariants.{Seen}
 use Rattle.pkt_core.specs.Filter.{ArePackets, ForwardsAsExpected}
 use Rattle.pkt_core.specs.Firewall.{Filter}
 use Rattle.report_core.specs.FlowPolicies.{flow_policy_of}
-use Rattle.topos_top.specs.Audit.{FewClasses, HasManyClasses, OfSides, ReportsDifference, audit_outcomes}
-use Rattle.topos_top.specs.Dialects.{rule_dialect_of}
-use Rattle.topos_top.specs.Outcomes.{Answers}
-use Rattle.topos_top.specs.Reply.{Reply}
+use Rattle.topos_top.specs.Audit.{FewClasses, HasManyClasses, ReportsDifference, audit_outcomes}
+use Rattle.run_core.specs.OfPolicy.{OfSides}
+use Rattle.run_core.specs.Dialects.{rule_dialect_of}
+use Rattle.run_core.specs.Outcomes.{Answers}
+use Rattle.run_core.specs.Reply.{Reply}
 use Rattle.topos_top.specs.inner.OutcomesReplies.{finding_reply}
-use Rattle.topos_top.specs.inner.Views.{reply_on}
-use Rattle.topos_top.specs.Rules.{IsRules, OfPolicy}
-use Rattle.topos_top.specs.declared.dialect.Dialect.{Dialect}
-use Rattle.topos_top.specs.declared.status.Status.TheVariants.{Violated, Done}
-use Rattle.topos_top.specs.declared.status.Stream.TheVariants.{Output}
-use Rattle.topos_top.proofs.DialectLaws.{laws_of}
-use Rattle.topos_top.proofs.RulesLaws.{moved as same_policy, rules_keep}
+use Rattle.run_core.specs.inner.Views.{reply_on}
+use Rattle.topos_top.specs.Rules.{IsRules}
+use Rattle.run_core.specs.OfPolicy.{OfPolicy}
+use Rattle.run_core.specs.declared.dialect.Dialect.{Dialect}
+use Rattle.run_core.specs.declared.status.Status.TheVariants.{Violated, Done}
+use Rattle.run_core.specs.declared.status.Stream.TheVariants.{Output}
+use Rattle.run_core.proofs.DialectLaws.{laws_of}
+use Rattle.run_core.proofs.OfPolicyLaws.{safe_where_equal, sides_for, sides_moved}
+use Rattle.topos_top.proofs.RulesLaws.{rules_keep}
 
 few_not_many : (sides : Sides) (line : List ℕ) → FewClasses sides → HasManyClasses sides line → ⊥
 few_not_many sides line few many = omega (arith, few, many.0)
@@ -70,44 +72,32 @@ differ_there sides t found =
 
 -- ---- obligations of the outcomes
 
--- A policy of the network, and the rules.
-abbrev pub sides_for : Network → Rules → Policy → Sides
-sides_for d rules policy = sides_of (flow_policy_of d policy) rules
-
 module _ (d : Network) (rules : Rules) where
-  -- Properties of the sides of one hold for the sides of the other.
-  moved : (Holds Other : Sides → Type 0) (p : OfSides d rules Holds) (q : OfSides d rules Other) → Holds (sides_for d rules q.policy)
-  moved Holds Other p q = same_policy d (λ policy. Holds (sides_of policy rules)) (λ policy. Other (sides_of policy rules)) p q
-
   pub trace_once : (a b : List ℕ) → OfSides d rules (λ sides. ReportsDifference sides a) → OfSides d rules (λ sides. ReportsDifference sides b) → a ≡ b
   trace_once a b p q =
-      let first = moved (λ sides. ReportsDifference sides a) (λ sides. ReportsDifference sides b) p q in
+      let first = sides_moved d rules (λ sides. ReportsDifference sides a) (λ sides. ReportsDifference sides b) p q in
       let second = q.so in
       let same = finding_once (sides_for d rules q.policy) (Differing first.trace) (Differing second.trace) first.first second.first in
       first.told ∙ ap finding_text same ∙ sym second.told
 
   pub line_once : (a b : List ℕ) → OfSides d rules (λ sides. HasManyClasses sides a) → OfSides d rules (λ sides. HasManyClasses sides b) → a ≡ b
-  line_once a b p q = (moved (λ sides. HasManyClasses sides a) (λ sides. HasManyClasses sides b) p q).1 ∙ sym q.so.1
+  line_once a b p q = (sides_moved d rules (λ sides. HasManyClasses sides a) (λ sides. HasManyClasses sides b) p q).1 ∙ sym q.so.1
 
   pub agreement_tells : OfSides d rules (λ sides. FewClasses sides × AreEquivalent sides) → OfSides d rules AreEquivalent
   agreement_tells agree = record { policy = agree.policy; is_policy = agree.is_policy; so = agree.so.1 }
 
   -- Rules that forward alike are safe with any connection tracking.
   pub agreement_keeps : OfSides d rules (λ sides. FewClasses sides × AreEquivalent sides) → OfSides d rules (λ sides. AreEquivalent sides × AreSafe sides)
-  agreement_keeps agree = record {
-    policy = agree.policy;
-    is_policy = agree.is_policy;
-    so = (agree.so.1, forwards_only_expected (filter_of rules) (flow_policy_of d agree.policy) agree.so.1);
-  }
+  agreement_keeps agree = safe_where_equal d rules (agreement_tells agree)
 
   pub many_or_few : (Holds : Sides → Type 0) (line : List ℕ) → OfSides d rules (λ sides. HasManyClasses sides line) → OfSides d rules (λ sides. FewClasses sides × Holds sides) → ⊥
   many_or_few Holds line many few =
-      few_not_many (sides_for d rules many.policy) line (moved (λ sides. FewClasses sides × Holds sides) (λ sides. HasManyClasses sides line) few many).0 many.so
+      few_not_many (sides_for d rules many.policy) line (sides_moved d rules (λ sides. FewClasses sides × Holds sides) (λ sides. HasManyClasses sides line) few many).0 many.so
 
   pub differ_or_agree : OfSides d rules (λ sides. FewClasses sides × DifferSomewhere sides) → OfSides d rules (λ sides. FewClasses sides × AreEquivalent sides) → ⊥
   differ_or_agree differ agree =
       no_difference_where_expected (sides_for d rules agree.policy) agree.so.1
-      (moved (λ sides. FewClasses sides × DifferSomewhere sides) (λ sides. FewClasses sides × AreEquivalent sides) differ agree).1
+      (sides_moved d rules (λ sides. FewClasses sides × DifferSomewhere sides) (λ sides. FewClasses sides × AreEquivalent sides) differ agree).1
 
 -- ---- both directions
 
@@ -129,10 +119,10 @@ equal_exactly d rules reply answers few = (alike_where_done, done_where_alike)
     done_where_alike alike = elim answers.1 [
       | inl many ↦
           let there = many.1.2 in
-          absurd (few_not_many (sides_for d rules there.policy) many.1.1 (moved d rules FewClasses (λ sides. HasManyClasses sides many.1.1) few there) there.so)
+          absurd (few_not_many (sides_for d rules there.policy) many.1.1 (sides_moved d rules FewClasses (λ sides. HasManyClasses sides many.1.1) few there) there.so)
       | inr rest ↦ elim rest [
         | inl differ ↦
-            let both = moved d rules AreEquivalent (λ sides. FewClasses sides × DifferSomewhere sides) alike differ.1 in
+            let both = sides_moved d rules AreEquivalent (λ sides. FewClasses sides × DifferSomewhere sides) alike differ.1 in
             absurd (no_difference_where_expected (sides_for d rules differ.1.policy) both differ.1.so.1)
         | inr last ↦ elim last [ inl equal ↦ equal.0 | inr none ↦ absurd none ]
       ]

@@ -4,6 +4,10 @@ use Rattle.audit_core.specs.Findings.{DifferSomewhere}
 use Rattle.rules_space.specs.Rules.{Rules as AuditedRules}
 use Rattle.audit_core.specs.Sides.{AreEquivalent}
 use Rattle.host_net.specs.Packet.{IsPacket}
+use Rattle.desc_core.proofs.NetworkLaws.{IsNetwork-described}
+use Rattle.pkt_core.proofs.ReadEventLaws.{packets_read}
+use Rattle.run_core.specs.FileFormats.{description}
+use Rattle.run_core.specs.Outcomes.{Outcomes}
 use Rattle.net_core.specs.inner.Fitting.{IsNetwork}
 use Rattle.net_core.specs.Network.{Network}
 use Rattle.pkt_core.specs.Filter.{ArePackets}
@@ -16,31 +20,29 @@ use Rattle.sample_core.proofs.SamplePromisesLaws.{reports_sample}
 use Rattle.report_core.proofs.TraceLaws.{AnswersOnce, trace_is_one, reports_run}
 use Rattle.topos_top.specs.Command.{Command, Check, Policy, Rules, Repair, Trace, Sample, Migrate, Audit, Edit, Local}
 use Rattle.topos_top.specs.Audit.{audit_outcomes}
-use Rattle.topos_top.specs.Check.{offences_when}
+use Rattle.topos_top.specs.Check.{check_outcomes, offences_when}
 use Rattle.topos_top.specs.Commands.{plan_of}
-use Rattle.topos_top.specs.CommandPlan.{CommandPlan, reads, ends}
-use Rattle.topos_top.specs.Dialects.{rule_dialect_of}
+use Rattle.run_core.specs.CommandPlan.{reads, ends}
+use Rattle.run_core.specs.Dialects.{rule_dialect_of}
 use Rattle.topos_top.specs.Edit.{edit_outcomes}
-use Rattle.topos_top.specs.FileFormats.{format_of}
-use Rattle.topos_top.specs.Local.{machines_when}
-use Rattle.topos_top.specs.Rules.{ListedHolds, rules_when}
+use Rattle.topos_top.specs.Local.{local_outcomes, machines_when}
+use Rattle.topos_top.specs.Policy.{policy_outcomes}
+use Rattle.topos_top.specs.Repair.{repair_outcomes}
+use Rattle.topos_top.specs.Rules.{ListedHolds, rules_outcomes, rules_when}
 use Rattle.topos_top.specs.Trace.{trace_outcomes}
-use Rattle.topos_top.specs.declared.dialect.Dialect.{Dialect}
-use Rattle.topos_top.specs.declared.status.Status.{Status}
+use Rattle.run_core.specs.declared.dialect.Dialect.{Dialect}
+use Rattle.run_core.specs.declared.status.Status.{Status}
 use Rattle.topos_top.proofs.AuditLaws.{agreement_keeps, differ_or_agree, line_once, many_or_few, trace_once}
-use Rattle.topos_top.proofs.DialectLaws.{laws_of}
+use Rattle.run_core.proofs.DialectLaws.{laws_of}
 use Rattle.topos_top.proofs.EditLaws.{line_is_one, never_both as refused_or_accepted, reports_edits, text_is_one}
-use Rattle.topos_top.proofs.OutcomesLaws.{is_end, IsOwed, IsSettled, settled_writes}
-use Rattle.topos_top.proofs.KindLaws.{IsSound}
+use Rattle.run_core.proofs.OutcomesLaws.{is_end, AreKept, IsOwed, IsSettled, settled_kept, settled_writes}
+use Rattle.run_core.proofs.CommandPlanLaws.{HoldsAtEnds, holds_at_ends}
+use Rattle.run_core.proofs.FormatLaws.{description_laws}
+use Rattle.topos_top.proofs.FormatLaws.{document_laws, edited_laws, edits_laws, events_laws, rules_laws}
 use Rattle.topos_top.proofs.LocalLaws.{bar_is_one, local_is_one, local_keeps, specific_or_barred}
 use Rattle.topos_top.proofs.RulesLaws.{rules_are_one, never_both, hindrance_is_one, rules_keep}
 use Rattle.edit_core.specs.Edit.{Edit as Change}
 use Rattle.toml.specs.Data.{Members}
-
--- The obligations of a plan, for all parse results.
-abbrev pub IsOwedAlong : CommandPlan → Type 0
-IsOwedAlong (reads kind file next) = (said : (format_of kind).Said) → IsSound kind said → IsOwedAlong (next said)
-IsOwedAlong (ends outcomes) = IsSettled outcomes
 
 owed_offences : (ended : Status) → is_end ended ≡ true → (when : Type 0) (d : Network) → IsNetwork d → IsOwed (offences_when ended when d)
 owed_offences ended status when d sound = record { status = status; one = check_report_is_one d; guarantees = λ now text is. reports_violations d text sound is }
@@ -98,29 +100,53 @@ settled_edits table edits = record {
   apart = ((λ refused accepted. refused_or_accepted table edits refused.1 refused.2 accepted, tt), (tt, tt));
 }
 
-pub settled : (command : Command) → IsOwedAlong (plan_of command)
-settled (Check file) = λ d sound. record {
+settled_check : (d : Network) → IsNetwork d → IsSettled (check_outcomes d)
+settled_check d sound = record {
   owed = (owed_offences _ refl _ d sound, (owed_offences _ refl _ d sound, tt));
   apart = ((λ fails holds. fails holds, tt), (tt, tt));
 }
-settled (Policy file) = λ d sound. settled_writes _ _ (policy_report_is_one d) (λ text is. reports_policy d text sound is)
-settled (Rules dialect file) = λ d sound. record {
+
+settled_listed_rules : (dialect : Dialect) (d : Network) → IsNetwork d → IsSettled (rules_outcomes dialect d)
+settled_listed_rules dialect d sound = record {
   owed = (owed_offences _ refl _ d sound, (settled_rules (ListedHolds d) dialect d sound).owed);
   apart = (
     (λ fails hindered. fails hindered.0, (λ fails holds. fails holds.0, tt)),
     (settled_rules (ListedHolds d) dialect d sound).apart,
   );
 }
-settled (Repair dialect file) = λ d sound. settled_rules (Unit {0}) dialect d sound
-settled (Trace dialect rules events) = λ said once es packets. settled_trace ((rule_dialect_of dialect).filter said) es once packets
-settled (Sample hosts) = settled_writes _ _ (sample_is_one hosts) (reports_sample hosts)
-settled (Migrate file) = λ text sound. settled_writes _ _ (λ a b p q. p ∙ sym q) (λ text is. is)
-settled (Audit dialect file rules) = λ d sound said fits. settled_audit d ((rule_dialect_of dialect).audited said)
-settled (Edit file edits) = λ table sound es known. settled_edits table es
-settled (Local file host) = λ d sound. record {
+
+settled_local : (d : Network) (host : List ℕ) → IsNetwork d → IsSettled (local_outcomes d host)
+settled_local d host sound = record {
   owed = (owed_offences _ refl _ d sound, (settled_machines (ListedHolds d) d host sound).owed);
   apart = (
     (λ fails barred. fails barred.0, (λ fails holds. fails holds.0, tt)),
     (settled_machines (ListedHolds d) d host sound).apart,
   );
 }
+
+-- A plan that begins with a description.
+of_network : (file : List ℕ) (outcomes : Network → Outcomes) → ((d : Network) → IsNetwork d → IsSettled (outcomes d)) → HoldsAtEnds IsSettled (reads description file (λ d. ends (outcomes d)))
+of_network file outcomes settled = (description_laws, λ bytes d read. settled d (IsNetwork-described bytes d read))
+
+pub settled : (command : Command) → HoldsAtEnds IsSettled (plan_of command)
+settled (Check file) = of_network file check_outcomes settled_check
+settled (Policy file) =
+    of_network file policy_outcomes (λ d sound. settled_writes _ _ (policy_report_is_one d) (λ text is. reports_policy d text sound is))
+settled (Rules dialect file) = of_network file (rules_outcomes dialect) (settled_listed_rules dialect)
+settled (Repair dialect file) = of_network file (repair_outcomes dialect) (settled_rules (Unit {0}) dialect)
+settled (Trace dialect rules events) = (
+  rules_laws dialect,
+  λ bytes said read. (
+    events_laws,
+    λ other es also. settled_trace ((rule_dialect_of dialect).filter said) es ((laws_of dialect).answers_once bytes said read) (packets_read other es also),
+  ),
+)
+settled (Sample hosts) = settled_writes _ _ (sample_is_one hosts) (reports_sample hosts)
+settled (Migrate file) = (document_laws, λ bytes text read. settled_writes _ _ (λ a b p q. p ∙ sym q) (λ text is. is))
+settled (Audit dialect file rules) =
+    (description_laws, λ bytes d read. (rules_laws dialect, λ other said also. settled_audit d ((rule_dialect_of dialect).audited said)))
+settled (Edit file edits) = (edited_laws, λ bytes table read. (edits_laws, λ other es also. settled_edits table es))
+settled (Local file host) = of_network file (λ d. local_outcomes d host) (λ d sound. settled_local d host sound)
+
+pub kept : (command : Command) → HoldsAtEnds AreKept (plan_of command)
+kept command = holds_at_ends IsSettled AreKept settled_kept (plan_of command) (settled command)

@@ -19,10 +19,10 @@ use Rattle.report_core.specs.ReportPromises.{ReportsPolicy}
 use Rattle.report_core.proofs.ReportPromisesLaws.{reports_policy}
 use Rattle.toml.specs.Data.{Members}
 use Rattle.topos_top.specs.Edit.{ReportsEdits, ReportsRefusal, ReportsTable, edit_outcomes, summary_line, summary_lines}
-use Rattle.topos_top.specs.Outcomes.{Answers}
-use Rattle.topos_top.specs.Reply.{Reply, error}
+use Rattle.run_core.specs.Outcomes.{Answers}
+use Rattle.run_core.specs.Reply.{Reply, error}
 use Rattle.topos_top.specs.TextFault.{edit_fault_line}
-use Rattle.topos_top.specs.declared.status.Status.TheVariants.{BadText}
+use Rattle.run_core.specs.declared.status.Status.TheVariants.{BadText}
 
 -- ---- of one table
 

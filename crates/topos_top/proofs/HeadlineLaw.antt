@@ -7,26 +7,29 @@ use Rattle.net_core.specs.Network.{Network}
 use Rattle.std.specs.FinMap.{get}
 use Rattle.std.specs.Prelude.{IfSome, codes}
 use Rattle.topos_top.specs.Command.{Command, Check, Policy, Rules, Repair, Trace, Sample, Migrate, Audit, Edit, Local, ParseAs}
-use Rattle.topos_top.specs.Audit.{OfSides, audit_outcomes}
+use Rattle.run_core.specs.OfPolicy.{OfSides}
+use Rattle.topos_top.specs.Audit.{audit_outcomes}
 use Rattle.topos_top.specs.Commands.{plan_of}
-use Rattle.topos_top.specs.CommandPlan.{HoldsAtStop}
-use Rattle.topos_top.specs.Dialects.{rule_dialect_of}
-use Rattle.topos_top.specs.Outcomes.{AnyOutcome, EndsWithGuarantee}
+use Rattle.run_core.specs.CommandPlan.{HoldsAtStop}
+use Rattle.run_core.specs.Dialects.{rule_dialect_of}
+use Rattle.run_core.specs.Outcomes.{AnyOutcome, EndsWithGuarantee}
 use Rattle.topos_top.specs.Local.{EnforcesPolicyLocally, local_outcomes}
 use Rattle.topos_top.specs.Promises.{HasCause, MeetsHeadline}
 use Rattle.topos_top.specs.Repair.{repair_outcomes}
-use Rattle.topos_top.specs.Replies.{StopsRunAt}
-use Rattle.topos_top.specs.Reply.{Reply}
+use Rattle.run_core.specs.Replies.{StopsRunAt}
+use Rattle.run_core.specs.Reply.{Reply}
 use Rattle.topos_top.specs.Rules.{ListedHolds, EnforcesPolicyText, rules_outcomes}
-use Rattle.topos_top.specs.Shelf.{ShelfChange, since}
-use Rattle.topos_top.specs.SinkChanges.{SinkChange, Appends}
-use Rattle.topos_top.specs.declared.dialect.Dialect.{Dialect}
-use Rattle.topos_top.specs.declared.kind.Kind.{Kind}
-use Rattle.topos_top.specs.declared.status.Status.TheVariants.{Done}
+use Rattle.run_core.specs.Shelf.{ShelfChange, since}
+use Rattle.run_core.specs.SinkChanges.{SinkChange, Appends}
+use Rattle.run_core.specs.declared.dialect.Dialect.{Dialect}
+use Rattle.run_core.specs.FileFormats.{FileFormat}
+use Rattle.run_core.specs.declared.status.Status.TheVariants.{Done}
 use Rattle.topos_top.proofs.ParseLaws.{one_ask}
-use Rattle.topos_top.proofs.CommandLaws.{settled}
-use Rattle.topos_top.proofs.CommandPlanLaws.{holds_at_stop}
-use Rattle.topos_top.proofs.RunLaws.{stop_status}
+use Rattle.topos_top.proofs.CommandLaws.{kept}
+use Rattle.run_core.proofs.FormatLaws.{IsLawfulFormat}
+use Rattle.run_core.proofs.OutcomesLaws.{AreKept}
+use Rattle.run_core.proofs.CommandPlanLaws.{holds_at_stop}
+use Rattle.run_core.proofs.RunLaws.{stop_status}
 
 -- The only outcome of the two commands with status done is that of the rules.
 by_rules : (dialect : Dialect) (d : Network) (text : List ℕ) → AnyOutcome (EndsWithGuarantee Done text) (rules_outcomes dialect d) → ListedHolds d × EnforcesPolicyText (rule_dialect_of dialect) d text
@@ -52,27 +55,27 @@ by_audit d rules text (inr (inl differ)) = let other = differ.0.0 in cc other
 by_audit d rules text (inr (inr (inl equal))) = (equal.0.2, equal.1)
 by_audit d rules text (inr (inr (inr none))) = absurd none
 
-kept : (command : Command) (shelf : ShelfChange) (out : SinkChange)
-    → HoldsAtStop shelf.only_failures (plan_of command) shelf.before (λ kind file at. ⊥) (λ outcomes at. (shelf.after ≡ at) × ((text : List ℕ) × AnyOutcome (EndsWithGuarantee Done text) outcomes × Appends out text))
+meets : (command : Command) (shelf : ShelfChange) (out : SinkChange)
+    → HoldsAtStop shelf.only_failures (plan_of command) shelf.before (λ format file at. ⊥) (λ outcomes at. (shelf.after ≡ at) × ((text : List ℕ) × AnyOutcome (EndsWithGuarantee Done text) outcomes × Appends out text))
     → MeetsHeadline command shelf out
-kept (Rules dialect file) shelf out (inl stopped) = absurd stopped
-kept (Rules dialect file) shelf out (inr on) =
+meets (Rules dialect file) shelf out (inl stopped) = absurd stopped
+meets (Rules dialect file) shelf out (inr on) =
     let end = by_rules dialect on.said on.next.1.0 on.next.1.1 in
     record { bytes = on.bytes; held = on.held; said = on.said; read = on.read; so = (end.0, (on.next.1.0, on.next.1.2, end.1)) }
-kept (Repair dialect file) shelf out (inl stopped) = absurd stopped
-kept (Repair dialect file) shelf out (inr on) =
+meets (Repair dialect file) shelf out (inl stopped) = absurd stopped
+meets (Repair dialect file) shelf out (inr on) =
     record { bytes = on.bytes; held = on.held; said = on.said; read = on.read; so = (on.next.1.0, on.next.1.2, by_repair dialect on.said on.next.1.0 on.next.1.1) }
-kept (Migrate file) shelf out (inl stopped) = absurd stopped
-kept (Migrate file) shelf out (inr on) = elim on.next.1.1 [
+meets (Migrate file) shelf out (inl stopped) = absurd stopped
+meets (Migrate file) shelf out (inr on) = elim on.next.1.1 [
   | inl end ↦ record { bytes = on.bytes; held = on.held; said = on.said; read = on.read; so = subst (Appends out) end.1 on.next.1.2 }
   | inr none ↦ absurd none
 ]
-kept (Local file host) shelf out (inl stopped) = absurd stopped
-kept (Local file host) shelf out (inr on) =
+meets (Local file host) shelf out (inl stopped) = absurd stopped
+meets (Local file host) shelf out (inr on) =
     let end = by_local on.said host on.next.1.0 on.next.1.1 in
     record { bytes = on.bytes; held = on.held; said = on.said; read = on.read; so = (end.0, (on.next.1.0, on.next.1.2, end.1)) }
-kept (Audit dialect file rules) shelf out (inl stopped) = absurd stopped
-kept (Audit dialect file rules) shelf out (inr on) = elim on.next [
+meets (Audit dialect file rules) shelf out (inl stopped) = absurd stopped
+meets (Audit dialect file rules) shelf out (inr on) = elim on.next [
   | inl stopped ↦ absurd stopped
   | inr second ↦
       let end = by_audit on.said ((rule_dialect_of dialect).audited second.said) second.next.1.0 second.next.1.1 in
@@ -90,18 +93,19 @@ kept (Audit dialect file rules) shelf out (inr on) = elim on.next [
         };
       }
 ]
-kept (Check file) shelf out came = tt
-kept (Policy file) shelf out came = tt
-kept (Trace dialect rules events) shelf out came = tt
-kept (Sample hosts) shelf out came = tt
-kept (Edit file edits) shelf out came = tt
+meets (Check file) shelf out came = tt
+meets (Policy file) shelf out came = tt
+meets (Trace dialect rules events) shelf out came = tt
+meets (Sample hosts) shelf out came = tt
+meets (Edit file edits) shelf out came = tt
 
 -- No file stops a run with status done.
-never_done : (seen : ShelfChange) (kind : Kind) (file : List ℕ) (given : Reply) → StopsRunAt seen kind file given → given.status ≡ Done → ⊥
-never_done seen kind file given stops done = stop_status seen kind file (λ t. t ≡ Done → ⊥) given (λ e. cc e) (λ e. cc e) (λ e. cc e) (λ e. cc e) stops done
+never_done : (seen : ShelfChange) (format : FileFormat) (file : List ℕ) (given : Reply) → IsLawfulFormat format → StopsRunAt seen format file given → given.status ≡ Done → ⊥
+never_done seen format file given laws stops done = stop_status seen format file (λ t. t ≡ Done → ⊥) given laws (λ e. cc e) (λ e. cc e) (λ e. cc e) (λ e. cc e) stops done
 
 pub headline_law : (words : List (List ℕ)) (shelf : ShelfChange) (out err : SinkChange) → HasCause Done words shelf out err
     → (command : Command) → ParseAs words command → MeetsHeadline command shelf out
 headline_law words shelf out err wrote command asked =
-    subst (λ (a : Command). MeetsHeadline a shelf out) (one_ask words wrote.command command wrote.asked asked) (kept wrote.command shelf out
-    (holds_at_stop shelf.only_failures (plan_of wrote.command) shelf.before _ _ _ _ (settled wrote.command) (λ kind file at here. never_done (since at shelf) kind file here.0 here.1 here.2) (λ outcomes at owed here. (here.0, (here.1.0, here.1.1, here.1.2.0))) wrote.along))
+    subst (λ (a : Command). MeetsHeadline a shelf out) (one_ask words wrote.command command wrote.asked asked) (meets wrote.command shelf out
+    (holds_at_stop AreKept shelf.only_failures (plan_of wrote.command) shelf.before _ _ _ _ (kept wrote.command)
+    (λ format file at laws here. never_done (since at shelf) format file here.0 laws here.1 here.2) (λ outcomes at owed here. (here.0, (here.1.0, here.1.1, here.1.2.0))) wrote.along))

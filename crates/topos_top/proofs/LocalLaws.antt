@@ -21,14 +21,14 @@ use Rattle.net_core.specs.Policies.{IsPolicyOf, Policy}
 use Rattle.net_core.proofs.PolicyLaws.{IsSubset-stateful, policy_is_one}
 use Rattle.pkt_core.specs.FlowPolicy.{FlowPolicy}
 use Rattle.report_core.specs.FlowPolicies.{flow_policy_of}
-use Rattle.topos_top.specs.Outcomes.{Answers}
+use Rattle.run_core.specs.Outcomes.{Answers}
 use Rattle.topos_top.specs.Local.{CannotEmitLocal, NoHost, RestHost, IsLocalText, IsSpecific, EnforcesPolicyLocally, local_outcomes, local_chains_for}
 use Rattle.topos_top.specs.inner.Local.{machines_outcomes}
-use Rattle.topos_top.specs.inner.Views.{reply_on}
-use Rattle.topos_top.specs.Reply.{Reply}
+use Rattle.run_core.specs.inner.Views.{reply_on}
+use Rattle.run_core.specs.Reply.{Reply}
 use Rattle.topos_top.specs.Rules.{ListedHolds}
-use Rattle.topos_top.specs.declared.status.Status.TheVariants.{NotEmittable, Done}
-use Rattle.topos_top.specs.declared.status.Stream.TheVariants.{Output}
+use Rattle.run_core.specs.declared.status.Status.TheVariants.{NotEmittable, Done}
+use Rattle.run_core.specs.declared.status.Stream.TheVariants.{Output}
 use Rattle.topos_top.proofs.RulesLaws.{policy_keeps}
 
 some_number : (i j : ℕ) → Some i ≡ Some j → i ≡ j

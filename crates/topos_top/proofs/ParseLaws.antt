@@ -1,17 +1,19 @@
 -- The parser of the arguments returns the command that they form.
-use Rattle.std.proofs.Common.{◌≡◌, ◌==◌, ◌≤◌, ◌<◌, inl, inr, ℕ, zero, suc, if◌then◌else◌, List, [], ◌∷◌, Option, None, Some, arith, codes, decimal, option_map, option_and_then, refl, ap, sym, subst, ◌∙◌}
+use Rattle.std.proofs.Common.{◌≡◌, ◌==◌, ◌≤◌, ◌<◌, ℕ, zero, suc, if◌then◌else◌, List, [], ◌∷◌, Option, None, Some, arith, codes, decimal, option_map, option_and_then, refl, ap, subst, ◌∙◌}
 use Rattle.host_net.specs.Limits.{host_limit}
 use Rattle.text_core.proofs.DecimalLaws.{decimal_of_number, number-decimal}
 use Rattle.text_core.specs.inner.Decimal.{number}
 use Rattle.topos_top.specs.Command.{Command, Check, Policy, Rules, Repair, Trace, Sample, Migrate, Audit, Edit, Local, ParseAs, HasFewHosts, arguments_of}
-use Rattle.topos_top.specs.Replies.{AllowsReply}
-use Rattle.topos_top.specs.Reply.{Reply}
-use Rattle.topos_top.specs.Shelf.{ShelfChange}
+use Rattle.run_core.specs.Replies.{AllowsReply}
+use Rattle.run_core.specs.Reply.{Reply}
+use Rattle.run_core.specs.Shelf.{ShelfChange}
 use Rattle.topos_top.specs.inner.Command.{command_of, forms, parse_host_count}
-use Rattle.topos_top.specs.inner.Forms.{one_word}
-use Rattle.topos_top.specs.inner.Replies.{AllowsReplyTo}
-use Rattle.topos_top.proofs.DialectLaws.{named_word}
-use Rattle.topos_top.proofs.FormLaws.{AreForms, IsForm, among_forms, asked, dialect_form, file_form, files_form, none_asked, two_form}
+use Rattle.run_core.specs.inner.Forms.{one_word}
+use Rattle.run_core.specs.inner.Replies.{AllowsReplyTo}
+use Rattle.run_core.proofs.DialectLaws.{named_word}
+use Rattle.topos_top.specs.Commands.{topos}
+use Rattle.run_core.proofs.ParseLaws.{one_command, reply_allowed}
+use Rattle.run_core.proofs.FormLaws.{AreForms, IsForm, among_forms, asked, dialect_form, file_form, files_form, none_asked, two_form}
 
 -- ---- the command that the arguments form is parsed
 
@@ -39,10 +41,7 @@ is_read words command asks = ap command_of asks.0 ∙ read_of command asks.1
 
 -- Arguments form at most one command.
 pub one_ask : (words : List (List ℕ)) (command other : Command) → ParseAs words command → ParseAs words other → command ≡ other
-one_ask words command other p q =
-    let here = is_read words command p in
-    let there = is_read words other q in
-    cc (here, there)
+one_ask words command other p q = one_command topos command_of is_read words command other p q
 
 -- ---- the parsed command is the one that the arguments form
 
@@ -96,9 +95,5 @@ is_asked (word ∷ rest) command is = among_forms ParseAs forms are_forms word r
 -- ---- the reply
 
 -- The reply for the parsed command is one that may be given.
-pub may_give : (words : List (List ℕ)) (shelf : ShelfChange) (given : Reply) → AllowsReplyTo (command_of words) shelf given → AllowsReply words shelf given
-may_give words shelf given may = by_read (command_of words) refl may
-  where
-    by_read : (asked : Option Command) → command_of words ≡ asked → AllowsReplyTo asked shelf given → AllowsReply words shelf given
-    by_read None is may = inl (λ command asks. none_asked command (sym is ∙ is_read words command asks), may.0, may.1)
-    by_read (Some command) is may = inr (command, is_asked words command is, may)
+pub may_give : (words : List (List ℕ)) (shelf : ShelfChange) (given : Reply) → AllowsReplyTo topos (command_of words) shelf given → AllowsReply topos words shelf given
+may_give words shelf given may = reply_allowed topos command_of is_read is_asked words shelf given may

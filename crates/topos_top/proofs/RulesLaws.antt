@@ -8,20 +8,22 @@ use Rattle.net_core.proofs.HeadlineLaws.{IsGreatestPolicy-from_policy, CompliesW
 use Rattle.net_core.specs.Network.{Network}
 use Rattle.net_core.specs.inner.Fitting.{IsNetwork}
 use Rattle.net_core.specs.Policies.{IsPolicyOf, MeetsAll, Policy}
-use Rattle.net_core.proofs.PolicyLaws.{policy_is_one, IsSubset-stateful, asked_is_permitted}
+use Rattle.net_core.proofs.PolicyLaws.{IsSubset-stateful, asked_is_permitted}
 use Rattle.pkt_core.specs.Filter.{Enforces, ForwardsAsExpected}
 use Rattle.pkt_core.proofs.AnyTrackingLaws.{enforced_in_any_state}
 use Rattle.pkt_core.proofs.FilterLaws.{enforced_expected}
 use Rattle.pkt_core.specs.FlowPolicy.{FlowPolicy}
 use Rattle.report_core.specs.FlowPolicies.{flow_policy_of}
-use Rattle.topos_top.specs.Dialects.{RuleDialect, rule_dialect_of}
-use Rattle.topos_top.specs.Outcomes.{Answers}
+use Rattle.run_core.specs.Dialects.{RuleDialect, rule_dialect_of}
+use Rattle.run_core.specs.Outcomes.{Answers}
 use Rattle.topos_top.specs.Repair.{repair_outcomes}
-use Rattle.topos_top.specs.Reply.{Reply, error}
-use Rattle.topos_top.specs.Rules.{IsRules, PolicyMeetsInvariants, EnforcesPolicyText, OfPolicy, rules_for}
-use Rattle.topos_top.specs.declared.dialect.Dialect.{Dialect}
-use Rattle.topos_top.specs.declared.status.Status.TheVariants.{NotEmittable}
-use Rattle.topos_top.proofs.DialectLaws.{IsLawful}
+use Rattle.run_core.specs.Reply.{Reply, error}
+use Rattle.topos_top.specs.Rules.{IsRules, PolicyMeetsInvariants, EnforcesPolicyText, rules_for}
+use Rattle.run_core.specs.OfPolicy.{OfPolicy}
+use Rattle.run_core.specs.declared.dialect.Dialect.{Dialect}
+use Rattle.run_core.specs.declared.status.Status.TheVariants.{NotEmittable}
+use Rattle.run_core.proofs.OfPolicyLaws.{moved}
+use Rattle.run_core.proofs.DialectLaws.{IsLawful}
 
 -- The policy of a network has its properties.
 pub policy_keeps : (d : Network) (policy : Policy) → IsNetwork d → IsPolicyOf d policy → PolicyMeetsInvariants d policy
@@ -33,12 +35,6 @@ policy_keeps d policy network is = record {
   unchanged = λ holds. ap (λ (set : SetOfFlows). set.flows) (asked_is_permitted d policy network holds is);
   complies = CompliesWithAll-from_policy d policy network is;
 }
-
--- Properties of the policy of one hold for the policy of the other.
-pub moved : (d : Network) (P Q : FlowPolicy → Type 0) (a : OfPolicy d P) (b : OfPolicy d Q)
-    → P (flow_policy_of d b.policy)
-moved d P Q a b =
-    subst (λ (policy : Policy). P (flow_policy_of d policy)) (policy_is_one d a.policy b.policy a.is_policy b.is_policy) a.so
 
 -- The reply if the rules cannot be emitted.
 pub ends_hindered : (dialect : Dialect) (d : Network) (reply : Reply) (line : List ℕ) → reply ≡ error NotEmittable line

@@ -3,20 +3,20 @@ use Rattle.std.proofs.Common.{◌≡◌, inl, inr, ℕ, false, List, ap, subst, 
 use Rattle.sample_core.proofs.SamplePromisesLaws.{reports_sample}
 use Rattle.topos_top.specs.Command.{Command, Sample, ParseAs, reports_on_output}
 use Rattle.topos_top.specs.Commands.{plan_of, NamesNoFile}
-use Rattle.topos_top.specs.CommandPlan.{ReadsNothing}
-use Rattle.topos_top.specs.Outcomes.{Answers, stream_of}
+use Rattle.run_core.specs.CommandPlan.{ReadsNothing}
+use Rattle.run_core.specs.Outcomes.{Answers, stream_of}
 use Rattle.topos_top.specs.Promises.{CutOff, EndsAsSample, DeliversReply, NoMemory, Written}
-use Rattle.topos_top.specs.Replies.{IsPossibleReply}
-use Rattle.topos_top.specs.Reply.{Reply, no_memory}
+use Rattle.run_core.specs.Replies.{IsPossibleReply}
+use Rattle.run_core.specs.Reply.{Reply, no_memory}
 use Rattle.topos_top.specs.Sample.{sample_outcomes}
-use Rattle.topos_top.specs.Shelf.{ShelfChange}
-use Rattle.topos_top.specs.SinkChanges.{SinkChange, IsWrittenTo, IsDelivered}
-use Rattle.topos_top.specs.declared.status.Status.{Status}
-use Rattle.topos_top.specs.declared.status.Status.TheVariants as status
-use Rattle.topos_top.specs.declared.status.Stream.{Stream}
-use Rattle.topos_top.specs.declared.status.Stream.TheVariants.{Output}
+use Rattle.run_core.specs.Shelf.{ShelfChange}
+use Rattle.run_core.specs.SinkChanges.{SinkChange, IsWrittenTo, IsDelivered}
+use Rattle.run_core.specs.declared.status.Status.{Status}
+use Rattle.run_core.specs.declared.status.Status.TheVariants as status
+use Rattle.run_core.specs.declared.status.Stream.{Stream}
+use Rattle.run_core.specs.declared.status.Stream.TheVariants.{Output}
 use Rattle.topos_top.proofs.ParseLaws.{one_ask}
-use Rattle.topos_top.proofs.RunLaws.{ends_in_error}
+use Rattle.run_core.proofs.RunLaws.{ends_in_error}
 
 pub sample_names_no_file : (words : List (List ℕ)) (n : ℕ) → ParseAs words (Sample n) → NamesNoFile words
 sample_names_no_file words n asks command asked = subst (λ (a : Command). ReadsNothing (plan_of a)) (one_ask words (Sample n) command asks asked) tt

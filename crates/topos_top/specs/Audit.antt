@@ -7,20 +7,16 @@ use Rattle.audit_core.specs.Findings.{DifferSomewhere, IsFirstTrace, events_of}
 use Rattle.audit_core.specs.FindingText.{classes_line, trace_text}
 use Rattle.audit_core.specs.Places.{class_count, representatives_of, most_classes}
 use Rattle.rules_space.specs.Rules.{Rules}
-use Rattle.audit_core.specs.Sides.{AreSafe, DifferThen, AreEquivalent, Sides, sides_of}
+use Rattle.audit_core.specs.Sides.{AreSafe, DifferThen, AreEquivalent, Sides}
 use Rattle.audit_core.specs.declared.finding.Trace.{Trace}
 use Rattle.host_net.specs.declared.packet.Packet.{Packet}
 use Rattle.net_core.specs.Network.{Network}
 use Rattle.pkt_core.specs.declared.event.Event.{Event}
 use Rattle.pkt_core.specs.declared.event.Event.TheVariants.{Seen}
 use Rattle.pkt_core.specs.Filter.{ArePackets}
-use Rattle.topos_top.specs.Outcomes.{Outcome, Outcomes, says_why}
-use Rattle.topos_top.specs.Rules.{OfPolicy}
-use Rattle.topos_top.specs.declared.status.Status.TheVariants.{Violated, NotEmittable, Done}
-
--- The property holds for the policy of the network and the rules.
-abbrev pub OfSides : Network → Rules → (Sides → Type 0) → Type 0
-OfSides d rules Holds = OfPolicy d (λ policy. Holds (sides_of policy rules))
+use Rattle.run_core.specs.Outcomes.{Outcome, Outcomes, says_why}
+use Rattle.run_core.specs.OfPolicy.{OfSides}
+use Rattle.run_core.specs.declared.status.Status.TheVariants.{Violated, NotEmittable, Done}
 
 -- The number of packet classes is within the limit.
 abbrev pub FewClasses : Sides → Type 0

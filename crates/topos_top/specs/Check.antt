@@ -4,9 +4,9 @@ use Rattle.net_core.specs.Network.{Network}
 use Rattle.net_core.specs.Policies.{MeetsAll}
 use Rattle.report_core.specs.CheckReport.{IsCheckReport}
 use Rattle.report_core.specs.ReportPromises.{ReportsViolations}
-use Rattle.topos_top.specs.Outcomes.{Outcome, Outcomes}
-use Rattle.topos_top.specs.declared.status.Status.{Status}
-use Rattle.topos_top.specs.declared.status.Status.TheVariants.{Violated, Done}
+use Rattle.run_core.specs.Outcomes.{Outcome, Outcomes}
+use Rattle.run_core.specs.declared.status.Status.{Status}
+use Rattle.run_core.specs.declared.status.Status.TheVariants.{Violated, Done}
 
 -- Every invariant holds on the requested flows.
 abbrev pub AskedHolds : Network → Type 0

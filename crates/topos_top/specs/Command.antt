@@ -1,10 +1,9 @@
 -- The commands of the command line (docs/GUIDE.md): one constructor per command form, with all its arguments.
 use Rattle.std.specs.Prelude.{◌≡◌, ℕ, ◌<◌, ◌≤◌, List, [], ◌∷◌, ◌++◌, Bool, true, false, IsTrue, codes, decimal}
 use Rattle.host_net.specs.Limits.{host_limit}
-use Rattle.topos_top.specs.Dialects.{rule_dialect_of}
-use Rattle.topos_top.specs.Reply.{Reply, error}
-use Rattle.topos_top.specs.declared.dialect.Dialect.{Dialect}
-use Rattle.topos_top.specs.declared.status.Status.TheVariants as status
+use Rattle.run_core.specs.Dialects.{rule_dialect_of}
+use Rattle.run_core.specs.Program.{FormNothing}
+use Rattle.run_core.specs.declared.dialect.Dialect.{Dialect}
 
 -- A command with its arguments.
 pub data Command : Type 0 where
@@ -43,7 +42,7 @@ ParseAs words command = (words ≡ arguments_of command) × HasFewHosts command
 
 -- The arguments form no command.
 abbrev pub ParseAsNothing : List (List ℕ) → Type 0
-ParseAsNothing words = (command : Command) → ParseAs words command → ⊥
+ParseAsNothing = FormNothing ParseAs
 
 -- The usage text, which lists the command forms.
 unfoldable pub usage_text : List ℕ
@@ -58,10 +57,6 @@ usage_text =
     ++ (codes "       topos audit iptables|openflow FILE RULES\n"
     ++ (codes "       topos edit FILE EDITS\n"
     ++ codes "       topos local FILE HOST\n"))))))))
-
--- The reply to arguments that form no command.
-abbrev pub usage : Reply
-usage = error status.Usage usage_text
 
 -- The command reports violations on the output. All other commands report them on the error stream.
 abbrev pub reports_on_output : Command → Bool

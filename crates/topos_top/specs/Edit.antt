@@ -9,9 +9,9 @@ use Rattle.net_core.specs.Network.{Network}
 use Rattle.report_core.specs.PolicyReport.{IsPolicyReport}
 use Rattle.report_core.specs.ReportPromises.{ReportsPolicy}
 use Rattle.toml.specs.Data.{Members}
-use Rattle.topos_top.specs.Outcomes.{Outcome, Outcomes, says_why}
+use Rattle.run_core.specs.Outcomes.{Outcome, Outcomes, says_why}
 use Rattle.topos_top.specs.TextFault.{edit_fault_line}
-use Rattle.topos_top.specs.declared.status.Status.TheVariants.{BadText, Done}
+use Rattle.run_core.specs.declared.status.Status.TheVariants.{BadText, Done}
 
 -- The line of a summary, by the number of its edit from 1 (docs/TEXTS.md).
 abbrev pub summary_line : ℕ → Summary → List ℕ

@@ -1,9 +1,6 @@
 pub mod TextFault
-pub mod Reply
-pub mod Dialects
 pub mod Command
 pub mod FileFormats
-pub mod Outcomes
 pub mod Check
 pub mod Policy
 pub mod Rules
@@ -14,10 +11,6 @@ pub mod Edit
 pub mod Trace
 pub mod Sample
 pub mod Migrate
-pub mod Shelf
-pub mod CommandPlan
 pub mod Commands
-pub mod Replies
-pub mod SinkChanges
 pub mod Promises
 pub mod inner

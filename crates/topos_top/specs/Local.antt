@@ -12,15 +12,16 @@ use Rattle.net_core.specs.Network.{Network}
 use Rattle.net_core.specs.Policies.{Policy}
 use Rattle.report_core.specs.FlowPolicies.{flow_policy_of}
 use Rattle.topos_top.specs.Check.{offences_when}
-use Rattle.topos_top.specs.Outcomes.{Outcomes, says_why}
-use Rattle.topos_top.specs.Reply.{not_emittable}
-use Rattle.topos_top.specs.Rules.{PolicyMeetsInvariants, ListedHolds, OfPolicy}
-use Rattle.topos_top.specs.declared.status.Status.TheVariants.{Violated, NotEmittable, Done}
+use Rattle.run_core.specs.Outcomes.{Outcomes, says_why}
+use Rattle.run_core.specs.Reply.{no_host_line, not_emittable}
+use Rattle.topos_top.specs.Rules.{PolicyMeetsInvariants, ListedHolds}
+use Rattle.run_core.specs.OfPolicy.{OfPolicy}
+use Rattle.run_core.specs.declared.status.Status.TheVariants.{Violated, NotEmittable, Done}
 
 -- The reason for no rules for a host of that name, and the line that reports it (docs/TEXTS.md): there is no such host, or it is the rest
 -- host, which has no prefixes.
 pub data CannotEmitLocal (d : Network) (host line : List ℕ) : Type 0 where
-  NoHost : host_named d.hosts host ≡ None → line ≡ not_emittable (codes "no host " ++ (host ++ codes "\n")) → CannotEmitLocal d host line
+  NoHost : host_named d.hosts host ≡ None → line ≡ no_host_line host → CannotEmitLocal d host line
   RestHost : (h : ℕ) → host_named d.hosts host ≡ Some h → rest_of d.hosts ≡ Some h → line ≡ not_emittable (host ++ codes " is the rest host\n") → CannotEmitLocal d host line
 
 -- The host of that name is specific, with this number.

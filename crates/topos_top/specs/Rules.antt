@@ -7,23 +7,17 @@ use Rattle.net_core.specs.Network.{Network}
 use Rattle.net_core.specs.Policies.{CompliesWithAll, IsGreatestPolicy, IsPolicyOf, IsEdgeWiseNetwork, MeetsAll, Policy}
 use Rattle.pkt_core.specs.AnyTracking.{ForwardsInAnyState}
 use Rattle.pkt_core.specs.Filter.{Enforces, ForwardsAsExpected}
-use Rattle.pkt_core.specs.FlowPolicy.{FlowPolicy}
 use Rattle.report_core.specs.FlowPolicies.{flow_policy_of}
 use Rattle.topos_top.specs.Check.{AskedHolds, offences_when}
-use Rattle.topos_top.specs.Dialects.{RuleDialect, rule_dialect_of}
-use Rattle.topos_top.specs.Outcomes.{Outcomes, says_why}
-use Rattle.topos_top.specs.declared.dialect.Dialect.{Dialect}
-use Rattle.topos_top.specs.declared.status.Status.TheVariants.{Violated, NotEmittable, Done}
+use Rattle.run_core.specs.Dialects.{RuleDialect, rule_dialect_of}
+use Rattle.run_core.specs.OfPolicy.{OfPolicy}
+use Rattle.run_core.specs.Outcomes.{Outcomes, says_why}
+use Rattle.run_core.specs.declared.dialect.Dialect.{Dialect}
+use Rattle.run_core.specs.declared.status.Status.TheVariants.{Violated, NotEmittable, Done}
 
 -- If a policy is listed, every invariant holds on it.
 abbrev pub ListedHolds : Network → Type 0
 ListedHolds d = IsTrue d.given → AskedHolds d
-
--- The property holds for the policy of the network.
-pub record OfPolicy (d : Network) (Holds : FlowPolicy → Type 0) : Type 0 where
-  pub policy : Policy
-  pub is_policy : IsPolicyOf d policy
-  pub so : Holds (flow_policy_of d policy)
 
 -- The text is the rules of the policy of the network: its permitted flows pass, and the answers of its stateful flows.
 abbrev pub IsRules : RuleDialect → Network → (rules : List ℕ) → Type 0

@@ -2,7 +2,7 @@
 use Rattle.std.specs.Prelude.{ℕ}
 use Rattle.sample_core.specs.Sample.{IsSample}
 use Rattle.sample_core.specs.SamplePromises.{ReportsSample}
-use Rattle.topos_top.specs.Outcomes.{Outcomes, writes}
+use Rattle.run_core.specs.Outcomes.{Outcomes, writes}
 
 -- The report of the network that the table of the sample describes, and of its packets.
 abbrev pub sample_outcomes : (hosts : ℕ) → Outcomes

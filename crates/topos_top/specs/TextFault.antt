@@ -1,8 +1,9 @@
--- The line that reports a rejected file of rules, events or edits: its first bad line and the reason (docs/TEXTS.md).
-use Rattle.std.specs.Prelude.{◌≡◌, ℕ, List, ◌++◌, codes, decimal}
+-- The reasons to reject a list of events or of edits, and to refuse an edit (docs/TEXTS.md).
+use Rattle.std.specs.Prelude.{ℕ, List, codes}
 use Rattle.desc_form.specs.Refusals.{name}
 use Rattle.edit_core.specs.declared.fault.EditWhy.{EditWhy}
 use Rattle.edit_core.specs.declared.fault.EditWhy.TheVariants as edit
+use Rattle.run_core.specs.TextFault.{fault_line}
 use Rattle.text_core.specs.declared.faults.ListWhy.{ListWhy}
 use Rattle.text_core.specs.declared.faults.ListWhy.TheVariants as list
 
@@ -19,17 +20,6 @@ edit_reason edit.NoPolicy = codes "NoPolicy"
 edit_reason edit.Absent = codes "Absent"
 edit_reason (edit.Refused why) = name why
 
--- A line by its number, from 1, and the reason. Line 0 means the whole file.
-abbrev pub fault_line : (text : List ℕ) → (line : ℕ) → (reason : List ℕ) → List ℕ
-fault_line text line reason = codes "topos: " ++ (text ++ (codes ": line " ++ (decimal line ++ (codes ": " ++ (reason ++ codes "\n")))))
-
--- The line reports an error of the bytes, for this kind of file. A file of rules has the same name in every dialect.
-pub record ReportsFault {Why : Type 0} (text : List ℕ) (reason_of : Why → List ℕ) (HasFault : List ℕ → ℕ → Why → Type 0) (bytes line : List ℕ) : Type 0 where
-  pub number : ℕ
-  pub why : Why
-  pub fault : HasFault bytes number why
-  pub told : line ≡ fault_line text number (reason_of why)
-
 -- The line that reports a refused edit, by the number of its line.
-unfoldable pub edit_fault_line : (line : ℕ) → EditWhy → List ℕ
+abbrev pub edit_fault_line : (line : ℕ) → EditWhy → List ℕ
 edit_fault_line line why = fault_line (codes "edits") line (edit_reason why)

@@ -2,7 +2,7 @@
 use Rattle.std.specs.Prelude.{List}
 use Rattle.pkt_core.specs.Firewall.{Filter}
 use Rattle.pkt_core.specs.declared.event.Event.{Event}
-use Rattle.topos_top.specs.Outcomes.{Outcomes, writes}
+use Rattle.run_core.specs.Outcomes.{Outcomes, writes}
 use Rattle.report_core.specs.Trace.{IsTrace, ReportsRun}
 
 -- The results of the unique run of the filter of the rules over the events, from an empty connection table.

@@ -2,27 +2,24 @@
 //! expects.
 
 ghost use Rattle.std.specs.Prelude.{◌≡◌, IfOk, true};
+ghost use Rattle.topos_top.specs.FileFormats as format;
 ghost use Rattle.topos_top.specs.Command.{Audit};
 ghost use Rattle.topos_top.specs.Audit.{audit_outcomes};
-ghost use Rattle.topos_top.specs.Dialects.{rule_dialect_of};
+ghost use Rattle.run_core.specs.Dialects.{rule_dialect_of};
 ghost use Rattle.topos_top.specs.Commands.{plan_of};
-ghost use Rattle.topos_top.specs.CommandPlan.{reads, ends};
-ghost use Rattle.topos_top.specs.Outcomes.{Answers};
-ghost use Rattle.topos_top.specs.Replies.{IsPossibleReply};
-ghost use Rattle.topos_top.specs.Shelf.{shelf_change};
+ghost use Rattle.run_core.specs.CommandPlan.{reads, ends};
+ghost use Rattle.run_core.specs.Outcomes.{Answers};
+ghost use Rattle.run_core.specs.Replies.{IsPossibleReply};
+ghost use Rattle.run_core.specs.Shelf.{shelf_change};
 ghost use Rattle.topos_top.specs.inner.OutcomesReplies.{finding_reply};
-ghost use Rattle.topos_top.specs.inner.Views.{reply_view, reply_in, rules_view};
+ghost use Rattle.run_core.specs.inner.Views.{reply_view, reply_in, rules_view};
 
-use crate::answer::Answer;
-use crate::dialect::{Dialect, Rules};
-use crate::flow_policy::policy_between;
-use crate::kind::Kind;
-use crate::reading::{read_description, read_rules};
-use crate::text::Text;
+use crate::reading::read_rules;
 use audit_core::{AuditRefusal, Finding, classes_line, finding_text};
 use desc_core::Description;
 use edge_io::Shelf;
 use net_core::policy_of;
+use run_core::{Answer, Dialect, Rules, Text, policy_between, read_description};
 use std::alloc::{AllocError, Global};
 
 /// Returns the reply for the files of those names.
@@ -48,7 +45,7 @@ fn reply_for<'a, H: Shelf>(
     rules: &'a str,
     shelf: &mut H,
 ) -> Result<Answer<'a>, Answer<'a>>
-    ensures { IsPossibleReply true (reads (Kind.Rules dialect) rules.now (λ said. ends (audit_outcomes description.now ((rule_dialect_of dialect).audited said))))
+    ensures { IsPossibleReply true (reads (format.rules dialect) rules.now (λ said. ends (audit_outcomes description.now ((rule_dialect_of dialect).audited said))))
         (shelf_change H.Shelf shelf.old shelf.new) (reply_in result) }
 {
     let rules = read_rules(alloc, dialect, rules, shelf)?;

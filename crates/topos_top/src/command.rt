@@ -4,10 +4,10 @@ ghost use Rattle.std.specs.Prelude.{◌≡◌, ◌≤◌, map, string_bytes, opt
 ghost use Rattle.host_net.specs.Limits.{host_limit};
 ghost use Rattle.topos_top.specs.Command.{usage_text};
 ghost use Rattle.topos_top.specs.inner.Command.{IsWithinHosts, command_of, command_view, parse_host_count, forms};
-ghost use Rattle.topos_top.specs.inner.Forms.{among, one_word, two_words, three_words};
+ghost use Rattle.run_core.specs.inner.Forms.{among};
 
-use crate::dialect::Dialect;
 use host_net::HOST_LIMIT;
+use run_core::{Dialect, one_word, three_words, two_words};
 use text_core::read_number;
 
 /// A command: one variant per command form, with all its arguments.
@@ -101,36 +101,6 @@ fn parse_after_verb<'a>(verb: &str, rest: &'a [String]) -> Option<Command<'a>>
             Some(Command::Local(file, host))
         }
         _ => None,
-    }
-}
-
-/// Returns the single argument, if there is exactly one.
-pub fn one_word(words: &[String]) -> Option<&str>
-    ensures { option_map (λ word. word.now) result ≡ one_word (map string_bytes words.now) }
-{
-    match words {
-        [word] => Some(word.as_str()),
-        [] | [_, _, ..] => None,
-    }
-}
-
-/// Returns the two arguments, if there are exactly two.
-pub fn two_words(words: &[String]) -> Option<(&str, &str)>
-    ensures { option_map (λ pair. (pair.0.now, pair.1.now)) result ≡ two_words (map string_bytes words.now) }
-{
-    match words {
-        [first, second] => Some((first.as_str(), second.as_str())),
-        [] | [_] | [_, _, _, ..] => None,
-    }
-}
-
-/// Returns the three arguments, if there are exactly three.
-pub fn three_words(words: &[String]) -> Option<(&str, &str, &str)>
-    ensures { option_map (λ all. (all.0.now, all.1.now, all.2.now)) result ≡ three_words (map string_bytes words.now) }
-{
-    match words {
-        [first, second, third] => Some((first.as_str(), second.as_str(), third.as_str())),
-        [] | [_] | [_, _] | [_, _, _, _, ..] => None,
     }
 }
 

@@ -2,25 +2,24 @@
 
 ghost use Rattle.std.specs.Prelude.{◌≡◌, map, string_bytes};
 ghost use Rattle.topos_top.specs.Command.{reports_on_output};
-ghost use Rattle.topos_top.specs.Commands.{plan_of};
-ghost use Rattle.topos_top.specs.CommandPlan.{ReadsNothing};
-ghost use Rattle.topos_top.specs.Replies.{IsPossibleReply};
-ghost use Rattle.topos_top.specs.Shelf.{shelf_change};
+ghost use Rattle.topos_top.specs.Commands.{plan_of, topos};
+ghost use Rattle.run_core.specs.CommandPlan.{ReadsNothing};
+ghost use Rattle.run_core.specs.Replies.{IsPossibleReply};
+ghost use Rattle.run_core.specs.Shelf.{shelf_change};
 ghost use Rattle.topos_top.specs.inner.Command.{command_of, command_view, IsWithinHosts};
-ghost use Rattle.topos_top.specs.inner.Replies.{AllowsReplyTo, NamesNothing};
-ghost use Rattle.topos_top.specs.inner.Views.{reply_in, reply_view};
+ghost use Rattle.run_core.specs.inner.Replies.{AllowsReplyTo};
+ghost use Rattle.topos_top.specs.inner.Replies.{NamesNothing};
+ghost use Rattle.run_core.specs.inner.Views.{reply_in, reply_view};
 
-use crate::answer::Answer;
 use crate::command::{Command, parse_command, usage};
-use crate::status::Status;
-use crate::text::Text;
 use crate::{audit, check, edit, local, migrate, policy, repair, rules, sample, trace};
 use edge_io::Shelf;
+use run_core::{Answer, Status, Text};
 use std::alloc::Global;
 
 /// Computes the reply to `words`, reading files from `shelf` as needed. Writes nothing.
 pub fn answer_to<'a, H: Shelf>(alloc: Global, words: &'a [String], shelf: &mut H) -> Answer<'a>
-    ensures reply { AllowsReplyTo (command_of (map string_bytes words.now))
+    ensures reply { AllowsReplyTo topos (command_of (map string_bytes words.now))
         (shelf_change H.Shelf shelf.old shelf.new) (reply_view result) }
     ensures opens_no_file { NamesNothing (command_of (map string_bytes words.now)) → shelf.new ≡ shelf.old }
 {

@@ -5,23 +5,22 @@ ghost use Rattle.std.specs.Prelude.{◌≡◌, ◌++◌, OnOk, IfOk, false, map}
 ghost use Rattle.edit_core.specs.inner.Kept.{table_of};
 ghost use Rattle.edit_core.specs.inner.EditView.{edit_view};
 ghost use Rattle.report_core.specs.PolicyReport.{IsPolicyReport};
+ghost use Rattle.topos_top.specs.FileFormats as format;
 ghost use Rattle.topos_top.specs.Command.{Edit};
 ghost use Rattle.topos_top.specs.Commands.{plan_of};
-ghost use Rattle.topos_top.specs.CommandPlan.{reads, ends};
+ghost use Rattle.run_core.specs.CommandPlan.{reads, ends};
 ghost use Rattle.topos_top.specs.Edit.{ReportsTable, edit_outcomes, summary_line, summary_lines};
-ghost use Rattle.topos_top.specs.Outcomes.{Answers};
-ghost use Rattle.topos_top.specs.Replies.{IsPossibleReply};
-ghost use Rattle.topos_top.specs.Shelf.{shelf_change};
-ghost use Rattle.topos_top.specs.inner.Views.{reply_view, reply_in};
+ghost use Rattle.run_core.specs.Outcomes.{Answers};
+ghost use Rattle.run_core.specs.Replies.{IsPossibleReply};
+ghost use Rattle.run_core.specs.Shelf.{shelf_change};
+ghost use Rattle.run_core.specs.inner.Views.{reply_view, reply_in};
 
-use crate::answer::Answer;
-use crate::kind::Kind;
 use crate::reading::{read_edits, read_session};
-use crate::status::Status;
-use crate::text::Text;
+use crate::text_fault::refused_edit;
 use edge_io::Shelf;
 use edit_core::{EditRefusal, Session, Summary};
 use report_core::{push_numbered, report_of_policy};
+use run_core::{Answer, Status, Text};
 use std::alloc::{AllocError, Global};
 
 /// Returns the reply for the files of those names.
@@ -45,7 +44,7 @@ fn reply_for<'a, H: Shelf>(
     edits: &'a str,
     shelf: &mut H,
 ) -> Result<Answer<'a>, Answer<'a>>
-    ensures { IsPossibleReply false (reads Kind.Edits edits.now (λ es. ends (edit_outcomes (table_of session.old) es)))
+    ensures { IsPossibleReply false (reads format.edits edits.now (λ es. ends (edit_outcomes (table_of session.old) es)))
         (shelf_change H.Shelf shelf.old shelf.new) (reply_in result) }
 {
     let edits = read_edits(alloc, edits, shelf)?;
@@ -66,7 +65,7 @@ fn answer<'a>(
             Ok(Answer::done(Text::Bytes(text)))
         }
         Err(EditRefusal::Refused { line, why }) => {
-            Ok(Answer::error(Status::BadText, Text::RefusedEdit(line, why)))
+            Ok(Answer::error(Status::BadText, refused_edit(line, why)))
         }
         Err(EditRefusal::Memory) => Err(AllocError),
     }

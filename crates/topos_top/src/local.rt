@@ -6,24 +6,20 @@ ghost use Rattle.host_emit.specs.LocalLayout.{is_specific};
 ghost use Rattle.host_net.specs.Host.{host_named};
 ghost use Rattle.topos_top.specs.Command.{Local};
 ghost use Rattle.topos_top.specs.Commands.{plan_of};
-ghost use Rattle.topos_top.specs.Outcomes.{Answers};
+ghost use Rattle.run_core.specs.Outcomes.{Answers};
 ghost use Rattle.topos_top.specs.Local.{local_outcomes};
-ghost use Rattle.topos_top.specs.inner.Local.{machines_outcomes, no_host_line, rest_host_line};
-ghost use Rattle.topos_top.specs.Replies.{IsPossibleReply};
-ghost use Rattle.topos_top.specs.Shelf.{shelf_change};
-ghost use Rattle.topos_top.specs.inner.Views.{reply_view, reply_in};
+ghost use Rattle.topos_top.specs.inner.Local.{machines_outcomes, rest_host_line};
+ghost use Rattle.run_core.specs.Reply.{no_host_line};
+ghost use Rattle.run_core.specs.Replies.{IsPossibleReply};
+ghost use Rattle.run_core.specs.Shelf.{shelf_change};
+ghost use Rattle.run_core.specs.inner.Views.{reply_view, reply_in};
 
-use crate::answer::Answer;
-use crate::dialect::Rules;
-use crate::flow_policy::policy_between;
 use crate::listed::listed_offences;
-use crate::reading::read_description;
-use crate::status::Status;
-use crate::text::Text;
 use desc_core::Description;
 use edge_io::Shelf;
 use host_emit::{is_specific, local_rules};
 use net_core::policy_of;
+use run_core::{Answer, Rules, Status, Text, no_host_line, policy_between, read_description};
 use std::alloc::{AllocError, Global};
 
 /// Returns the reply for the file of that name and the host of that name.
@@ -86,17 +82,6 @@ fn specific_machines<'a>(
     let policy = policy_of(alloc, description)?;
     let rules = local_rules(alloc, &policy_between(description, &policy), number)?;
     Ok(Answer::done(Text::Rules(Rules::Chains(rules))))
-}
-
-/// Returns the line that reports that no host has that name.
-pub fn no_host_line(alloc: Global, host: &str) -> Result<Vec<u8>, AllocError>
-    ensures { IfOk result (λ line. line.items ≡ no_host_line host.now) }
-{
-    let mut line = Vec::new(alloc);
-    line.extend_from_slice(b"topos: not emittable: no host ")?;
-    line.extend_from_slice(host.as_bytes())?;
-    line.extend_from_slice(b"\n")?;
-    Ok(line)
 }
 
 /// Returns the line that reports that the host is the rest host.

@@ -3,18 +3,16 @@
 ghost use Rattle.std.specs.Prelude.{IfOk, false};
 ghost use Rattle.topos_top.specs.Command.{Policy};
 ghost use Rattle.topos_top.specs.Commands.{plan_of};
-ghost use Rattle.topos_top.specs.Outcomes.{Answers};
+ghost use Rattle.run_core.specs.Outcomes.{Answers};
 ghost use Rattle.topos_top.specs.Policy.{policy_outcomes};
-ghost use Rattle.topos_top.specs.Replies.{IsPossibleReply};
-ghost use Rattle.topos_top.specs.Shelf.{shelf_change};
-ghost use Rattle.topos_top.specs.inner.Views.{reply_view, reply_in};
+ghost use Rattle.run_core.specs.Replies.{IsPossibleReply};
+ghost use Rattle.run_core.specs.Shelf.{shelf_change};
+ghost use Rattle.run_core.specs.inner.Views.{reply_view, reply_in};
 
-use crate::answer::Answer;
-use crate::reading::read_description;
-use crate::text::Text;
 use desc_core::Description;
 use edge_io::Shelf;
 use report_core::policy_report;
+use run_core::{Answer, Text, read_description};
 use std::alloc::{AllocError, Global};
 
 /// Returns the reply for the file of that name.

@@ -3,14 +3,14 @@
 ghost use Rattle.std.specs.Prelude.{◌≡◌, ◌≢◌, ℕ, ◌≤◌, ◌↔◌, ◌⊎◌, map, string_bytes};
 ghost use Rattle.topos_top.specs.Command.{Command, Sample, ParseAs, ParseAsNothing, ReportsViolationsOnOutput};
 ghost use Rattle.topos_top.specs.Commands.{NamesNoFile};
-ghost use Rattle.topos_top.specs.Promises.{DeliversReply, HasCause, HasCauses, MeetsHeadline, EndsAsSample, IsComplete};
-ghost use Rattle.topos_top.specs.Shelf.{shelf_change};
-ghost use Rattle.topos_top.specs.SinkChanges.{sink_change};
+ghost use Rattle.topos_top.specs.Promises.{DeliversReply, HasCause, MeetsHeadline, EndsAsSample, IsComplete};
+ghost use Rattle.run_core.specs.Promises.{HasCauses};
+ghost use Rattle.run_core.specs.Shelf.{shelf_change};
+ghost use Rattle.run_core.specs.SinkChanges.{sink_change};
 
 use crate::commands::answer_to;
-use crate::ending::deliver;
-use crate::status::Status;
 use edge_io::{Shelf, Sink};
+use run_core::{Status, deliver};
 use std::alloc::Global;
 
 /// Runs the command given by `words`: reads its files from `shelf`, writes the result to `out`, or

@@ -4,15 +4,13 @@
 ghost use Rattle.std.specs.Prelude.{false};
 ghost use Rattle.topos_top.specs.Command.{Repair};
 ghost use Rattle.topos_top.specs.Commands.{plan_of};
-ghost use Rattle.topos_top.specs.Replies.{IsPossibleReply};
-ghost use Rattle.topos_top.specs.Shelf.{shelf_change};
-ghost use Rattle.topos_top.specs.inner.Views.{reply_in};
+ghost use Rattle.run_core.specs.Replies.{IsPossibleReply};
+ghost use Rattle.run_core.specs.Shelf.{shelf_change};
+ghost use Rattle.run_core.specs.inner.Views.{reply_in};
 
-use crate::answer::Answer;
-use crate::dialect::Dialect;
-use crate::reading::read_description;
 use crate::rules::policy_rules;
 use edge_io::Shelf;
+use run_core::{Answer, Dialect, read_description};
 use std::alloc::Global;
 
 /// Returns the reply for the file of that name: the rules, or the reason why they cannot be

@@ -4,23 +4,18 @@
 ghost use Rattle.std.specs.Prelude.{IfOk, false};
 ghost use Rattle.topos_top.specs.Command.{Rules};
 ghost use Rattle.topos_top.specs.Commands.{plan_of};
-ghost use Rattle.topos_top.specs.Outcomes.{Answers};
+ghost use Rattle.run_core.specs.Outcomes.{Answers};
 ghost use Rattle.topos_top.specs.Repair.{repair_outcomes};
-ghost use Rattle.topos_top.specs.Replies.{IsPossibleReply};
+ghost use Rattle.run_core.specs.Replies.{IsPossibleReply};
 ghost use Rattle.topos_top.specs.Rules.{rules_outcomes};
-ghost use Rattle.topos_top.specs.Shelf.{shelf_change};
-ghost use Rattle.topos_top.specs.inner.Views.{reply_view, reply_in};
+ghost use Rattle.run_core.specs.Shelf.{shelf_change};
+ghost use Rattle.run_core.specs.inner.Views.{reply_view, reply_in};
 
-use crate::answer::Answer;
-use crate::dialect::Dialect;
-use crate::flow_policy::policy_between;
 use crate::listed::listed_offences;
-use crate::reading::read_description;
-use crate::status::Status;
-use crate::text::Text;
 use desc_core::Description;
 use edge_io::Shelf;
 use net_core::policy_of;
+use run_core::{Answer, Dialect, Status, Text, policy_between, read_description};
 use std::alloc::{AllocError, Global};
 
 /// Returns the reply for the file of that name.

@@ -3,12 +3,11 @@
 
 ghost use Rattle.std.specs.Prelude.{◌≤◌, IfOk, false};
 ghost use Rattle.host_net.specs.Limits.{host_limit};
-ghost use Rattle.topos_top.specs.Outcomes.{Answers};
+ghost use Rattle.run_core.specs.Outcomes.{Answers};
 ghost use Rattle.topos_top.specs.Sample.{sample_outcomes};
-ghost use Rattle.topos_top.specs.inner.Views.{reply_view};
+ghost use Rattle.run_core.specs.inner.Views.{reply_view};
 
-use crate::answer::Answer;
-use crate::text::Text;
+use run_core::{Answer, Text};
 use sample_core::sample_text;
 use std::alloc::{AllocError, Global};
 

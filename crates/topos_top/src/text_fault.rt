@@ -1,9 +1,11 @@
 //! The names of the reasons to reject a list of events or of edits, and to refuse an edit.
 
 ghost use Rattle.std.specs.Prelude.{◌≡◌};
-ghost use Rattle.topos_top.specs.TextFault.{list_reason, edit_reason};
+ghost use Rattle.run_core.specs.inner.Views.{text_view};
+ghost use Rattle.topos_top.specs.TextFault.{list_reason, edit_fault_line};
 
 use edit_core::EditWhy;
+use run_core::Text;
 use text_core::ListWhy;
 
 /// Returns the name of the reason to reject a list of events or of edits.
@@ -18,13 +20,13 @@ pub fn list_reason(why: ListWhy) -> &'static [u8]
     }
 }
 
-/// Returns the name of the reason to refuse an edit on the description that it changes.
-pub fn edit_reason(why: &EditWhy) -> &[u8]
-    ensures { result.now ≡ edit_reason why.now }
+/// Returns the line for a refused edit: the number of its line, and the reason.
+pub fn refused_edit<'a>(line: u32, why: EditWhy) -> Text<'a>
+    ensures { text_view result ≡ edit_fault_line line why }
 {
     match why {
-        EditWhy::NoPolicy => b"NoPolicy",
-        EditWhy::Absent => b"Absent",
-        EditWhy::Refused(why) => why.name().as_bytes(),
+        EditWhy::NoPolicy => Text::Fault(b"edits", line, b"NoPolicy"),
+        EditWhy::Absent => Text::Fault(b"edits", line, b"Absent"),
+        EditWhy::Refused(why) => Text::RefusedLine(b"edits", line, why),
     }
 }

@@ -2,22 +2,20 @@
 
 ghost use Rattle.std.specs.Prelude.{IfOk, false};
 ghost use Rattle.rules_space.specs.Rules.{filter_of};
+ghost use Rattle.topos_top.specs.FileFormats as format;
 ghost use Rattle.topos_top.specs.Command.{Trace};
 ghost use Rattle.topos_top.specs.Commands.{plan_of};
-ghost use Rattle.topos_top.specs.CommandPlan.{reads, ends};
-ghost use Rattle.topos_top.specs.Outcomes.{Answers};
-ghost use Rattle.topos_top.specs.Replies.{IsPossibleReply};
-ghost use Rattle.topos_top.specs.Shelf.{shelf_change};
+ghost use Rattle.run_core.specs.CommandPlan.{reads, ends};
+ghost use Rattle.run_core.specs.Outcomes.{Answers};
+ghost use Rattle.run_core.specs.Replies.{IsPossibleReply};
+ghost use Rattle.run_core.specs.Shelf.{shelf_change};
 ghost use Rattle.topos_top.specs.Trace.{trace_outcomes};
-ghost use Rattle.topos_top.specs.inner.Views.{reply_in, reply_view, rules_view};
+ghost use Rattle.run_core.specs.inner.Views.{reply_in, reply_view, rules_view};
 
-use crate::answer::Answer;
-use crate::dialect::{Dialect, Rules};
-use crate::kind::Kind;
 use crate::reading::{read_events, read_rules};
-use crate::text::Text;
 use edge_io::Shelf;
 use pkt_core::Event;
+use run_core::{Answer, Dialect, Rules, Text};
 use std::alloc::{AllocError, Global};
 
 /// Returns the reply for the files of those names.
@@ -42,7 +40,7 @@ fn reply_for<'a, H: Shelf>(
     events: &'a str,
     shelf: &mut H,
 ) -> Result<Answer<'a>, Answer<'a>>
-    ensures { IsPossibleReply false (reads Kind.Events events.now (λ es. ends (trace_outcomes (filter_of (rules_view rules.now)) es)))
+    ensures { IsPossibleReply false (reads format.events events.now (λ es. ends (trace_outcomes (filter_of (rules_view rules.now)) es)))
         (shelf_change H.Shelf shelf.old shelf.new) (reply_in result) }
 {
     let events = read_events(alloc, events, shelf)?;

@@ -1,6 +1,6 @@
 -- The question that the code reads of the words. No promise of `run` depends on it.
 use Rattle.std.specs.Prelude.{ℕ, List, [], ◌∷◌, Option, None, codes}
-use Rattle.topos_top.specs.inner.Forms.{Form, among, of_file, of_three, of_two, with_two_files}
+use Rattle.run_core.specs.inner.Forms.{Form, among, of_file, of_three, of_two, with_two_files}
 use Rattle.query_top.specs.Command.{Command, Changes, Compare, Flows, Network, Why}
 use Rattle.query_top.specs.declared.command.Command.{Command as CodeCommand}
 use Rattle.query_top.specs.declared.command.Command.TheVariants as command

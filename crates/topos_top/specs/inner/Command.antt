@@ -6,7 +6,7 @@ use Rattle.text_core.specs.inner.Decimal.{number}
 use Rattle.topos_top.specs.Command.{Command, Check, Policy, Rules, Repair, Trace, Sample, Migrate, Audit, Edit, Local}
 use Rattle.topos_top.specs.declared.command.Command.{Command as CodeCommand}
 use Rattle.topos_top.specs.declared.command.Command.TheVariants as command
-use Rattle.topos_top.specs.inner.Forms.{Form, among, in_dialect, of_file, of_two, one_word, with_two_files}
+use Rattle.run_core.specs.inner.Forms.{Form, among, in_dialect, of_file, of_two, one_word, with_two_files}
 
 -- The number of hosts that an argument denotes: a decimal number from 1 to the host limit.
 abbrev pub parse_host_count : (word : List ℕ) → Option ℕ

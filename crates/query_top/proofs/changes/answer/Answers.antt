@@ -4,11 +4,11 @@ use Rattle.std.specs.Prelude.{if◌then◌else◌}
 use Rattle.net_core.specs.Network.{Network}
 use Rattle.query_core.specs.Json.{is_nothing}
 use Rattle.query_top.specs.Changes.{IsChangesAnswer, changes_outcomes}
-use Rattle.topos_top.specs.Outcomes.{Answers}
-use Rattle.topos_top.specs.Reply.{Reply}
-use Rattle.topos_top.specs.inner.Views.{reply_on, reply_view}
-use Rattle.topos_top.specs.declared.status.Status.TheVariants.{Done, Violated}
-use Rattle.topos_top.specs.declared.status.Stream.TheVariants.{Output}
+use Rattle.run_core.specs.Outcomes.{Answers}
+use Rattle.run_core.specs.Reply.{Reply}
+use Rattle.run_core.specs.inner.Views.{reply_on, reply_view}
+use Rattle.run_core.specs.declared.status.Status.TheVariants.{Done, Violated}
+use Rattle.run_core.specs.declared.status.Stream.TheVariants.{Output}
 use Rattle.query_top.proofs.changes.answer.Goals as goal
 
 -- The text is that of an outcome, done or violated.

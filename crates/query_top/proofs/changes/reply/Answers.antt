@@ -1,10 +1,10 @@
 use Rattle.std.proofs.Common.{inl, true}
 use Rattle.std.proofs.lemmas.Result.{err_from_is_err_and}
 use Rattle.query_top.specs.Changes.{changes_outcomes}
-use Rattle.topos_top.specs.CommandPlan.{reads, ends}
-use Rattle.topos_top.specs.inner.Views.{reply_in}
-use Rattle.topos_top.specs.declared.kind.Kind.TheVariants.{Description}
-use Rattle.topos_top.proofs.CommandPlanLaws.{went_on}
+use Rattle.run_core.specs.CommandPlan.{reads, ends}
+use Rattle.run_core.specs.inner.Views.{reply_in}
+use Rattle.run_core.specs.FileFormats.{description}
+use Rattle.run_core.proofs.CommandPlanLaws.{went_on}
 use Rattle.query_top.proofs.changes.reply.Goals as goal
 
 pub returns-in_err-description : goal.returns-in_err-description
@@ -14,5 +14,5 @@ returns-in_err-description g c =
 
 pub returns : goal.returns
 returns g c =
-    went_on true Description c.args.old.now (λ before. reads Description c.args.new.now (λ after. ends (changes_outcomes before after))) _ _ _
+    went_on true description c.args.old.now (λ before. reads description c.args.new.now (λ after. ends (changes_outcomes before after))) _ _ _
     c.in_ok-description.description (reply_in c.reply_from.result) c.in_ok-description.ensures c.reply_from.ensures

@@ -1,7 +1,7 @@
 use Rattle.std.proofs.lemmas.Result.{IfOk-weaker}
 use Rattle.query_core.proofs.CompareLaws.{differences_fit}
-use Rattle.topos_top.specs.inner.Views.{reply_view, rules_view}
-use Rattle.topos_top.proofs.AuditLaws.{sides_for}
+use Rattle.run_core.specs.inner.Views.{reply_view, rules_view}
+use Rattle.run_core.proofs.OfPolicyLaws.{sides_for}
 use Rattle.query_top.proofs.CompareLaws.{ends_compared}
 use Rattle.query_top.proofs.compare.answer.Goals as goal
 

@@ -4,11 +4,11 @@ use Rattle.host_net.specs.Host.{Host}
 use Rattle.query_core.proofs.FlowsLaws.{flows_fit}
 use Rattle.query_top.proofs.FlowsLaws.{are_complete}
 use Rattle.query_top.specs.Flows.{IsFlowsAnswer, flows_outcomes}
-use Rattle.topos_top.specs.Outcomes.{Answers}
-use Rattle.topos_top.specs.Reply.{Reply}
-use Rattle.topos_top.specs.inner.Views.{reply_on, reply_view, rules_view}
-use Rattle.topos_top.specs.declared.status.Status.TheVariants.{Done}
-use Rattle.topos_top.specs.declared.status.Stream.TheVariants.{Output}
+use Rattle.run_core.specs.Outcomes.{Answers}
+use Rattle.run_core.specs.Reply.{Reply}
+use Rattle.run_core.specs.inner.Views.{reply_on, reply_view, rules_view}
+use Rattle.run_core.specs.declared.status.Status.TheVariants.{Done}
+use Rattle.run_core.specs.declared.status.Stream.TheVariants.{Output}
 use Rattle.query_top.proofs.flows.answer.Goals as goal
 
 -- The text with the flows is that of an outcome.

@@ -1,11 +1,12 @@
 use Rattle.std.proofs.Common.{inl, true}
 use Rattle.std.proofs.lemmas.Result.{err_from_is_err_and}
-use Rattle.topos_top.specs.Dialects.{rule_dialect_of}
+use Rattle.run_core.specs.Dialects.{rule_dialect_of}
 use Rattle.query_top.specs.Flows.{flows_outcomes}
-use Rattle.topos_top.specs.CommandPlan.{reads, ends}
-use Rattle.topos_top.specs.inner.Views.{reply_in}
-use Rattle.topos_top.specs.declared.kind.Kind.TheVariants.{Description, PlainRules}
-use Rattle.topos_top.proofs.CommandPlanLaws.{went_on}
+use Rattle.run_core.specs.CommandPlan.{reads, ends}
+use Rattle.run_core.specs.inner.Views.{reply_in}
+use Rattle.run_core.specs.FileFormats.{description}
+use Rattle.query_top.specs.PlainRules.{plain_rules}
+use Rattle.run_core.proofs.CommandPlanLaws.{went_on}
 use Rattle.query_top.proofs.flows.reply.Goals as goal
 
 pub returns-in_err-description : goal.returns-in_err-description
@@ -15,5 +16,5 @@ returns-in_err-description g c =
 
 pub returns : goal.returns
 returns g c =
-    went_on true Description c.args.file.now (λ x. reads (PlainRules c.args.dialect) c.args.rules.now (λ said. ends (flows_outcomes x.hosts ((rule_dialect_of c.args.dialect).audited said)))) _ _ _
+    went_on true description c.args.file.now (λ x. reads (plain_rules c.args.dialect) c.args.rules.now (λ said. ends (flows_outcomes x.hosts ((rule_dialect_of c.args.dialect).audited said)))) _ _ _
     c.in_ok-description.description (reply_in c.reply_for.result) c.in_ok-description.ensures (rw c.hosts.ensures.value at c.reply_for.ensures)

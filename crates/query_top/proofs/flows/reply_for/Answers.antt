@@ -2,12 +2,12 @@ use Rattle.std.proofs.Common.{inl, subst, true}
 use Rattle.std.proofs.lemmas.Result.{err_from_is_err_and}
 use Rattle.std.specs.Prelude.{IfOk}
 use Rattle.rules_space.specs.Rules.{Rules as AuditedRules}
-use Rattle.topos_top.specs.Dialects.{rule_dialect_of}
+use Rattle.run_core.specs.Dialects.{rule_dialect_of}
 use Rattle.query_top.specs.Flows.{flows_outcomes}
-use Rattle.topos_top.specs.Outcomes.{Answers}
-use Rattle.topos_top.specs.inner.Views.{reply_in, reply_view}
-use Rattle.topos_top.specs.declared.kind.Kind.TheVariants.{PlainRules}
-use Rattle.topos_top.proofs.CommandPlanLaws.{went_to_outcomes}
+use Rattle.run_core.specs.Outcomes.{Answers}
+use Rattle.run_core.specs.inner.Views.{reply_in, reply_view}
+use Rattle.query_top.specs.PlainRules.{plain_rules}
+use Rattle.run_core.proofs.CommandPlanLaws.{went_to_outcomes}
 use Rattle.query_top.proofs.flows.reply_for.Goals as goal
 
 pub returns-in_err-rules : goal.returns-in_err-rules
@@ -19,5 +19,5 @@ pub returns : goal.returns
 returns g c =
     let hosts = c.args.hosts.now in
     let rules = c.in_ok-rules.ensures in
-    went_to_outcomes true (PlainRules c.args.dialect) c.args.rules.now (λ said. flows_outcomes hosts ((rule_dialect_of c.args.dialect).audited said)) _ _ rules.said c.answer.result (reply_in c.of_outcomes.result) rules.read
+    went_to_outcomes true (plain_rules c.args.dialect) c.args.rules.now (λ said. flows_outcomes hosts ((rule_dialect_of c.args.dialect).audited said)) _ _ rules.said c.answer.result (reply_in c.of_outcomes.result) rules.read
     (subst (λ (audited : AuditedRules). IfOk c.answer.result (λ answer. Answers true (flows_outcomes hosts audited) (reply_view answer))) rules.told c.answer.ensures) c.of_outcomes.ensures

@@ -1,7 +1,7 @@
 use Rattle.std.proofs.Common.{◌≡◌, ◌∙◌, ap, arith, List, None, Some, sym}
 use Rattle.host_net.specs.Host.{Host, host_named}
 use Rattle.query_top.specs.Why.{NoReceiver}
-use Rattle.topos_top.specs.inner.Views.{reply_view}
+use Rattle.run_core.specs.inner.Views.{reply_view}
 use Rattle.query_top.proofs.WhyLaws.{answers_no_flow, same_host}
 use Rattle.query_top.proofs.why.answer.Goals as goal
 

@@ -1,4 +1,4 @@
-use Rattle.topos_top.specs.inner.Views.{reply_view}
+use Rattle.run_core.specs.inner.Views.{reply_view}
 use Rattle.query_top.proofs.WhyLaws.{answers_flow, named_is_flow}
 use Rattle.query_top.proofs.why.flow_answer.Goals as goal
 

@@ -1,8 +1,8 @@
 use Rattle.std.proofs.Common.{inl, true}
 use Rattle.std.proofs.lemmas.Result.{err_from_is_err_and}
-use Rattle.topos_top.specs.inner.Views.{reply_in}
-use Rattle.topos_top.specs.declared.kind.Kind.TheVariants.{Description}
-use Rattle.topos_top.proofs.CommandPlanLaws.{went_to_outcomes}
+use Rattle.run_core.specs.inner.Views.{reply_in}
+use Rattle.run_core.specs.FileFormats.{description}
+use Rattle.run_core.proofs.CommandPlanLaws.{went_to_outcomes}
 use Rattle.query_top.specs.Why.{why_outcomes}
 use Rattle.query_top.proofs.why.reply.Goals as goal
 
@@ -13,4 +13,4 @@ returns-in_err-description g c =
 
 pub returns : goal.returns
 returns g c =
-    went_to_outcomes true Description c.args.file.now (λ x. why_outcomes x c.args.from.now c.args.to.now) _ _ c.in_ok-description.description c.answer.result (reply_in c.of_outcomes.result) c.in_ok-description.ensures c.answer.ensures c.of_outcomes.ensures
+    went_to_outcomes true description c.args.file.now (λ x. why_outcomes x c.args.from.now c.args.to.now) _ _ c.in_ok-description.description c.answer.result (reply_in c.of_outcomes.result) c.in_ok-description.ensures c.answer.ensures c.of_outcomes.ensures

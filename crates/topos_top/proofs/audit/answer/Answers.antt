@@ -1,5 +1,5 @@
 use Rattle.std.proofs.lemmas.Result.{IfOk-weaker}
-use Rattle.topos_top.specs.inner.Views.{rules_view}
+use Rattle.run_core.specs.inner.Views.{rules_view}
 use Rattle.topos_top.proofs.AuditLaws.{ends_found}
 use Rattle.topos_top.proofs.audit.answer.Goals as goal
 

@@ -3,11 +3,11 @@ use Rattle.std.proofs.lemmas.Result.{err_from_is_err_and}
 use Rattle.std.specs.Prelude.{IfOk}
 use Rattle.rules_space.specs.Rules.{Rules as AuditedRules}
 use Rattle.topos_top.specs.Audit.{audit_outcomes}
-use Rattle.topos_top.specs.Dialects.{rule_dialect_of}
-use Rattle.topos_top.specs.Outcomes.{Answers}
-use Rattle.topos_top.specs.inner.Views.{reply_in, reply_view}
-use Rattle.topos_top.specs.declared.kind.Kind.TheVariants.{Rules}
-use Rattle.topos_top.proofs.CommandPlanLaws.{went_to_outcomes}
+use Rattle.run_core.specs.Dialects.{rule_dialect_of}
+use Rattle.run_core.specs.Outcomes.{Answers}
+use Rattle.run_core.specs.inner.Views.{reply_in, reply_view}
+use Rattle.topos_top.specs.FileFormats.{rules}
+use Rattle.run_core.proofs.CommandPlanLaws.{went_to_outcomes}
 use Rattle.topos_top.proofs.audit.reply_for.Goals as goal
 
 pub returns-in_err-rules : goal.returns-in_err-rules
@@ -18,6 +18,6 @@ returns-in_err-rules g c =
 pub returns : goal.returns
 returns g c =
     let d = c.args.description.now in
-    let rules = c.in_ok-rules.ensures in
-    went_to_outcomes true (Rules c.args.dialect) c.args.rules.now (λ said. audit_outcomes d ((rule_dialect_of c.args.dialect).audited said)) _ _ rules.said c.answer.result (reply_in c.of_outcomes.result) rules.read
-    (subst (λ (audited : AuditedRules). IfOk c.answer.result (λ answer. Answers true (audit_outcomes d audited) (reply_view answer))) rules.told c.answer.ensures) c.of_outcomes.ensures
+    let read = c.in_ok-rules.ensures in
+    went_to_outcomes true (rules c.args.dialect) c.args.rules.now (λ said. audit_outcomes d ((rule_dialect_of c.args.dialect).audited said)) _ _ read.said c.answer.result (reply_in c.of_outcomes.result) read.read
+    (subst (λ (audited : AuditedRules). IfOk c.answer.result (λ answer. Answers true (audit_outcomes d audited) (reply_view answer))) read.told c.answer.ensures) c.of_outcomes.ensures

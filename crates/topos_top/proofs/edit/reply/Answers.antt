@@ -1,11 +1,11 @@
 use Rattle.std.proofs.Common.{inl, false}
 use Rattle.std.proofs.lemmas.Result.{err_from_is_err_and}
 use Rattle.edit_core.specs.inner.Kept.{table_of}
-use Rattle.topos_top.specs.CommandPlan.{reads, ends}
+use Rattle.run_core.specs.CommandPlan.{reads, ends}
 use Rattle.topos_top.specs.Edit.{edit_outcomes}
-use Rattle.topos_top.specs.inner.Views.{reply_in}
-use Rattle.topos_top.specs.declared.kind.Kind.TheVariants.{Edited, Edits}
-use Rattle.topos_top.proofs.CommandPlanLaws.{went_on}
+use Rattle.run_core.specs.inner.Views.{reply_in}
+use Rattle.topos_top.specs.FileFormats.{edited, edits}
+use Rattle.run_core.proofs.CommandPlanLaws.{went_on}
 use Rattle.topos_top.proofs.edit.reply.Goals as goal
 
 pub returns-in_err-session : goal.returns-in_err-session
@@ -15,5 +15,5 @@ returns-in_err-session g c =
 
 pub returns : goal.returns
 returns g c =
-    went_on false Edited c.args.file.now (λ t. reads Edits c.args.edits.now (λ es. ends (edit_outcomes t es))) _ _ _
+    went_on false edited c.args.file.now (λ t. reads edits c.args.edits.now (λ es. ends (edit_outcomes t es))) _ _ _
     (table_of c.in_ok-session.session) (reply_in c.reply_for.result) c.in_ok-session.ensures c.reply_for.ensures

@@ -1,11 +1,11 @@
 use Rattle.std.proofs.Common.{Err, Ok, Result, false}
 use Rattle.std.specs.Prelude.{IfOk}
-use Rattle.topos_top.specs.Outcomes.{Answers}
+use Rattle.run_core.specs.Outcomes.{Answers}
 use Rattle.topos_top.specs.Local.{local_outcomes}
 use Rattle.topos_top.specs.inner.Local.{machines_outcomes}
 use Rattle.topos_top.specs.Rules.{ListedHolds}
-use Rattle.topos_top.specs.inner.Views.{reply_view}
-use Rattle.topos_top.specs.declared.answer.Answer.{Answer}
+use Rattle.run_core.specs.inner.Views.{reply_view}
+use Rattle.run_core.specs.declared.answer.Answer.{Answer}
 use Rattle.topos_top.proofs.LocalLaws.{answers_listed}
 use Rattle.topos_top.proofs.local.answer.Goals as goal
 

@@ -1,10 +1,10 @@
 use Rattle.std.proofs.Common.{◌≡◌, ◌∙◌, false, Some, List, sym, ap, subst, inl, refl}
 use Rattle.host_net.specs.Host.{Host, host_named}
 use Rattle.host_emit.specs.LocalLayout.{is_specific}
-use Rattle.topos_top.specs.Outcomes.{Answers}
+use Rattle.run_core.specs.Outcomes.{Answers}
 use Rattle.topos_top.specs.Local.{CannotEmitLocal, RestHost}
 use Rattle.topos_top.specs.inner.Local.{machines_outcomes}
-use Rattle.topos_top.specs.Reply.{Reply}
+use Rattle.run_core.specs.Reply.{Reply}
 use Rattle.topos_top.proofs.LocalLaws.{is_rest}
 use Rattle.topos_top.proofs.local.machines.Goals as goal
 

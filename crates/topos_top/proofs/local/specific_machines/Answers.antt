@@ -1,7 +1,7 @@
 use Rattle.std.proofs.Common.{◌<◌, length, sym, subst}
 use Rattle.pkt_core.specs.FlowPolicy.{FlowPolicy}
 use Rattle.host_net.proofs.NamedLaws.{host_named_within}
-use Rattle.topos_top.specs.inner.Views.{reply_view}
+use Rattle.run_core.specs.inner.Views.{reply_view}
 use Rattle.topos_top.proofs.LocalLaws.{ends_with_rules}
 use Rattle.topos_top.proofs.local.specific_machines.Goals as goal
 

@@ -1,5 +1,5 @@
-use Rattle.topos_top.specs.declared.kind.Kind.TheVariants.{Rules}
-use Rattle.topos_top.proofs.Taking.{refused_whole}
+use Rattle.topos_top.specs.FileFormats.{rules}
+use Rattle.run_core.proofs.Taking.{refused_whole}
 use Rattle.topos_top.proofs.reading.read_rules.Goals as goal
 
 pub returns-in-Ok : goal.returns-in-Ok
@@ -10,4 +10,4 @@ returns-in-Ok g c =
 pub returns-in-Err-Refused : goal.returns-in-Err-Refused
 returns-in-Err-Refused g c =
     let refuses = rw (c.deref.ensures.value, c.in-Err-Refused.field-0-is) at c.in-Err-Refused.ensures in
-    refused_whole (Rules c.args.dialect) _ _ _ _ c.in_ok-bytes.ensures (record { line = _; refuses = refuses; replied = c.bad_text.ensures })
+    refused_whole (rules c.args.dialect) _ _ _ _ c.in_ok-bytes.ensures (record { line = _; refuses = refuses; replied = c.bad_text.ensures })

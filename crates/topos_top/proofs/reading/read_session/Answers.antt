@@ -1,11 +1,11 @@
 use Rattle.std.proofs.Common.{refl}
 use Rattle.std.proofs.lemmas.Result.{err_from_is_err_and}
-use Rattle.topos_top.specs.declared.kind.Kind.TheVariants.{Edited}
-use Rattle.topos_top.proofs.Taking.{description_refused}
+use Rattle.topos_top.specs.FileFormats.{edited}
+use Rattle.run_core.proofs.Taking.{description_refused}
 use Rattle.topos_top.proofs.reading.read_session.Goals as goal
 
 pub returns-in_err-start : goal.returns-in_err-start
 returns-in_err-start g c =
     let p = err_from_is_err_and c.from_residual-in_err-start.result c.from_residual-in_err-start.ensures.1 in
-    rw p.1 (description_refused Edited (λ bytes line none. none) refl _ c.args.name.now c.in_ok-bytes.bytes.items c.in_err-start.field-0.0 _ c.in_ok-bytes.ensures
+    rw p.1 (description_refused edited (λ bytes line none. none) refl _ c.args.name.now c.in_ok-bytes.bytes.items c.in_err-start.field-0.0 _ c.in_ok-bytes.ensures
     (λ why is. rw (is, c.deref.ensures.value) at c.in_err-start.ensures) p.2)

@@ -1,7 +1,7 @@
 use Rattle.std.proofs.Common.{inl, inr, refl, sym, subst, false}
-use Rattle.topos_top.specs.Outcomes.{Answers}
+use Rattle.run_core.specs.Outcomes.{Answers}
 use Rattle.topos_top.specs.Repair.{repair_outcomes}
-use Rattle.topos_top.specs.Reply.{Reply}
+use Rattle.run_core.specs.Reply.{Reply}
 use Rattle.topos_top.proofs.RulesLaws.{ends_hindered}
 use Rattle.topos_top.proofs.rules.policy_rules.Goals as goal
 

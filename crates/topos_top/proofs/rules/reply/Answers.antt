@@ -1,9 +1,9 @@
 use Rattle.std.proofs.Common.{inl, false}
 use Rattle.std.proofs.lemmas.Result.{err_from_is_err_and}
 use Rattle.topos_top.specs.Rules.{rules_outcomes}
-use Rattle.topos_top.specs.inner.Views.{reply_in}
-use Rattle.topos_top.specs.declared.kind.Kind.TheVariants.{Description}
-use Rattle.topos_top.proofs.CommandPlanLaws.{went_to_outcomes}
+use Rattle.run_core.specs.inner.Views.{reply_in}
+use Rattle.run_core.specs.FileFormats.{description}
+use Rattle.run_core.proofs.CommandPlanLaws.{went_to_outcomes}
 use Rattle.topos_top.proofs.rules.reply.Goals as goal
 
 pub returns-in_err-description : goal.returns-in_err-description
@@ -13,4 +13,4 @@ returns-in_err-description g c =
 
 pub returns : goal.returns
 returns g c =
-    went_to_outcomes false Description c.args.file.now (rules_outcomes c.args.dialect) _ _ c.in_ok-description.description c.answer.result (reply_in c.of_outcomes.result) c.in_ok-description.ensures c.answer.ensures c.of_outcomes.ensures
+    went_to_outcomes false description c.args.file.now (rules_outcomes c.args.dialect) _ _ c.in_ok-description.description c.answer.result (reply_in c.of_outcomes.result) c.in_ok-description.ensures c.answer.ensures c.of_outcomes.ensures

@@ -1,9 +1,9 @@
 use Rattle.std.proofs.Common.{inl, refl, subst, sym, false}
 use Rattle.rules_space.specs.Rules.{filter_of}
-use Rattle.topos_top.specs.Outcomes.{Answers}
-use Rattle.topos_top.specs.Reply.{Reply}
+use Rattle.run_core.specs.Outcomes.{Answers}
+use Rattle.run_core.specs.Reply.{Reply}
 use Rattle.topos_top.specs.Trace.{trace_outcomes}
-use Rattle.topos_top.specs.inner.Views.{rules_view}
+use Rattle.run_core.specs.inner.Views.{rules_view}
 use Rattle.topos_top.proofs.trace.answer.Goals as goal
 
 pub returns : goal.returns

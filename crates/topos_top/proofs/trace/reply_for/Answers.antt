@@ -2,9 +2,9 @@ use Rattle.std.proofs.Common.{inl, false}
 use Rattle.std.proofs.lemmas.Result.{err_from_is_err_and}
 use Rattle.rules_space.specs.Rules.{filter_of}
 use Rattle.topos_top.specs.Trace.{trace_outcomes}
-use Rattle.topos_top.specs.inner.Views.{reply_in, rules_view}
-use Rattle.topos_top.specs.declared.kind.Kind.TheVariants.{Events}
-use Rattle.topos_top.proofs.CommandPlanLaws.{went_to_outcomes}
+use Rattle.run_core.specs.inner.Views.{reply_in, rules_view}
+use Rattle.topos_top.specs.FileFormats.{events}
+use Rattle.run_core.proofs.CommandPlanLaws.{went_to_outcomes}
 use Rattle.topos_top.proofs.trace.reply_for.Goals as goal
 
 pub returns-in_err-events : goal.returns-in_err-events
@@ -14,5 +14,5 @@ returns-in_err-events g c =
 
 pub returns : goal.returns
 returns g c =
-    went_to_outcomes false Events c.args.events.now (trace_outcomes (filter_of (rules_view c.args.rules.now))) _ _ c.in_ok-events.events.items c.answer.result (reply_in c.of_outcomes.result)
+    went_to_outcomes false events c.args.events.now (trace_outcomes (filter_of (rules_view c.args.rules.now))) _ _ c.in_ok-events.events.items c.answer.result (reply_in c.of_outcomes.result)
     c.in_ok-events.ensures (rw c.deref.ensures.value at c.answer.ensures) c.of_outcomes.ensures

@@ -1,0 +1,13 @@
+pub mod TextFaultLaws
+pub mod DialectLaws
+pub mod FormatLaws
+pub mod OfPolicyLaws
+pub mod OutcomesLaws
+pub mod FormLaws
+pub mod CommandPlanLaws
+pub mod RunLaws
+pub mod CompleteLaws
+pub mod ParseLaws
+pub mod Consequences
+pub mod Taking
+pub mod PutBlocks

@@ -1,0 +1,13 @@
+pub mod TextFault
+pub mod Reply
+pub mod Dialects
+pub mod FileFormats
+pub mod Outcomes
+pub mod Shelf
+pub mod CommandPlan
+pub mod Program
+pub mod Replies
+pub mod SinkChanges
+pub mod OfPolicy
+pub mod Promises
+pub mod inner
