@@ -45,13 +45,13 @@ copy_description() {
   local file=${option[file]}
   if [ -e "$file" ] && [ ! -f "$file" ]; then refuse "$file is not a regular file: nothing is changed"; fi
   if [ ! -r "$file" ]; then run_program /dev/stdout check "$file"; fi
-  head -c 100000000 -- "$file" >"$1" || refuse "cannot copy $file to $1: nothing is changed"
-  note_writers "$file"
+  head -c 1048577 -- "$file" >"$1" || refuse "cannot copy $file to $1: nothing is changed" # topos refuses more than 1048576
+  note_writers "$file" "$(command -v "${option[program]}")"
 }
 
-# Names a file, or a folder on the way to it, if a user other than root may change it.
+# Names each of the files, and each folder on the way to one, that a user other than root may change.
 note_writers() {
-  local each mode owner
+  local each file mode owner
   while IFS= read -rd '' each; do
     if [ -L "$each" ]; then continue; fi # what it leads to is another path
     read -r mode owner < <(stat -c '%A %u' "$each")
@@ -59,7 +59,7 @@ note_writers() {
     elif [[ $mode == ?????w???[^tT] || $mode == ????????w[^tT] ]]; then
       note "$each is writable by users other than root, who can change the loaded rules"
     fi
-  done < <({ path_to "$(realpath -ms -- "$1")"; path_to "$(readlink -f -- "$1")"; } | sort -zu)
+  done < <(for file; do path_to "$(realpath -ms -- "$file")"; path_to "$(readlink -f -- "$file")"; done | sort -zu)
 }
 
 # Prints a path and the folders that lead to it.
