@@ -94,7 +94,7 @@ def ask_all(programs: Programs, description: bytes, text: str, save: Save | None
     try:
         search = Search(programs, text, save) if save else None
         upper = flows_of(programs.flows_of(asked[0]), texts[0]).without(omitted)
-        found = Answers(upper, Flows({}) if texts[1:] else upper, missing='what is in doubt, and dead rules')
+        found = Answers(upper, Flows({}, '') if texts[1:] else upper, missing='what is in doubt, and dead rules')
         try:
             for each, bound in zip(asked[1:], texts[1:]):
                 found.lower = flows_of(programs.flows_of(each), bound).without(omitted)

@@ -61,7 +61,7 @@ class Differences:
         """Yields what the rules may let pass and the description does not permit, by rules."""
         left_out = () if self.listing.upper.whole(pair) == ALL_SERVICES else omitted
         open_ = difference(self.listing.upper.any(pair), joined(services + left_out))
-        for lines, parts in grouped(self.listing.upper.pairs[pair]).items() if open_ else ():
+        for lines, parts in grouped(self.listing.upper.ranges(pair)).items() if open_ else ():
             shared = intersection(joined(each for part in parts for each in part.services), open_)
             example = next((f', as {each}' for part in parts if (each := part.example(shared))), '')
             if shared:

@@ -1,6 +1,7 @@
 """Asks `topos-query flows` what rules let pass, and leads its rules back to the lines of the save."""
+import functools
 import re
-from dataclasses import dataclass, field
+from dataclasses import dataclass
 from typing import Any
 
 from .flows_services import ALL_SERVICES, PORTS, number_of
@@ -11,6 +12,7 @@ from .query import Programs, Stopped
 
 Pair = tuple[str | None, str | None]  # None is for the addresses of no host
 Packet = dict[str, Any] | str  # as an answer has it, or as the line of an events file
+Places = dict[tuple[str, int], int]  # the line of the save by chain and number of the rule
 POLICY = 0  # in place of a line
 SOURCE = re.compile(rf'{MARK}\w+: forwards at .* what (.*) forwards\.\n')
 COMMENT = re.compile(r'-m comment --comment "line (\d+)')
@@ -45,11 +47,37 @@ class Range:
         return f'{" ".join(self.passes.split()[:3])} {PROTOCOLS.get(protocol, protocol)} 0 {port}'
 
 
-@dataclass
+Part = dict[str, Any]  # a range of services as an answer has it
+
+
 class Flows:
-    """What one text lets pass, by pairs."""
-    pairs: dict[Pair, list[Range]]
-    joined: dict[tuple[Pair, bool], Numbers] = field(default_factory=dict, compare=False)  # that were asked for
+    """What one text lets pass, by pairs. Of most pairs of a bound only the services are asked for."""
+
+    def __init__(self, pairs: dict[Pair, list[Part]], text: str) -> None:
+        self.pairs, self.text = pairs, text
+        self.joined: dict[tuple[Pair, bool], Numbers] = {}
+        self.read: dict[Pair, list[Range]] = {}
+        self.lines: dict[tuple[tuple[str, int], ...], tuple[int, ...]] = {}  # of rules that were asked for
+
+    @functools.cached_property
+    def places(self) -> Places:
+        return places_of(self.text)
+
+    def ranges(self, pair: Pair) -> list[Range]:
+        """Returns the ranges of services of which packets pass, with the rules."""
+        if pair not in self.read:
+            self.read[pair] = [self.range_of(part) for part in self.pairs.get(pair, ())]
+        return self.read[pair]
+
+    def range_of(self, part: Part) -> Range:
+        rules = tuple([(each['chain'], each['rule']) for each in part.get('rules', ())])
+        if rules not in self.lines:
+            if not self.places.keys() >= set(rules):
+                raise Stopped('the answer of topos-query names a rule that the text does not have')
+            self.lines[rules] = tuple(sorted({self.places[place] for place in rules}))
+        lines = (POLICY, *self.lines[rules]) if part.get('default') else self.lines[rules]
+        passes = part['passes']
+        return Range((interval(part),), passes, part['drops'], lines, number_of((passes['proto'], passes['dport'])))
 
     def whole(self, pair: Pair) -> Numbers:
         """Returns the services of which every packet passes."""
@@ -61,8 +89,8 @@ class Flows:
 
     def services(self, pair: Pair, is_whole: bool) -> Numbers:
         if (pair, is_whole) not in self.joined:
-            self.joined[pair, is_whole] = joined(each for part in self.pairs.get(pair, ())
-                                                 if part.dropped is None or not is_whole for each in part.services)
+            self.joined[pair, is_whole] = joined([interval(part) for part in self.pairs.get(pair, ())
+                                                  if part['drops'] is None or not is_whole])
         return self.joined[pair, is_whole]
 
     def meets(self, pair: Pair, services: Numbers) -> bool:
@@ -74,16 +102,18 @@ class Flows:
         if not omitted:
             return self
 
-        def left(pair: Pair, parts: list[Range]) -> list[Range]:
+        def left(pair: Pair, parts: list[Part]) -> list[Part]:
             if self.whole(pair) == ALL_SERVICES:
                 return parts
-            return [part for part in parts if not is_subset(part.services, omitted)]
+            return [part for part in parts if not is_subset((interval(part),), omitted)]
 
         pairs = {pair: left(pair, parts) for pair, parts in self.pairs.items()}
-        return Flows({pair: parts for pair, parts in pairs.items() if parts})
+        return Flows({pair: parts for pair, parts in pairs.items() if parts}, self.text)
 
 
-Places = dict[tuple[str, int], int]  # the line of the save by chain and number of the rule
+def interval(part: Part) -> tuple[int, int]:
+    """Returns the numbers of the first and the last service of a range."""
+    return number_of(part['low']), number_of(part['high'])
 
 
 def texts_of(text: str, save: Save | None) -> list[str]:
@@ -129,22 +159,7 @@ def encoded(text: str) -> bytes:
 
 def flows_of(answer: dict[str, Any], text: str) -> Flows:
     """Returns an answer on a text."""
-    places, known = places_of(text), dict[tuple[tuple[str, int], ...], tuple[int, ...]]()
-    return Flows({(each['from'], each['to']): [range_of(part, places, known) for part in each['services']]
-                  for each in answer['pairs']})
-
-
-def range_of(part: dict[str, Any], places: Places, known: dict[tuple[tuple[str, int], ...], tuple[int, ...]]) -> Range:
-    """Returns a range of an answer; `known` has the lines of the rules that were asked for."""
-    rules = tuple([(each['chain'], each['rule']) for each in part.get('rules', ())])
-    if rules not in known:
-        if not places.keys() >= set(rules):
-            raise Stopped('the answer of topos-query names a rule that the text does not have')
-        known[rules] = tuple(sorted({places[place] for place in rules}))
-    lines = (POLICY, *known[rules]) if part.get('default') else known[rules]
-    passes = part['passes']
-    return Range(((number_of(part['low']), number_of(part['high'])),), passes, part['drops'], lines,
-                 number_of((passes['proto'], passes['dport'])))
+    return Flows({(each['from'], each['to']): each['services'] for each in answer['pairs']}, text)
 
 
 def event_of(packet: Packet) -> str:

@@ -5,7 +5,7 @@ from dataclasses import dataclass, field
 from .flows_answer import Pair, Range
 from .flows_list import Listing, grouped
 from .flows_services import brief_services, size
-from .import_sets import Numbers, is_subset, joined
+from .import_sets import Numbers, joined
 from .flows_rules import Rules
 from .names import arrow, products, told_hosts
 from .query import lines_text
@@ -45,10 +45,10 @@ class Groups:
         self.numbers = {host: number for number, host in enumerate(listing.hosts)}
         self.found: dict[Opening, Group] = {}
         for pair in sorted(listing.upper.pairs, key=self.place_of):
-            whole = [part for part in listing.upper.pairs.get(pair, ()) if part.dropped is None]
-            for parts, is_whole in ((whole, True), (listing.parts(pair), False)):
-                for lines, ranges in grouped(parts).items():
-                    self.add(pair, lines, ranges, is_whole)
+            ranges = listing.upper.ranges(pair)
+            for is_whole in (True, False):
+                for lines, parts in grouped([part for part in ranges if (part.dropped is None) is is_whole]).items():
+                    self.add(pair, lines, parts, is_whole)
 
     def place_of(self, pair: Pair) -> tuple[int, int]:
         """Returns a key of the order of hosts, in which the addresses of no host are the last."""
@@ -56,8 +56,9 @@ class Groups:
         return first, second
 
     def add(self, pair: Pair, lines: tuple[int, ...], ranges: list[Range], is_whole: bool) -> None:
-        services = joined(each for part in ranges for each in part.services)
-        group = self.found.setdefault(Opening(lines, services, self.note(pair, services, is_whole)), Group())
+        services = joined([each for part in ranges for each in part.services])
+        opening = Opening(lines, services, self.note(pair, services, is_whole))
+        group = self.found.get(opening) or self.found.setdefault(opening, Group())
         if pair[0] is None or pair[1] is None:
             ends = [host or 'no host' for host in pair]
             group.others.append(f'from {ends[0]} to {ends[1]}: {{}}, as {ranges[0].passes}')
@@ -72,8 +73,9 @@ class Groups:
         if not is_whole:
             return 'in part' if self.listing.lower.meets(pair, services) else 'in part, in doubt'
         doubtful = self.listing.doubtful(pair, services)
-        rest = '' if is_subset(services, doubtful) else f': {brief_services(doubtful)}'
-        return f'in doubt{rest}' if doubtful else ''
+        if not doubtful:
+            return ''
+        return 'in doubt' + ('' if doubtful == services else f': {brief_services(doubtful)}')
 
     def ordered(self) -> list[tuple[Opening, Group]]:
         """Lists the openings by the lines of their rules, those of the most services first."""
@@ -104,7 +106,7 @@ class Groups:
     def neighbours(self) -> Iterator[str]:
         """Yields a line for hosts behind one interface whose packets to each other the rules let pass."""
         behind: dict[str, set[str]] = {}
-        for pair in (pair for group in self.found.values() for pair in group.pairs):
+        for pair in (pair for group in self.found.values() if self.listing.interfaces for pair in group.pairs):
             interfaces = {self.listing.interfaces.get(host, '') for host in pair}
             if len(interfaces) == 1 and interfaces != {''}:
                 behind.setdefault(interfaces.pop(), set()).update(pair)

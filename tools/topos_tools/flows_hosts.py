@@ -8,7 +8,7 @@ from .import_save import Save
 from .import_sets import (ALL_ADDRESSES, Numbers, address_text, difference, intersection, is_subset, joined,
                           prefix, prefix_text, prefixes)
 from .import_tables import Interfaces
-from .import_words import Refused
+from .import_words import Refused, addresses
 
 REST = 'rest'
 MOST_HOSTS, MOST_PREFIXES, LONGEST_NAME = 256, 1024, 32  # of a description
@@ -48,7 +48,7 @@ def owned_addresses(table: dict[str, list[str]]) -> dict[str, Numbers]:
     """Returns the addresses of hosts by their prefixes; a host without prefixes has the rest."""
     found: dict[str, Numbers] = {}
     for host, at in table.items():
-        found[host] = joined(interval for each in at for interval in Interfaces(f'x {each}').networks['x'])
+        found[host] = joined(interval for each in at for interval in addresses(each) or ())
     rest = difference(ALL_ADDRESSES, joined(each for numbers in found.values() for each in numbers))
     return {host: numbers or rest for host, numbers in found.items()}
 

@@ -43,7 +43,9 @@ class Listing:
         return '\n'.join([*lines, ']', *(f'# {line}' for line in (*self.other_lines(rules), *notes)), ''])
 
     def head(self, rules: str, description: str) -> list[str]:
-        counts = [sum(bool(found) for found in map(kind, self.pairs())) for kind in (self.upper.whole, self.parts)]
+        between = [parts for pair, parts in self.upper.pairs.items() if None not in pair and pair[0] != pair[1]]
+        counts = [sum(any((part['drops'] is None) is is_whole for part in parts) for parts in between)
+                  for is_whole in (True, False)]
         return [f'New connections that {rules} lets pass between the hosts of {description}: {counts[0]} flows, '
                 f'{counts[1]} in part.']
 
@@ -58,7 +60,7 @@ class Listing:
             yield from rules.dead(each.rule.line, each.takers)
 
     def parts(self, pair: Pair) -> list[Range]:
-        return [part for part in self.upper.pairs.get(pair, ()) if part.dropped is not None]
+        return [part for part in self.upper.ranges(pair) if part.dropped is not None]
 
     def entries(self, pair: Pair) -> Iterator[str]:
         """Yields the entry of a pair, and comments on what passes in part."""
@@ -76,7 +78,7 @@ class Listing:
 
     def notes(self, pair: Pair, listed: Numbers) -> Iterator[str]:
         """Yields the notes behind an entry."""
-        yield lines_text({line for part in self.upper.pairs[pair] if self.has_parts or part.dropped is None
+        yield lines_text({line for part in self.upper.ranges(pair) if self.has_parts or part.dropped is None
                           for line in part.lines})
         interface = self.interfaces.get(pair[0] or '')
         if interface and interface == self.interfaces.get(pair[1] or ''):
@@ -100,10 +102,10 @@ class Listing:
         for pair in self.upper.pairs:
             if None in pair:
                 ends = [host or 'no host' for host in pair]
-                yield f'from {ends[0]} to {ends[1]}: {self.told(pair)}, as {self.upper.pairs[pair][0].passes}'
+                yield f'from {ends[0]} to {ends[1]}: {self.told(pair)}, as {self.upper.ranges(pair)[0].passes}'
 
     def told(self, pair: Pair) -> str:
-        lines = {line for part in self.upper.pairs[pair] for line in part.lines}
+        lines = {line for part in self.upper.ranges(pair) for line in part.lines}
         in_part = ', in part' if self.parts(pair) else ''
         return f'{told_services(self.upper.any(pair))}{in_part} ({lines_text(lines)})'
 
@@ -120,7 +122,7 @@ class Listing:
         return {'from': pair[0], 'to': pair[1],
                 'services': service_words(whole),
                 'other': other_words(whole), 'in_doubt': service_words(doubtful) + other_words(doubtful),
-                'lines': sorted({line for part in self.upper.pairs[pair] for line in part.lines}),
+                'lines': sorted({line for part in self.upper.ranges(pair) for line in part.lines}),
                 'parts': [{'services': told_services(part.services), 'passes': part.passes, 'drops': part.drops,
                            'lines': list(part.lines)} for part in self.parts(pair)]}
 
