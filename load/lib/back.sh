@@ -46,7 +46,7 @@ start_guard() {
 # the rollback.
 guard() {
   trap '' HUP INT TERM PIPE
-  local left=6000 half parent=${TOPOS_LOAD:-0}
+  local left=6000 half end parent=${TOPOS_LOAD:-0}
   if [ "$(readlink "/proc/$$/fd/9")" != "${run[state]}/lock" ]; then wrong_words '--guard: unknown option'; fi
   open_changing && run[was]=$(cat "${run[state]}/before") && run[loaded]=$(cat "${run[state]}/rules") || exit 1
   echo -500 2>/dev/null >/proc/$$/oom_score_adj
@@ -56,13 +56,24 @@ guard() {
     sleep 0.1
   done
   half=$((option[seconds] * 5))
-  while ! is_decided && [ "$half" -gt 0 ]; do
+  end=$((option[seconds] * 100 + $(uptime_now)))
+  while ! is_decided && [ "$half" -gt 0 ] && ! is_past "$end"; do
     half=$((half - 1))
     sleep 0.2
   done
   decide back
   end_as_decided
 }
+
+# Prints the hundredths of seconds since the boot: the clock may be set, and on a busy machine a sleep takes longer.
+uptime_now() {
+  local now
+  read -r now _ </proc/uptime
+  echo "$((10#${now/./}))"
+}
+
+# Whether this time is over.
+is_past() { [ "$(uptime_now)" -ge "$1" ]; }
 
 # Whether the process that began this one is gone.
 is_orphan() {
