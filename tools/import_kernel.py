@@ -35,6 +35,8 @@ class Kernel:
     def __init__(self, interfaces: str) -> None:
         if ctypes.CDLL(None, use_errno=True).unshare(box.NEW_NETWORK):
             raise OSError(ctypes.get_errno(), 'no network namespace')
+        processors = sorted(os.sched_getaffinity(0))
+        os.sched_setaffinity(0, {processors[os.getpid() % len(processors)]})  # a packet and its marker stay in order
         self.behind, self.number = Interfaces(interfaces).networks, 0
         self.marks = box.interface('mark')
         self.files = {name: box.interface(name) for name in self.behind}
