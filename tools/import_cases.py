@@ -19,7 +19,8 @@ SETS = ('create a hash:net family inet hashsize 1024 maxelem 65536\nadd a 10.0.0
         'create i hash:ip,port,ip\nadd i 10.1.0.7,tcp:80,8.8.8.8\nadd i 10.1.0.7,icmp:8/0,8.8.8.8\n'
         'add i 10.1.0.7,esp:0,8.8.8.8\ncreate k hash:ip,mark\nadd k 10.1.0.7,0x1\n'
         'create h hash:net,net\nadd h 10.1.0.0/16,8.0.0.0/8\ncreate o hash:net,net\n'
-        'add o 10.1.0.0/16,8.0.0.0/8 nomatch\n')
+        'add o 10.1.0.0/16,8.0.0.0/8 nomatch\n'
+        'create y hash:net,port\nadd y 10.0.0.0/8,icmp:echo-request\nadd y 10.1.0.0/16,icmp:echo-reply nomatch\n')
 MAIN = '32766:\tfrom all lookup main\n'
 STRICT = ''.join(f'eth{number} rp_filter 1\n' for number in range(3))
 E_SAVE = '-A FORWARD ! -i eth0 -o eth2 -p tcp -m tcp --dport 443 -j ACCEPT'  # with the routes of two uplinks
@@ -68,6 +69,8 @@ CASES = (
     Case('-A FORWARD -m set --match-set b dst -j ACCEPT', {A: NONE, C: BOTH}, sets=SETS),
     Case('-A FORWARD -m set --match-set n src -j ACCEPT', {A: BOTH, C: NONE}, sets=SETS),
     Case('-A FORWARD -m set --match-set a src,src -j ACCEPT', {A: DOUBT, C: DOUBT}, sets=SETS),
+    Case('-A FORWARD -m set --match-set y src,src -j ACCEPT', {PING: DOUBT}, sets=SETS),
+    Case('-A FORWARD -m set ! --match-set y src,src -j ACCEPT', {PING: DOUBT}, sets=SETS),
     *(Case(f'-A FORWARD -m set --match-set {name} src -j ACCEPT', {A: DOUBT}, sets=SETS) for name in 'tpmx'),
     Case('-A FORWARD -m set --match-set a src -j ACCEPT\n-A FORWARD -j SET --add-set a src', {A: DOUBT}, sets=SETS),
     Case('-A FORWARD -s ! 10.1.0.0/255.255.0.0 -j ACCEPT', {A: NONE, B: BOTH}),
@@ -308,6 +311,8 @@ WRONG = (
     ('a rule of routing for some is one for all', 'routes', "not left.strip() and bool(table)", 'True'),
     ('throw ends the rules', 'routes', 'goes_on = goes_on or route.is_throw', 'pass'),
     ('a port of a set is one of each protocol', 'ipset', 'is_sure = number in WITH_PORTS', 'is_sure = True'),
+    ('an exception for a type of ICMP is one for all', 'ipset',
+     "'nomatch' in options and (SERVICE, ICMP_TYPE) in zip(found.dimensions(), entry)", 'False'),
     ('the members of a set are no members', 'ipset', 'complement(numbers, greatest[0]) if is_negated else numbers',
      'numbers'),
     ('a misread rule is as printed', 'save', 'if rule.line not in self.misread:', 'if True:'),

@@ -23,6 +23,7 @@ COMMENT = re.compile('"[^"]*"')  # has no escapes
 MOST_SERVICE = (MOST_PROTOCOL << 16) + MOST_PORT
 WITH_PORTS = {6, 17}  # protocols whose ports a rule of topos has
 PORTED = {6, 17, 1, 132, 136}  # protocols of which a set has ports or types
+ICMP_TYPE: Numbers = ((1 << 16, 1 << 16),)  # each of them, as the model has none
 MOST_PIECES = 1000  # of a rule with sets; with more the set is in doubt
 
 Product = tuple[Numbers, ...]
@@ -133,9 +134,13 @@ def add_entry(found: Set, word: str, options: list[str]) -> None:
     if found.cause:
         return
     try:
-        found.entries.append((entry_of(found.dimensions(), word), 'nomatch' in options))
+        entry = entry_of(found.dimensions(), word)
     except (ValueError, OSError):
         found.cause = f'the entry {word[:50]}'
+        return
+    if 'nomatch' in options and (SERVICE, ICMP_TYPE) in zip(found.dimensions(), entry):
+        found.cause = 'nomatch for a type of ICMP'  # other types may be members
+    found.entries.append((entry, 'nomatch' in options))
 
 
 def entry_of(dimensions: tuple[str, ...], word: str) -> Product:
@@ -177,7 +182,7 @@ def service(word: str) -> Numbers:
     if number not in PORTED:
         return ((base, base | MOST_PORT),)
     if number == 1:  # as types and codes, in words or numbers: none of them is decided
-        return ((base, base),)
+        return ICMP_TYPE
     return tuple((base | low, base | high) for low, high in number_range(ports))
 
 
