@@ -33,9 +33,9 @@ stays_none s (x ∷ xs) ys none = by_step (step s x) none (λ t. stays_none t xs
 clash : (s : State) → Some s ≡ None → ⊥
 clash s is = cc
 
-not_stopped : (table : Table) (front behind : List (List ℕ)) → IsTable table → lines (table_text table) ≡ front ++ behind → run start front ≡ None → ⊥
-not_stopped table front behind is parts none =
-    clash (done_state (table_shape table)) (sym (table_run table is) ∙ ap (run start) parts ∙ stays_none start front behind none)
+not_stopped : (table : Table) (front rest : List (List ℕ)) → IsTable table → lines (table_text table) ≡ front ++ rest → run start front ≡ None → ⊥
+not_stopped table front rest is parts none =
+    clash (done_state (table_shape table)) (sym (table_run table is) ∙ ap (run start) parts ∙ stays_none start front rest none)
 
 pub stopped_cause : (text : List ℕ) (fault : TextFault NftWhy) → IsStopped text fault → HasCause text fault
 stopped_cause text (Refused line TooLong) stopped = cc

@@ -53,7 +53,7 @@ pub record IsReading (text : List ℕ) (table : Table) : Type 0 where
 
 -- The text of a table that can be loaded begins with these lines.
 abbrev pub BeginsTable : List (List ℕ) → Type 0
-BeginsTable front = (table : Table) × IsTable table × (behind : List (List ℕ)) × (lines (table_text table) ≡ front ++ behind)
+BeginsTable front = (table : Table) × IsTable table × (rest : List (List ℕ)) × (lines (table_text table) ≡ front ++ rest)
 
 -- Why a file is refused: it is too long; no text of a table begins with its lines up to this one; or it is the text of no table. Line 0
 -- stands for the whole file.

@@ -18,7 +18,7 @@ pub(crate) struct Served<'a> {
     pub rest: &'a [u8],
 }
 
-/// Parses a rule behind the tabs of its line.
+/// Parses a rule after the tabs of its line.
 pub(crate) fn read_match(names: &IndexSet<Vec<u8>>, text: &[u8]) -> Option<MatchRule>
     requires { length names.now.keys ≤ 100000 }
     ensures { result ≡ match_of (map (λ n. n.items) names.now.keys) text.now }

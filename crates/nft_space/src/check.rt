@@ -56,7 +56,7 @@ fn are_distinct(alloc: Global, chains: &[Chain]) -> Result<bool, AllocError>
     Ok(true)
 }
 
-/// Whether nft takes the name for a chain besides the base chain.
+/// Whether the name is valid for a chain besides the base chain, as `Loadable` defines it.
 #[tactic(auto, using(crate::proofs::CheckLaws::name_decided))]
 pub fn is_chain_name(name: &[u8]) -> bool
     ensures value { result ≡ is_chain_name name.now }
@@ -78,7 +78,7 @@ fn begins_with_letter(name: &[u8]) -> bool
     }
 }
 
-/// No keyword of nft has a `_`.
+/// Whether the name has a `_`, which no keyword of nft has.
 fn has_underscore(name: &[u8]) -> bool
     ensures { result ≡ list_any (λ b. b == 95) name.now }
 {
