@@ -42,10 +42,6 @@ take_lock() {
 
 # Removes what a load leaves, except saved states.
 clear_state() {
-  local each
-  for each in "${run[state]}"/judging.link.*; do
-    if [ -L "$each" ]; then rm -rf "$(readlink "$each")"; fi
-  done
   rm -rf "${run[state]}"/judging.*
   rm -f "${run[state]}"/{decision,armed,asked,made,connections,result,before,rules,rules.others,rules.policy,rules.description}
   rm -f "${run[state]}"/{log,settle,staying,older.before,logging,loaded,local}
