@@ -24,7 +24,7 @@ use Rattle.audit_core.specs.laws.FindingLaws.{swaps_known}
 use Rattle.audit_core.specs.laws.ListLaws.{agree_not_differ, differ_on, expected_more, run_long}
 use Rattle.audit_core.specs.Lists.{DifferAfter, front_of, list_of}
 use Rattle.audit_core.specs.Pairs.{DiffersAt}
-use Rattle.rules_space.specs.Rules.{Entries, Rules, filter_of}
+use Rattle.rules_space.specs.Rules.{Entries, AnyRules, filter_of}
 use Rattle.audit_core.specs.Sides.{Agree, Sides}
 use Rattle.rules_space.specs.Verdicts.{GivesOne}
 use Rattle.audit_core.proofs.FaultLaws.{right_where, same_where_not, says_new}
@@ -207,7 +207,7 @@ two_lists_at sides entries is_table gives subset agree = agree_where_right sides
     alone = right_from_lists sides gives subset Alone (λ h. absurd (omega arith)) (λ p is. (agree p is).0)
 
     new : (p : Packet) (b : Bool) → filter_of sides.rules Established p b → filter_of sides.rules New p b
-    new p b = subst (λ (rules : Rules). filter_of rules Established p b → filter_of rules New p b) (sym is_table) (λ said. said)
+    new p b = subst (λ (rules : AnyRules). filter_of rules Established p b → filter_of rules New p b) (sym is_table) (λ said. said)
 
     right : (kind : Kind) → AreRight sides kind
     right Alone = alone

@@ -28,7 +28,7 @@ use Rattle.audit_core.specs.laws.FindingLaws.{swaps_known}
 use Rattle.audit_core.specs.laws.ListLaws.{differ_more}
 use Rattle.audit_core.specs.Lists.{front_of}
 use Rattle.audit_core.specs.Pairs.{DiffersAt}
-use Rattle.rules_space.specs.Rules.{Rules, filter_of}
+use Rattle.rules_space.specs.Rules.{AnyRules, filter_of}
 use Rattle.audit_core.specs.Sides.{Sides}
 use Rattle.rules_space.proofs.RulesLaws.{one_verdict}
 use Rattle.audit_core.proofs.ShortLaws.{expects_behind, expects_first, kept_established, swap_established}
@@ -60,7 +60,7 @@ behind_swap_state : (p : Packet) (passed : Bool) → state_of (after_seen no_con
 behind_swap_state p true = swap_established (swap_of p)
 behind_swap_state p false = refl
 
-one_end : (rules swaps : Rules) → GivesOne (filter_of rules) → GivesOne (filter_of swaps) → (kind : Kind) (p : Packet) → IsPacket p → (b c : Bool)
+one_end : (rules swaps : AnyRules) → GivesOne (filter_of rules) → GivesOne (filter_of swaps) → (kind : Kind) (p : Packet) → IsPacket p → (b c : Bool)
     → EndsBy rules swaps kind p b → EndsBy rules swaps kind p c → b ≡ c
 one_end rules swaps gives others Alone p is b c first second = one_verdict rules gives New p is b c first second
 one_end rules swaps gives others AfterSwap p is b c first second =
@@ -186,7 +186,7 @@ module _ (sides : Sides) (gives : GivesOne (filter_of sides.rules)) where
 
 -- 5. Parts of the rules.
 
-ends_in_part : (b : PacketBox) (rules swaps more others : Rules) → HaveSameVerdicts b rules more → HaveSameVerdicts (swapped b) swaps others
+ends_in_part : (b : PacketBox) (rules swaps more others : AnyRules) → HaveSameVerdicts b rules more → HaveSameVerdicts (swapped b) swaps others
     → (kind : Kind) (p : Packet) → IsIn b p → (passes : Bool) → EndsBy rules swaps kind p passes ↔ EndsBy more others kind p passes
 ends_in_part b rules swaps more others same back Alone p inside passes = same p inside New passes
 ends_in_part b rules swaps more others same back AfterSwap p inside passes =

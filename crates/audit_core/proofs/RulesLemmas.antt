@@ -22,7 +22,7 @@ use Rattle.ofp_rules.specs.Matching.{kind_matches, number_matches, packet_matche
 use Rattle.ofp_rules.specs.Semantics.{HasVerdict, IsOneOf}
 use Rattle.audit_core.specs.Parts.{address_parts, entry_parts, number_parts, one_port_parts, port_parts, prefix_parts, protocol_parts, rule_parts, rules_parts}
 use Rattle.audit_core.specs.inner.Ranges.{within}
-use Rattle.rules_space.specs.Rules.{Rules, Chains, Entries, filter_of}
+use Rattle.rules_space.specs.Rules.{AnyRules, Chains, Entries, filter_of}
 use Rattle.audit_core.proofs.PartLemmas.{AreAlikeFor, IsAlikeFor, all_listed, all_parts}
 
 -- 1. Chains of rules.
@@ -153,7 +153,7 @@ verdict_alike es p q v alike (inr has_none) =
 -- 3. Rules of either kind.
 
 -- Packets of one class have the same verdicts.
-pub filter_alike : (rules : Rules) (p q : Packet) (state : CtState) (b : Bool) → AreAlikeFor (rules_parts rules) p q
+pub filter_alike : (rules : AnyRules) (p q : Packet) (state : CtState) (b : Bool) → AreAlikeFor (rules_parts rules) p q
     → filter_of rules state p b → filter_of rules state q b
 filter_alike (Chains chains) p q state b alike said = chains_alike chains p q state _ alike said
 filter_alike (Entries entries) p q state b alike said = verdict_alike entries p q _ (all_listed (IsAlikeFor p q) (MatchesBoth p q) entry_parts entries (entry_alike p q) alike) said

@@ -13,7 +13,7 @@ use Rattle.ipt_rules.specs.declared.rule.ProtoMatch.{ProtoMatch}
 use Rattle.ipt_rules.specs.declared.rule.Rule.{Rule}
 use Rattle.ipt_rules.specs.Rules.{all_rules}
 use Rattle.ofp_rules.specs.declared.entry.Entry.{Entry}
-use Rattle.rules_space.specs.Rules.{Rules, Chains, Entries}
+use Rattle.rules_space.specs.Rules.{AnyRules, Chains, Entries}
 
 pub data Part : Type 0 where
   Addresses : Prefix → Part
@@ -64,6 +64,6 @@ abbrev pub entry_parts : Entry → List Part
 entry_parts e = prefix_parts e.src ++ (prefix_parts e.dst ++ (number_parts e.proto ++ (one_port_parts e.tp_src ++ one_port_parts e.tp_dst)))
 
 -- The parts that rules name: the parts of all rules of the chains, or of all entries.
-abbrev pub rules_parts : Rules → List Part
+abbrev pub rules_parts : AnyRules → List Part
 rules_parts (Chains chains) = flat_map rule_parts (all_rules chains)
 rules_parts (Entries entries) = flat_map entry_parts entries

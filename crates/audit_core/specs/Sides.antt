@@ -10,14 +10,14 @@ use Rattle.pkt_core.specs.Filter.{ForwardsAsExpected}
 use Rattle.pkt_core.specs.FlowPolicy.{FlowPolicy, permits, permits_reply_to}
 use Rattle.audit_core.specs.Agreement.{AgreeOn, DifferOn}
 use Rattle.audit_core.specs.Lists.{DifferAfter}
-use Rattle.rules_space.specs.Rules.{Rules, filter_of}
+use Rattle.rules_space.specs.Rules.{AnyRules, filter_of}
 
 -- The two sides: a policy between hosts, and rules.
 pub record Sides : Type 0 where
   pub policy : FlowPolicy
-  pub rules : Rules
+  pub rules : AnyRules
 
-abbrev pub sides_of : FlowPolicy → Rules → Sides
+abbrev pub sides_of : FlowPolicy → AnyRules → Sides
 sides_of policy rules = record { policy = policy; rules = rules }
 
 -- The two sides agree on a list of events.

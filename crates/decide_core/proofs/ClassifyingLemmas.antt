@@ -13,13 +13,13 @@ use Rattle.ipt_rules.specs.declared.marks.Place.{Place}
 use Rattle.ipt_rules.specs.declared.rule.Rule.{Rule}
 use Rattle.ipt_rules.specs.Chain.{Chain, rules_of}
 use Rattle.ipt_rules.specs.Marks.{is_marked}
-use Rattle.ipt_rules.specs.Meets.{target_verdict, IsDecider as IsRuleDecider}
+use Rattle.ipt_rules.specs.Meets.{target_verdict, IsRuleDecider}
 use Rattle.ipt_rules.proofs.WalkingLemmas.{none_returns}
 use Rattle.ofp_rules.specs.declared.entry.Entry.{Entry}
 use Rattle.ofp_rules.specs.declared.entry.Frame.{Frame}
 use Rattle.ofp_rules.specs.declared.entry.Frame.TheVariants.{Ipv4}
-use Rattle.ofp_rules.specs.Deciders.{IsDecider as IsEntryDecider}
-use Rattle.rules_space.specs.Rules.{Rules, Chains, Entries, filter_of}
+use Rattle.ofp_rules.specs.Deciders.{IsEntryDecider}
+use Rattle.rules_space.specs.Rules.{AnyRules, Chains, Entries, filter_of}
 use Rattle.rules_space.specs.Verdicts.{GivesOne}
 use Rattle.pass_core.proofs.DeadLemmas.{no_rules}
 use Rattle.decide_core.specs.Deciders.{IsDecider}
@@ -27,15 +27,15 @@ use Rattle.decide_core.specs.inner.Classifying.{HasMarks, HasRule, chain_count, 
 
 -- ---- whether a packet passes
 
-passes_iff : (rules : Rules) (p : Packet) (b : Bool) → GivesOne (filter_of rules) → IsPacket p → filter_of rules New p b → (IsTrue b ↔ filter_of rules New p true)
+passes_iff : (rules : AnyRules) (p : Packet) (b : Bool) → GivesOne (filter_of rules) → IsPacket p → filter_of rules New p b → (IsTrue b ↔ filter_of rules New p true)
 passes_iff rules p b gives packet is = (
   λ on. subst (λ (x : Bool). filter_of rules New p x) on is,
   λ passes. let one = gives New p packet in one.2 b is ∙ sym (one.2 true passes),
 )
 
-pub passes_only : (rules others : Rules) (p : Packet) (b : Bool) → rules ≡ others → GivesOne (filter_of rules) → IsPacket p → filter_of rules New p b
+pub passes_only : (rules others : AnyRules) (p : Packet) (b : Bool) → rules ≡ others → GivesOne (filter_of rules) → IsPacket p → filter_of rules New p b
     → (IsTrue b ↔ filter_of others New p true)
-passes_only rules others p b same gives packet is = subst (λ (r : Rules). IsTrue b ↔ filter_of r New p true) same (passes_iff rules p b gives packet is)
+passes_only rules others p b same gives packet is = subst (λ (r : AnyRules). IsTrue b ↔ filter_of r New p true) same (passes_iff rules p b gives packet is)
 
 -- ---- places of deciders
 
@@ -67,33 +67,33 @@ entry_only entries p d only (Some place) is = same_entry place is.0 ∙ ap entry
 
 -- ---- marks, none of them set
 
-abbrev unset_row : Rules → ℕ → List Bool
+abbrev unset_row : AnyRules → ℕ → List Bool
 unset_row rules c = replicate (count_in rules c) false
 
-pub unset_next : (rules : Rules) (n : ℕ) → unset_marks rules (n + 1) ≡ unset_marks rules n ++ unset_row rules n ∷ []
+pub unset_next : (rules : AnyRules) (n : ℕ) → unset_marks rules (n + 1) ≡ unset_marks rules n ++ unset_row rules n ∷ []
 unset_next rules n = map-range_with_len_more (unset_row rules) 0 n n (omega arith)
 
-get_row : (rules : Rules) (n c : ℕ) → c < n → slice_get (unset_marks rules n) c ≡ Some (unset_row rules c)
+get_row : (rules : AnyRules) (n c : ℕ) → c < n → slice_get (unset_marks rules n) c ≡ Some (unset_row rules c)
 get_row rules n c low =
     let long = length-map-range_with_len (unset_row rules) 0 n in
     slice_get-get_or (unset_marks rules n) c [] (omega (arith, long, low))
     ∙ ap (λ (row : List Bool). Some row) (get_or-map-range_with_len (unset_row rules) 0 n c c [] low (omega arith))
 
-no_row : (rules : Rules) (n c : ℕ) → n ≤ c → slice_get (unset_marks rules n) c ≡ None
+no_row : (rules : AnyRules) (n c : ℕ) → n ≤ c → slice_get (unset_marks rules n) c ≡ None
 no_row rules n c past = let long = length-map-range_with_len (unset_row rules) 0 n in slice_get_past (unset_marks rules n) c (omega (arith, long, past))
 
-pub none_past : (rules : Rules) (c : ℕ) → chain_count rules ≤ c → count_in rules c ≡ 0
+pub none_past : (rules : AnyRules) (c : ℕ) → chain_count rules ≤ c → count_in rules c ≡ 0
 none_past (Chains chains) c past = no_rules chains c past
 none_past (Entries entries) zero past = absurd (omega (arith, past))
 none_past (Entries entries) (suc c) past = refl
 
-pub unset_has : (rules : Rules) → HasMarks rules (unset_marks rules (chain_count rules))
+pub unset_has : (rules : AnyRules) → HasMarks rules (unset_marks rules (chain_count rules))
 unset_has rules c = elim (cases_lt c (chain_count rules)) [
   | inl low ↦ rw (get_row rules (chain_count rules) c low) (length-replicate (count_in rules c) false)
   | inr past ↦ rw (no_row rules (chain_count rules) c past) (sym (none_past rules c past))
 ]
 
-pub unset_none : (rules : Rules) (n : ℕ) (place : Place) → is_marked (unset_marks rules n) place ≡ false
+pub unset_none : (rules : AnyRules) (n : ℕ) (place : Place) → is_marked (unset_marks rules n) place ≡ false
 unset_none rules n place = elim (cases_lt place.chain n) [
   | inl low ↦ rw (get_row rules n place.chain low) (none_returns (count_in rules place.chain) place.rule)
   | inr past ↦ rw (no_row rules n place.chain past)

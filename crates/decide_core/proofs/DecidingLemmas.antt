@@ -8,7 +8,7 @@ use Rattle.header_space.specs.Boxes.{IsIn}
 use Rattle.ipt_rules.specs.declared.marks.Place.{Place}
 use Rattle.ipt_rules.specs.Marks.{marks_of}
 use Rattle.ipt_rules.proofs.MarkLemmas.{kept_if, marked_if, only_if}
-use Rattle.rules_space.specs.Rules.{Rules}
+use Rattle.rules_space.specs.Rules.{AnyRules}
 use Rattle.decide_core.specs.declared.deciders.Deciders.{Deciders}
 use Rattle.decide_core.specs.Deciders.{AreDeciders, DecidesOne, IsDecider, IsInOne, PassesAmong}
 use Rattle.decide_core.specs.inner.Deciding.{Counts, CountsAmong, Deciding, HasNoted, IsKnown, NotesMore, NotesMoreIn, is_noted, noted}
@@ -108,7 +108,7 @@ module _ (boxes : List PacketBox) (i : ℕ) (d : PacketBox) (low : i < length bo
 
 -- ---- all deciders of packets that pass
 
-module _ (rules : Rules) (Among : Packet → Type 0) (x : Deciding) (same : x.rules ≡ rules) (passing : x.passing ≡ true) (has : HasNoted Among x) where
+module _ (rules : AnyRules) (Among : Packet → Type 0) (x : Deciding) (same : x.rules ≡ rules) (passing : x.passing ≡ true) (has : HasNoted Among x) where
   noted_iff : (e : Option Place) → IsTrue (is_noted x e) ↔ DecidesOne rules (PassesAmong rules Among) e
   noted_iff e = (
     λ on. rw (same, passing) at (has.only e on),

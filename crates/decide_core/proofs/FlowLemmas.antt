@@ -8,7 +8,7 @@ use Rattle.host_net.specs.declared.packet.Packet.{Packet}
 use Rattle.header_space.specs.declared.address_range.AddressRange.{AddressRange}
 use Rattle.header_space.specs.Owners.{HaveAddresses, IsOfPair, owners_of}
 use Rattle.header_space.proofs.OwnersLaws.{covered_owned}
-use Rattle.rules_space.specs.Rules.{Rules}
+use Rattle.rules_space.specs.Rules.{AnyRules}
 use Rattle.rules_space.proofs.ListLaws.{take_at}
 use Rattle.pass_core.specs.Pairs.{AreListedByOwners, AreListedFor, IsListedFor}
 use Rattle.pass_core.specs.Passing.{IsShown}
@@ -33,7 +33,7 @@ mapped_more {Y = Y} f ys i d old new x within is pushed before =
 
 -- ---- the packets of a pair
 
-module _ (rules : Rules) (hosts : List Host) where
+module _ (rules : AnyRules) (hosts : List Host) where
   module _ (from to : Option ℕ) (xs ys : List AddressRange) (sources : HaveAddresses hosts from xs) (targets : HaveAddresses hosts to ys) where
     of_range : (r : PassingRange) (p : Packet) → HasServiceBetween xs ys r.low r.high p ↔ IsOfRange hosts from to r p
     of_range r p = (

@@ -5,7 +5,7 @@ use Rattle.std.proofs.lemmas.Bool.{cases_lt}
 use Rattle.std.proofs.lemmas.Option.{slice_get_within}
 use Rattle.ipt_rules.specs.declared.marks.Place.{Place}
 use Rattle.ipt_rules.specs.Marks.{is_marked, marks_of}
-use Rattle.rules_space.specs.Rules.{Rules}
+use Rattle.rules_space.specs.Rules.{AnyRules}
 use Rattle.pass_core.specs.inner.Places.{AreBefore}
 use Rattle.pass_core.proofs.PlaceLaws.{all_before, at}
 use Rattle.decide_core.specs.inner.Classifying.{HasMarks, chain_count}
@@ -25,7 +25,7 @@ marked_rules marks c n long q same on =
     let low = mark_there marks q on in let few = ap (λ (k : ℕ). length (marks_of marks k)) same in omega (arith, low, few, long)
 
 -- The chains of the marked rules are among the chains of the rules.
-marked_chain : (marks : List (List Bool)) (rules : Rules) → HasMarks rules marks → (n : ℕ) → chain_count rules ≤ n → (q : Place) → IsMarked marks q
+marked_chain : (marks : List (List Bool)) (rules : AnyRules) → HasMarks rules marks → (n : ℕ) → chain_count rules ≤ n → (q : Place) → IsMarked marks q
     → q.chain < n
 marked_chain marks rules has n past q on = elim (cases_lt q.chain n) [
   | inl low ↦ low
@@ -36,7 +36,7 @@ marked_chain marks rules has n past q on = elim (cases_lt q.chain n) [
       absurd (omega (arith, none, same, there))
 ]
 
-pub all_marked : (marks : List (List Bool)) (rules : Rules) → HasMarks rules marks → (n : ℕ) (places : List Place) → chain_count rules ≤ n
+pub all_marked : (marks : List (List Bool)) (rules : AnyRules) → HasMarks rules marks → (n : ℕ) (places : List Place) → chain_count rules ≤ n
     → AreBefore (IsMarked marks) (at n 0) places → AreMarked marks places
 all_marked marks rules has n places past are = record {
   ascending = are.ascending;

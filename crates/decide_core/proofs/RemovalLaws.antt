@@ -15,7 +15,7 @@ use Rattle.ipt_rules.specs.declared.marks.Place.{Place}
 use Rattle.ofp_rules.specs.declared.entry.Entry.{Entry}
 use Rattle.ofp_rules.specs.declared.entry.Frame.{Frame}
 use Rattle.ofp_rules.specs.declared.entry.Frame.TheVariants.{Ipv4}
-use Rattle.ofp_rules.specs.Deciders.{DecidesAt, IsDecider}
+use Rattle.ofp_rules.specs.Deciders.{DecidesAt, IsEntryDecider}
 use Rattle.ofp_rules.specs.Matching.{matches}
 use Rattle.ofp_rules.specs.Semantics.{HasVerdict, IsHighest, IsOneOf, verdict_of}
 use Rattle.ofp_rules.proofs.HighestLaws.{one_of_at}
@@ -90,7 +90,7 @@ module _ (entries : List Entry) (frame : Frame) where
                 omega (arith, under, differ, same);
           }
 
-  decider_by : (v : Verdict) → HasVerdict entries frame v → (d : Option ℕ) × IsDecider entries frame d
+  decider_by : (v : Verdict) → HasVerdict entries frame v → (d : Option ℕ) × IsEntryDecider entries frame d
   decider_by v (inl (e, highest, is)) = let found = decides_first e highest in (Some found.0, found.1)
   decider_by v (inr (none, is)) = (None, λ j f there on. none f (one_of_at entries j f there) on)
 
@@ -159,7 +159,7 @@ module _ (entries : List Entry) (places : List Place) (dead : AreDeadPlaces (Ent
       let one = gives New p is in let yes : true ≡ one.0 = one.2 true b in let no : false ≡ one.0 = one.2 false a in cc (yes, no)
 
   module _ (p : Packet) (is_packet : IsPacket p) where
-    matches_none : IsDecider entries (Ipv4 p) None → (f : Entry) → IsOneOf f entries → IsTrue (matches (Ipv4 p) f) → ⊥
+    matches_none : IsEntryDecider entries (Ipv4 p) None → (f : Entry) → IsOneOf f entries → IsTrue (matches (Ipv4 p) f) → ⊥
     matches_none none f one on = let (j, there) = number_of f entries one in none j f there on
 
     -- An entry that decides the packet is left.
@@ -172,7 +172,7 @@ module _ (entries : List Entry) (places : List Place) (dead : AreDeadPlaces (Ent
     below : (k : ℕ) (decides : DecidesAt entries (Ipv4 p) k) (f : Entry) → IsOneOf f entries → IsTrue (matches (Ipv4 p) f) → f.priority ≤ decides.entry.priority
     below k decides f one on = let (j, there) = number_of f entries one in decides.above j f there on
 
-    to_left : (d : Option ℕ) → IsDecider entries (Ipv4 p) d → (v : Verdict) → HasVerdict entries (Ipv4 p) v → HasVerdict left (Ipv4 p) v
+    to_left : (d : Option ℕ) → IsEntryDecider entries (Ipv4 p) d → (v : Verdict) → HasVerdict entries (Ipv4 p) v → HasVerdict left (Ipv4 p) v
     to_left None none v has =
         let dropped : v ≡ Dropped = one_verdict p is_packet v Dropped has (inr (matches_none none, refl)) in
         inr (λ f one on. matches_none none f (left_is_one removed 0 entries f one) on, dropped)
@@ -189,7 +189,7 @@ module _ (entries : List Entry) (places : List Place) (dead : AreDeadPlaces (Ent
           one_verdict p is_packet v (verdict_of decides.entry.action) has whole,
         )
 
-    from_left : (d : Option ℕ) → IsDecider entries (Ipv4 p) d → (v : Verdict) → HasVerdict left (Ipv4 p) v → HasVerdict entries (Ipv4 p) v
+    from_left : (d : Option ℕ) → IsEntryDecider entries (Ipv4 p) d → (v : Verdict) → HasVerdict left (Ipv4 p) v → HasVerdict entries (Ipv4 p) v
     from_left None none v (inl (f, highest, is)) = absurd (matches_none none f (left_is_one removed 0 entries f highest.listed) highest.matched)
     from_left None none v (inr (nothing, is)) = inr (matches_none none, is)
     from_left (Some k) decides v (inl (f, highest, is)) =

@@ -11,7 +11,7 @@ use Rattle.header_space.specs.declared.address_range.AddressRange.{AddressRange}
 use Rattle.header_space.specs.Owners.{LiesInOne}
 use Rattle.header_space.proofs.OwnersLaws.{covered_cases, covered_left, covered_only, covered_right}
 use Rattle.pass_core.specs.Services.{service_of}
-use Rattle.rules_space.specs.Rules.{Rules}
+use Rattle.rules_space.specs.Rules.{AnyRules}
 use Rattle.decide_core.specs.declared.deciders.Deciders.{Deciders}
 use Rattle.decide_core.specs.declared.service_block.ServiceBlock.{ServiceBlock}
 use Rattle.decide_core.specs.Deciders.{AreDeciders, DecidesOne, IsInOne, PassesAmong}
@@ -242,7 +242,7 @@ module _ (low high : ℕ) where
 
 -- ---- deciders of the same packets
 
-module _ (rules : Rules) (One Two : Packet → Type 0) (same : (p : Packet) → One p ↔ Two p) where
+module _ (rules : AnyRules) (One Two : Packet → Type 0) (same : (p : Packet) → One p ↔ Two p) where
   decides_too : (e : Option Place) → DecidesOne rules (PassesAmong rules One) e ↔ DecidesOne rules (PassesAmong rules Two) e
   decides_too e = (
     λ one. record { packet = one.packet; among = ((same one.packet).0 one.among.0, one.among.1); decides = one.decides },

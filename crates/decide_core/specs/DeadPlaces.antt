@@ -8,12 +8,12 @@ use Rattle.ipt_rules.specs.declared.marks.Place.{Place}
 use Rattle.ofp_rules.specs.declared.entry.Entry.{Entry}
 use Rattle.ofp_rules.specs.declared.entry.Frame.TheVariants.{Ipv4}
 use Rattle.ofp_rules.specs.Semantics.{HasVerdict}
-use Rattle.rules_space.specs.Rules.{Rules, Chains, Entries}
+use Rattle.rules_space.specs.Rules.{AnyRules, Chains, Entries}
 use Rattle.pass_core.specs.Dead.{AreDead, AreRemovable, is_listed}
 use Rattle.decide_core.specs.DeadEntries.{AreDeadEntries}
 
 -- The places are those of the dead rules, in ascending order. Dead entry k of a flow table has place k of chain 0.
-abbrev pub AreDeadPlaces : Rules → List Place → Type 0
+abbrev pub AreDeadPlaces : AnyRules → List Place → Type 0
 AreDeadPlaces (Chains chains) places = AreDead chains places
 AreDeadPlaces (Entries entries) places = All (λ place. place.chain ≡ 0) places × AreDeadEntries entries (map (λ place. place.rule) places)
 
@@ -24,7 +24,7 @@ without_entries removed i (e ∷ es) = if removed i then without_entries removed
 
 -- The rules at the places are removable: without them each packet that enters FORWARD has the same verdict in each state, and each IPv4
 -- packet has the same verdict of a flow table.
-abbrev pub AreRemovablePlaces : Rules → List Place → Type 0
+abbrev pub AreRemovablePlaces : AnyRules → List Place → Type 0
 AreRemovablePlaces (Chains chains) places = AreRemovable chains places
 AreRemovablePlaces (Entries entries) places = (p : Packet) (v : Verdict) → IsPacket p
     → (HasVerdict entries (Ipv4 p) v ↔ HasVerdict (without_entries (λ k. is_listed places (record { chain = 0; rule = k })) 0 entries) (Ipv4 p) v)

@@ -4,7 +4,7 @@ use Rattle.std.specs.List.{All}
 use Rattle.host_net.specs.Host.{Host}
 use Rattle.host_net.specs.declared.packet.Packet.{Packet}
 use Rattle.header_space.specs.Owners.{IsOfPair}
-use Rattle.rules_space.specs.Rules.{Rules}
+use Rattle.rules_space.specs.Rules.{AnyRules}
 use Rattle.pass_core.specs.NewPackets.{LetsPass}
 use Rattle.pass_core.specs.Pairs.{AreListedByOwners}
 use Rattle.pass_core.specs.Services.{service_of}
@@ -20,21 +20,21 @@ pub record IsOfRange (hosts : List Host) (from to : Option ℕ) (r : PassingRang
   pub high : service_of p ≤ r.high
 
 -- The flows of a pair are its services, each range with all rules that let packets of the range pass.
-pub record AreFlowsOf (rules : Rules) (hosts : List Host) (s : PairServices) (f : PairFlows) : Type 0 where
+pub record AreFlowsOf (rules : AnyRules) (hosts : List Host) (s : PairServices) (f : PairFlows) : Type 0 where
   pub source : f.from ≡ s.from
   pub destination : f.to ≡ s.to
   pub ranges : map (λ r. r.range) f.ranges.items ≡ s.ranges.items
   pub deciders : All (λ r. AreDeciders rules (IsOfRange hosts f.from f.to r.range) r.deciders) f.ranges.items
 
 -- The flows are those of the pairs, one by one.
-abbrev pub AreFlowsOfEach : Rules → List Host → List PairServices → List PairFlows → Type 0
+abbrev pub AreFlowsOfEach : AnyRules → List Host → List PairServices → List PairFlows → Type 0
 AreFlowsOfEach rules hosts [] [] = Unit {0}
 AreFlowsOfEach rules hosts (s ∷ ss) (f ∷ fs) = AreFlowsOf rules hosts s f × AreFlowsOfEach rules hosts ss fs
 AreFlowsOfEach rules hosts [] (f ∷ fs) = ⊥
 AreFlowsOfEach rules hosts (s ∷ ss) [] = ⊥
 
 -- The flows are those of all pairs of owners between which the rules let some new packet pass.
-pub record AreFlows (rules : Rules) (hosts : List Host) (flows : List PairFlows) : Type 0 where
+pub record AreFlows (rules : AnyRules) (hosts : List Host) (flows : List PairFlows) : Type 0 where
   pub services : List PairServices
   pub listed : AreListedByOwners (LetsPass rules) hosts services
   pub each : AreFlowsOfEach rules hosts services flows

@@ -6,7 +6,7 @@ ghost use Rattle.host_net.specs.declared.packet.CtState.TheVariants.{New};
 ghost use Rattle.header_space.specs.Boxes.{IsBox, IsIn, Narrows};
 ghost use Rattle.ipt_rules.specs.declared.marks.Place.{Place};
 ghost use Rattle.ipt_rules.specs.Chain.{rules_of};
-ghost use Rattle.ipt_rules.specs.Meets.{IsDecider};
+ghost use Rattle.ipt_rules.specs.Meets.{IsRuleDecider};
 
 use header_space::PacketBox;
 use host_net::CtState;
@@ -64,8 +64,8 @@ impl<'a> RulesetWalk<'a> {
         requires { IsBox within.old }
         ensures part { Narrows within.old within.new }
         ensures rules { self.new ≡ self.old }
-        ensures decider { (p : Packet) → IsIn within.new p → IsDecider self.old p New result }
-        ensures only { (p : Packet) → IsIn within.new p → (other : Option Place) → IsDecider self.old p New other → other ≡ result }
+        ensures decider { (p : Packet) → IsIn within.new p → IsRuleDecider self.old p New result }
+        ensures only { (p : Packet) → IsIn within.new p → (other : Option Place) → IsRuleDecider self.old p New other → other ≡ result }
     {
         self.rules.meet_within(&mut self.met, within, CtState::New)
     }

@@ -4,7 +4,7 @@ use Rattle.std.specs.List.{list_all}
 use Rattle.std.specs.Str.{is_utf8}
 use Rattle.text_core.specs.Lines.{words}
 use Rattle.text_core.specs.ListFormat.{ListFormat, by_lines}
-use Rattle.text_core.specs.LineFormat.{HasFault, IsReading as IsReadingOf}
+use Rattle.text_core.specs.LineFormat.{HasFault, IsReading}
 use Rattle.text_core.specs.declared.faults.ListWhy.{ListWhy}
 use Rattle.host_net.specs.Limits.{invariant_limit}
 use Rattle.table_core.specs.Tables.{text_at}
@@ -68,9 +68,9 @@ edits_text = record {
 }
 
 -- The parse result of a file.
-abbrev pub IsReading : List ℕ → List Edit → Type 0
-IsReading bytes edits = IsReadingOf (by_lines edits_text) bytes edits
+abbrev pub IsReadingOfEdits : List ℕ → List Edit → Type 0
+IsReadingOfEdits bytes edits = IsReading (by_lines edits_text) bytes edits
 
 -- The first error of a file.
-abbrev pub IsRefused : List ℕ → ℕ → ListWhy → Type 0
-IsRefused bytes line why = HasFault (by_lines edits_text) bytes line why
+abbrev pub IsRefusedInEdits : List ℕ → ℕ → ListWhy → Type 0
+IsRefusedInEdits bytes line why = HasFault (by_lines edits_text) bytes line why

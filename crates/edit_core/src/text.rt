@@ -7,7 +7,7 @@ ghost use Rattle.text_core.specs.inner.TextAnswers.{HasCause, IsFault};
 ghost use Rattle.text_core.specs.declared.faults.ListWhy.{ListWhy};
 ghost use Rattle.edit_core.specs.Edit.{Edit as Meant};
 ghost use Rattle.edit_core.specs.inner.EditView.{edit_view};
-ghost use Rattle.edit_core.specs.EditsText.{IsReading, IsRefused, edits_text};
+ghost use Rattle.edit_core.specs.EditsText.{IsReadingOfEdits, IsRefusedInEdits, edits_text};
 
 use crate::edit::Edit;
 use crate::line::read_change;
@@ -29,13 +29,13 @@ pub type EditsFault = TextFault<ListWhy>;
 
 /// Parses the edits of a file.
 pub fn read_edits(alloc: Global, bytes: &[u8]) -> Result<Vec<Edit>, EditsFault>
-    ensures found { IfOk result (λ edits. IsReading bytes.now (map edit_view edits.items)) }
+    ensures found { IfOk result (λ edits. IsReadingOfEdits bytes.now (map edit_view edits.items)) }
     // A file of edits is rejected only if allocation fails.
-    ensures only { (told : List Meant) → IsReading bytes.now told →
+    ensures only { (told : List Meant) → IsReadingOfEdits bytes.now told →
         MatchResult result (λ edits. map edit_view edits.items ≡ told) (λ fault. fault ≡ TextFault.Memory) }
     ensures refused { IfErr result (HasCause (by_lines edits_text) bytes.now) }
     // A file has at most one first error, and none if it parses to edits.
-    ensures faulty { (line : ℕ) (why : ListWhy) → IsRefused bytes.now line why →
+    ensures faulty { (line : ℕ) (why : ListWhy) → IsRefusedInEdits bytes.now line why →
         MatchResult result (λ edits. ⊥) (IsFault line why) }
 {
     read_list(alloc, &EditLines { alloc }, bytes)

@@ -14,7 +14,7 @@ use Rattle.pkt_core.specs.Filter.{Enforces, ForwardsAsExpected}
 use Rattle.pkt_core.proofs.FilterLaws.{enforced_expected}
 use Rattle.ofp_rules.specs.declared.entry.Frame.TheVariants.{Arp, Ipv4, Other}
 use Rattle.ofp_rules.specs.declared.entry.Entry.{Entry}
-use Rattle.ofp_rules.specs.Semantics.{HasVerdict, Passes}
+use Rattle.ofp_rules.specs.Semantics.{HasVerdict, PassesEntries}
 use Rattle.emit_core.proofs.FlowTableAnswerLaws.{same_expected}
 use Rattle.emit_core.specs.FlowTableEvents.{AnswersAreCovered}
 use Rattle.emit_core.specs.FlowTableForwarding.{ForwardsArpAlone}
@@ -36,9 +36,9 @@ lets_pass_alone : (site : Site) (p : List Flow) (packet : Packet) (state : CtSta
 lets_pass_alone site p packet state = alone (is_of site p packet) (is_of site [] (swap_of packet)) (is_established state) (none_of site (swap_of packet))
 
 -- As a filter of IPv4 frames, a table that forwards some flows enforces them, without stateful flows.
-pub flows_enforced : (entries : List Entry) (site : Site) (p : List Flow) → ForwardsFlows entries site p → Enforces (Passes entries) (policy_with site p [])
+pub flows_enforced : (entries : List Entry) (site : Site) (p : List Flow) → ForwardsFlows entries site p → Enforces (PassesEntries entries) (policy_with site p [])
 flows_enforced entries site p forwards = record {
-  given = λ packet state is. subst (λ (b : Bool). Passes entries state packet b) (lets_pass_alone site p packet state) (forwards.given (Ipv4 packet) is);
+  given = λ packet state is. subst (λ (b : Bool). PassesEntries entries state packet b) (lets_pass_alone site p packet state) (forwards.given (Ipv4 packet) is);
   only = λ packet state passes is has. verdict_if-injective passes _ (forwards.only (Ipv4 packet) (verdict_if passes) is has) ∙ lets_pass_alone site p packet state;
 }
 
@@ -47,11 +47,11 @@ no_flows p = record { ordered = tt; within = λ f none. absurd (true≢false (sy
 
 -- It forwards what is expected with stateful flows too, if their answers are covered.
 pub flows_expected : (entries : List Entry) (policy : FlowPolicy) → ForwardsFlows entries policy.site policy.permitted → AnswersAreCovered policy
-    → ForwardsAsExpected (Passes entries) policy
+    → ForwardsAsExpected (PassesEntries entries) policy
 flows_expected entries policy forwards covered =
     let permitted = policy_with policy.site policy.permitted [] in
-    let alone : ForwardsAsExpected (Passes entries) permitted =
-    enforced_expected (Passes entries) permitted (no_flows policy.permitted) (flows_enforced entries policy.site policy.permitted forwards) in
+    let alone : ForwardsAsExpected (PassesEntries entries) permitted =
+    enforced_expected (PassesEntries entries) permitted (no_flows policy.permitted) (flows_enforced entries policy.site policy.permitted forwards) in
     record {
       expected = λ events answers packets run. same_expected policy events answers packets covered (alone.expected events answers packets run);
       some = alone.some;

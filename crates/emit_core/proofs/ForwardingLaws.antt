@@ -23,7 +23,7 @@ use Rattle.ipt_rules.specs.declared.rule.Policy.TheVariants.{Drop as Dropping}
 use Rattle.ipt_rules.specs.Chain.{rules_of}
 use Rattle.ipt_rules.specs.inner.ChainTable.{rules_in}
 use Rattle.ipt_rules.specs.Matching.{matches}
-use Rattle.ipt_rules.specs.Semantics.{Gives, Passes, verdict_by}
+use Rattle.ipt_rules.specs.Semantics.{Gives, PassesChains, verdict_by}
 use Rattle.ipt_rules.proofs.MeaningLaws.{verdict_once}
 use Rattle.ipt_rules.specs.inner.OneOutcome.{HasVerdict}
 use Rattle.ipt_rules.specs.inner.Saying.{Says}
@@ -178,7 +178,7 @@ layout_verdict policy packet state is source destination =
     (verdict_said (layout policy) 1 packet state said (forward_says policy packet state is source destination))
 
 -- In every state the chains accept exactly the packets that the policy allows.
-pub layout_enforces : (policy : FlowPolicy) → IsHosts policy.site.hosts → Enforces (Passes (layout policy)) policy
+pub layout_enforces : (policy : FlowPolicy) → IsHosts policy.site.hosts → Enforces (PassesChains (layout policy)) policy
 layout_enforces policy known =
     let once = hosts_hold_once policy.site.hosts known in
     record {
@@ -187,5 +187,5 @@ layout_enforces policy known =
     }
 
 -- So they forward exactly what is expected.
-pub layout_expected : (policy : FlowPolicy) → IsHosts policy.site.hosts → IsSubset policy.stateful policy.permitted → ForwardsAsExpected (Passes (layout policy)) policy
-layout_expected policy known subset = enforced_expected (Passes (layout policy)) policy subset (layout_enforces policy known)
+pub layout_expected : (policy : FlowPolicy) → IsHosts policy.site.hosts → IsSubset policy.stateful policy.permitted → ForwardsAsExpected (PassesChains (layout policy)) policy
+layout_expected policy known subset = enforced_expected (PassesChains (layout policy)) policy subset (layout_enforces policy known)

@@ -19,7 +19,7 @@ use Rattle.pkt_core.specs.Filter.{Enforces}
 use Rattle.pkt_core.specs.FlowPolicy.{FlowPolicy, lets_pass, permits, permits_reply_to}
 use Rattle.ofp_rules.specs.declared.entry.Frame.TheVariants.{Ipv4}
 use Rattle.ofp_rules.specs.inner.Build.{IsTable}
-use Rattle.ofp_rules.specs.Semantics.{Passes}
+use Rattle.ofp_rules.specs.Semantics.{PassesEntries}
 use Rattle.emit_core.specs.FlowTable.{flow_entries}
 use Rattle.emit_core.proofs.FlowTableAnswerLaws.{answer_is}
 use Rattle.emit_core.specs.FlowTableEvents.{AnswersAreCovered, IsFirstUncovered, is_covered}
@@ -56,12 +56,12 @@ lets_pass_answered policy packet state is covered =
 
 -- So the entries of its permitted flows enforce it.
 pub flow_entries_enforce : (policy : FlowPolicy) → IsSite policy.site → HasNoRange policy.site.services policy.permitted
-    → AnswersAreCovered policy → Enforces (Passes (flow_entries policy.site policy.permitted)) policy
+    → AnswersAreCovered policy → Enforces (PassesEntries (flow_entries policy.site policy.permitted)) policy
 flow_entries_enforce policy known plain covered =
     let forwards : ForwardsFlows (flow_entries policy.site policy.permitted) policy.site policy.permitted = forwards_flows policy.site policy.permitted known plain in
     record {
       given = λ packet state is.
-          subst (λ (b : Bool). Passes (flow_entries policy.site policy.permitted) state packet b) (lets_pass_answered policy packet state is covered) (forwards.given (Ipv4 packet) is);
+          subst (λ (b : Bool). PassesEntries (flow_entries policy.site policy.permitted) state packet b) (lets_pass_answered policy packet state is covered) (forwards.given (Ipv4 packet) is);
       only = λ packet state passes is has.
           verdict_if-injective passes _ (forwards.only (Ipv4 packet) (verdict_if passes) is has) ∙ lets_pass_answered policy packet state is covered;
     }

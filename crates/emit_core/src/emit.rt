@@ -8,9 +8,9 @@ ghost use Rattle.flow_set.specs.FlowSet.{IsSubset};
 ghost use Rattle.pkt_core.specs.Filter.{Enforces, ForwardsAsExpected};
 ghost use Rattle.pkt_core.specs.FlowPolicy.{policy_with};
 ghost use Rattle.ipt_rules.specs.ChainTable.{rule_count};
-ghost use Rattle.ipt_rules.specs.Semantics.{Passes as ChainsPass};
+ghost use Rattle.ipt_rules.specs.Semantics.{PassesChains};
 ghost use Rattle.ofp_rules.specs.Ambiguity.{most_entries};
-ghost use Rattle.ofp_rules.specs.Semantics.{Passes as EntriesPass};
+ghost use Rattle.ofp_rules.specs.Semantics.{PassesEntries};
 ghost use Rattle.emit_core.specs.EmitRefusals.{rule_limit};
 ghost use Rattle.emit_core.specs.FlowTable.{flow_entries};
 ghost use Rattle.emit_core.specs.FlowTableEvents.{AnswersAreCovered};
@@ -46,10 +46,10 @@ pub fn emit_iptables(
     ensures refused { IfErr result (IsIptablesRefusal (policy_with (site_with hosts.now services.now) p.now.flows s.now.flows)) }
 
     // Each packet has a verdict, and it is forwarded if and only if the policy allows it.
-    ensures enforces { IfOk result (λ rules. Enforces (ChainsPass rules) (policy_with (site_with hosts.now services.now) p.now.flows s.now.flows)) }
+    ensures enforces { IfOk result (λ rules. Enforces (PassesChains rules) (policy_with (site_with hosts.now services.now) p.now.flows s.now.flows)) }
 
     // For every list of events, a packet is forwarded if and only if it is expected to pass.
-    ensures expected { IfOk result (λ rules. ForwardsAsExpected (ChainsPass rules) (policy_with (site_with hosts.now services.now) p.now.flows s.now.flows)) }
+    ensures expected { IfOk result (λ rules. ForwardsAsExpected (PassesChains rules) (policy_with (site_with hosts.now services.now) p.now.flows s.now.flows)) }
 {
     match iptables_layout(alloc, &FlowPolicy::new(hosts, services, p, s)) {
         Ok(rules) => Ok(rules),
@@ -74,13 +74,13 @@ pub fn emit_openflow(
 
     // An IPv4 frame is forwarded if and only if its packet belongs to a permitted flow, in each
     // connection state. Of all other frames only ARP is forwarded.
-    ensures enforces { IfOk result (λ table. Enforces (EntriesPass table) (policy_with (site_with hosts.now services.now) p.now.flows [])) }
+    ensures enforces { IfOk result (λ table. Enforces (PassesEntries table) (policy_with (site_with hosts.now services.now) p.now.flows [])) }
     ensures others { IfOk result (λ table. ForwardsArpAlone table) }
 
     // If the answers of each flow of `s` are covered, a packet is forwarded if and only if it is
     // expected to pass, for every list of events.
     ensures expected { IfOk result (λ table. (s : List Flow) → AnswersAreCovered (policy_with (site_with hosts.now services.now) p.now.flows s)
-        → ForwardsAsExpected (EntriesPass table) (policy_with (site_with hosts.now services.now) p.now.flows s)) }
+        → ForwardsAsExpected (PassesEntries table) (policy_with (site_with hosts.now services.now) p.now.flows s)) }
 {
     // The call establishes that the set is sorted, and so a subset of itself.
     let _size = p.size();

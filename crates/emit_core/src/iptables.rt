@@ -8,7 +8,7 @@ ghost use Rattle.pkt_core.specs.Filter.{Enforces, ForwardsAsExpected};
 ghost use Rattle.pkt_core.specs.inner.FlowPolicy.{IsFlowPolicy};
 ghost use Rattle.ipt_rules.specs.Chain.{number_of};
 ghost use Rattle.ipt_rules.specs.ChainTable.{rule_count};
-ghost use Rattle.ipt_rules.specs.Semantics.{Passes};
+ghost use Rattle.ipt_rules.specs.Semantics.{PassesChains};
 ghost use Rattle.ipt_rules.specs.inner.RuleParts.{is_rule};
 ghost use Rattle.emit_core.specs.EmitRefusals.{rule_limit};
 ghost use Rattle.emit_core.specs.inner.EmitRefusals.{HasNoChains};
@@ -36,11 +36,11 @@ pub fn iptables_layout(alloc: Global, policy: &FlowPolicy<'_>) -> Result<Ruleset
     ensures refused { IfErr result (HasNoChains policy.now) }
 
     // Each packet has a verdict, and it is forwarded if and only if the policy allows it.
-    ensures enforces { IfOk result (λ rules. Enforces (Passes rules) policy.now) }
+    ensures enforces { IfOk result (λ rules. Enforces (PassesChains rules) policy.now) }
 
     // For every list of events, a packet is forwarded if and only if the policy and its answers
     // expect it.
-    ensures expected { IfOk result (λ rules. ForwardsAsExpected (Passes rules) policy.now) }
+    ensures expected { IfOk result (λ rules. ForwardsAsExpected (PassesChains rules) policy.now) }
 {
     let Ok(Layout { chains, count }) = layout_of(alloc, policy) else {
         return Err(NoChains::Memory);

@@ -5,7 +5,7 @@ ghost use Rattle.flow_set.specs.declared.flow.Flow.{Flow};
 ghost use Rattle.pkt_core.specs.Filter.{Enforces, ForwardsAsExpected};
 ghost use Rattle.pkt_core.specs.FlowPolicy.{policy_with};
 ghost use Rattle.ofp_rules.specs.Ambiguity.{most_entries};
-ghost use Rattle.ofp_rules.specs.Semantics.{Passes};
+ghost use Rattle.ofp_rules.specs.Semantics.{PassesEntries};
 ghost use Rattle.emit_core.specs.inner.EmitRefusals.{HasNoTable};
 ghost use Rattle.emit_core.specs.FlowTable.{flow_entries};
 ghost use Rattle.emit_core.specs.FlowTableEvents.{AnswersAreCovered};
@@ -33,13 +33,13 @@ pub fn flow_table_layout(alloc: Global, policy: &FlowPolicy<'_>) -> Result<Table
 
     // An IPv4 frame is forwarded if and only if its packet belongs to a permitted flow, regardless
     // of the connection state. Of all other frames only ARP is forwarded.
-    ensures enforces { IfOk result (λ table. Enforces (Passes table) (policy_with policy.now.site policy.now.permitted [])) }
+    ensures enforces { IfOk result (λ table. Enforces (PassesEntries table) (policy_with policy.now.site policy.now.permitted [])) }
     ensures others { IfOk result (λ table. ForwardsArpAlone table) }
 
     // So if the answers of each stateful flow are covered, packets are forwarded exactly as
     // expected, for every list of events.
     ensures expected { IfOk result (λ table. (s : List Flow) → AnswersAreCovered (policy_with policy.now.site policy.now.permitted s)
-        → ForwardsAsExpected (Passes table) (policy_with policy.now.site policy.now.permitted s)) }
+        → ForwardsAsExpected (PassesEntries table) (policy_with policy.now.site policy.now.permitted s)) }
 {
     // The call establishes the invariants of policies.
     let _count = policy.count();

@@ -11,7 +11,7 @@ use Rattle.host_net.specs.Site.{Site}
 use Rattle.flow_set.specs.declared.flow.Flow.{Flow}
 use Rattle.flow_set.specs.FlowSet.{has, IsSubset}
 use Rattle.ipt_rules.specs.Chain.{Chain}
-use Rattle.ipt_rules.specs.Semantics.{Passes}
+use Rattle.ipt_rules.specs.Semantics.{PassesChains}
 use Rattle.pkt_core.specs.declared.event.Event.{Event}
 use Rattle.host_net.specs.Packet.{swap_of}
 use Rattle.pkt_core.specs.Events.{WasSeen}
@@ -133,7 +133,7 @@ layouts_expected policy known subset = guards_expected (local_layout policy) pol
 -- A packet passes between the hosts if and only if the chains of a firewall for the whole network forward it.
 pub passes_as_forwarded : (policy : FlowPolicy) → IsHosts policy.site.hosts → IsSubset policy.stateful policy.permitted → (events : List Event) → AreExternal events
     → (passes forwards : List (Option Bool)) → LocalRuns (local_layout policy) policy.site.hosts events passes
-    → RunsFromNoConnections (Passes (layout policy)) events forwards → passes ≡ forwards
+    → RunsFromNoConnections (PassesChains (layout policy)) events forwards → passes ≡ forwards
 passes_as_forwarded policy known subset events external passes forwards local whole =
     expected_once (permits policy) (permits_reply_to policy) events passes forwards
     ((layouts_expected policy known subset).expected events passes external local)

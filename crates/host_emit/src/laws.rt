@@ -3,7 +3,7 @@
 ghost use Rattle.std.specs.Prelude.{◌≡◌, Bool, List, Option};
 ghost use Rattle.host_net.specs.inner.Hosts.{IsHosts};
 ghost use Rattle.flow_set.specs.FlowSet.{IsSubset};
-ghost use Rattle.ipt_rules.specs.Semantics.{Passes};
+ghost use Rattle.ipt_rules.specs.Semantics.{PassesChains};
 ghost use Rattle.pkt_core.specs.declared.event.Event.{Event};
 ghost use Rattle.pkt_core.specs.Filter.{RunsFromNoConnections};
 ghost use Rattle.pkt_core.specs.FlowPolicy.{FlowPolicy};
@@ -16,5 +16,5 @@ ghost use Rattle.host_emit.specs.LocalLayout.{local_layout};
 pub fn firewalls_pass_as_one()
     ensures { (policy : FlowPolicy) → IsHosts policy.site.hosts → IsSubset policy.stateful policy.permitted → (events : List Event) → AreExternal events →
         (passes forwards : List (Option Bool)) → LocalRuns (local_layout policy) policy.site.hosts events passes →
-        RunsFromNoConnections (Passes (layout policy)) events forwards → passes ≡ forwards }
+        RunsFromNoConnections (PassesChains (layout policy)) events forwards → passes ≡ forwards }
 {}

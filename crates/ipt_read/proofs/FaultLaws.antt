@@ -9,7 +9,7 @@ use Rattle.ipt_read.specs.ParserStates.{After, ParserState, line_of}
 use Rattle.text_core.specs.Lines.{words}
 use Rattle.ipt_read.proofs.LineLaws.{IsTextLine, read_of_line}
 use Rattle.ipt_read.proofs.LineFaultLaws.{IsBadLine, step_of_bad_line}
-use Rattle.ipt_read.specs.TextLines.{HasEndFault, no_commit, loops, rules_text, IsReading, HasFault}
+use Rattle.ipt_read.specs.TextLines.{HasEndFault, no_commit, loops, rules_text, IsReadingOfRules, HasFaultInRules}
 
 -- 1. One line.
 
@@ -51,12 +51,12 @@ rules_settled = record {
 
 -- 3. Files.
 
-pub one_reading : (bytes : List ℕ) (a b : List Chain) → IsReading bytes a → IsReading bytes b → a ≡ b
+pub one_reading : (bytes : List ℕ) (a b : List Chain) → IsReadingOfRules bytes a → IsReadingOfRules bytes b → a ≡ b
 one_reading bytes a b p q =
     p.2 ∙ ap (λ (s : ParserState). s.chains) (reading_once rules_text rules_settled bytes p.0 q.0 p.1 q.1) ∙ sym q.2
 
-pub one_fault : (bytes : List ℕ) (l m : ℕ) (w v : IptWhy) → HasFault bytes l w → HasFault bytes m v → (l ≡ m) × (w ≡ v)
+pub one_fault : (bytes : List ℕ) (l m : ℕ) (w v : IptWhy) → HasFaultInRules bytes l w → HasFaultInRules bytes m v → (l ≡ m) × (w ≡ v)
 one_fault = fault_once rules_text rules_settled
 
-pub no_reading_with_fault : (bytes : List ℕ) (chains : List Chain) (l : ℕ) (w : IptWhy) → HasFault bytes l w → IsReading bytes chains → ⊥
+pub no_reading_with_fault : (bytes : List ℕ) (chains : List Chain) (l : ℕ) (w : IptWhy) → HasFaultInRules bytes l w → IsReadingOfRules bytes chains → ⊥
 no_reading_with_fault bytes chains l w fault reading = reading_or_fault_alone rules_text rules_settled bytes reading.0 l w fault reading.1

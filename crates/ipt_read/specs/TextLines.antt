@@ -1,7 +1,7 @@
 -- The format of a ruleset file: the chains that it defines, and the reasons why a file is rejected.
 use Rattle.std.specs.Prelude.{◌≡◌, ◌≢◌, ℕ, List, ◌∷◌, codes}
 use Rattle.text_core.specs.Lines.{words}
-use Rattle.text_core.specs.LineFormat.{LineFormat, IsReading as IsReadingOf, HasFault as HasFaultOf}
+use Rattle.text_core.specs.LineFormat.{LineFormat, IsReading, HasFault}
 use Rattle.ipt_rules.specs.Chain.{Chain}
 use Rattle.ipt_rules.specs.Loops.{IsAcyclic, IsFirstOnCycle}
 use Rattle.ipt_read.specs.declared.fault.IptWhy.{IptWhy}
@@ -29,25 +29,25 @@ rules_text = record {
 }
 
 -- The parse result of a file.
-abbrev pub IsReading : List ℕ → List Chain → Type 0
-IsReading bytes chains = (s : ParserState) × IsReadingOf rules_text bytes s × (chains ≡ s.chains)
+abbrev pub IsReadingOfRules : List ℕ → List Chain → Type 0
+IsReadingOfRules bytes chains = (s : ParserState) × IsReading rules_text bytes s × (chains ≡ s.chains)
 
 -- The first error of a file.
-abbrev pub HasFault : List ℕ → ℕ → IptWhy → Type 0
-HasFault = HasFaultOf rules_text
+abbrev pub HasFaultInRules : List ℕ → ℕ → IptWhy → Type 0
+HasFaultInRules = HasFault rules_text
 
 -- The name of a reason, as it is printed.
-abbrev pub name : IptWhy → List ℕ
-name TooLong = codes "TooLong"
-name BadLine = codes "BadLine"
-name OtherTable = codes "OtherTable"
-name BadChain = codes "BadChain"
-name UnknownChain = codes "UnknownChain"
-name Interface = codes "Interface"
-name UnknownOption = codes "UnknownOption"
-name BadValue = codes "BadValue"
-name UnknownTarget = codes "UnknownTarget"
-name Loop = codes "Loop"
-name NoCommit = codes "NoCommit"
-name AfterCommit = codes "AfterCommit"
-name TooMany = codes "TooMany"
+abbrev pub rules_reason : IptWhy → List ℕ
+rules_reason TooLong = codes "TooLong"
+rules_reason BadLine = codes "BadLine"
+rules_reason OtherTable = codes "OtherTable"
+rules_reason BadChain = codes "BadChain"
+rules_reason UnknownChain = codes "UnknownChain"
+rules_reason Interface = codes "Interface"
+rules_reason UnknownOption = codes "UnknownOption"
+rules_reason BadValue = codes "BadValue"
+rules_reason UnknownTarget = codes "UnknownTarget"
+rules_reason Loop = codes "Loop"
+rules_reason NoCommit = codes "NoCommit"
+rules_reason AfterCommit = codes "AfterCommit"
+rules_reason TooMany = codes "TooMany"

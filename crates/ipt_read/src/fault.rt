@@ -1,7 +1,7 @@
 //! The reasons why a file is no ruleset.
 
 ghost use Rattle.std.specs.Prelude.{◌≡◌};
-ghost use Rattle.ipt_read.specs.TextLines.{name};
+ghost use Rattle.ipt_read.specs.TextLines.{rules_reason};
 
 use text_core::{LineFault, TextFault};
 use thiserror::Error;
@@ -56,7 +56,7 @@ pub enum IptWhy {
 impl IptWhy {
     /// Returns the name of the reason, as it is printed.
     pub fn name(self) -> &'static [u8]
-        ensures { result.now ≡ name self }
+        ensures { result.now ≡ rules_reason self }
     {
         match self {
             IptWhy::TooLong => b"TooLong",

@@ -12,7 +12,7 @@ ghost use Rattle.ipt_read.specs.declared.fault.IptWhy.{IptWhy};
 ghost use Rattle.ipt_read.specs.inner.State.{said_of, IsFine};
 ghost use Rattle.ipt_read.specs.ParserStates.{After, line_of};
 ghost use Rattle.ipt_read.specs.inner.ReaderView.{stage_of};
-ghost use Rattle.ipt_read.specs.TextLines.{rules_text, HasFault, IsReading};
+ghost use Rattle.ipt_read.specs.TextLines.{rules_text, HasFaultInRules, IsReadingOfRules};
 
 use crate::fault::{IptFault, IptWhy};
 use crate::reader::{Reader, initial_state};
@@ -23,17 +23,17 @@ use text_core::{TextFault, read_counted_lines};
 
 /// Parses a ruleset.
 pub fn read(alloc: Global, bytes: &[u8]) -> Result<Ruleset, IptFault>
-    ensures found { IfOk result (IsReading bytes.now) }
+    ensures found { IfOk result (IsReadingOfRules bytes.now) }
     // A file that has a parse result is rejected only if allocation fails.
-    ensures only { (chains : List Chain) → IsReading bytes.now chains →
+    ensures only { (chains : List Chain) → IsReadingOfRules bytes.now chains →
         MatchResult result (λ rules. rules ≡ chains) (λ fault. fault ≡ TextFault.Memory) }
     ensures refused { IfErr result (HasCause rules_text bytes.now) }
     // A file has at most one first error, and none if it has a parse result.
-    ensures faulty { (line : ℕ) (why : IptWhy) → HasFault bytes.now line why →
+    ensures faulty { (line : ℕ) (why : IptWhy) → HasFaultInRules bytes.now line why →
         MatchResult result (λ rules. ⊥) (IsFault line why) }
     // The text of a rule set parses to this rule set, if it is within the size limit.
     ensures written { (chains : List Chain) → IsWritable chains → bytes.now ≡ text chains → length bytes.now ≤ 67108864 →
-        IsReading bytes.now chains }
+        IsReadingOfRules bytes.now chains }
     // A formatted rule set is parsed back, if its text is within the size limit.
     ensures again { (chains : List Chain) → IsWritable chains → bytes.now ≡ text chains → length bytes.now ≤ 67108864 →
         MatchResult result (λ rules. rules ≡ chains) (λ fault. fault ≡ TextFault.Memory) }
@@ -54,7 +54,7 @@ fn end(alloc: Global, reader: Reader, bytes: &[u8], count: u32) -> Result<Rulese
     requires fine { IsFine (said_of reader) }
     requires through { IsReadToEnd rules_text bytes.now (said_of reader) }
     requires counted { count ≡ length (lines bytes.now) }
-    ensures found { IfOk result (IsReading bytes.now) }
+    ensures found { IfOk result (IsReadingOfRules bytes.now) }
     ensures refused { IfErr result (HasCause rules_text bytes.now) }
     ensures deterministic { IfOk result AreDeterministic }
 {
@@ -72,7 +72,7 @@ fn build(alloc: Global, reader: Reader, bytes: &[u8]) -> Result<Ruleset, IptFaul
     requires fine { IsFine (said_of reader) }
     requires through { IsReadToEnd rules_text bytes.now (said_of reader) }
     requires whole { stage_of reader.stage ≡ After }
-    ensures found { IfOk result (IsReading bytes.now) }
+    ensures found { IfOk result (IsReadingOfRules bytes.now) }
     ensures refused { IfErr result (HasCause rules_text bytes.now) }
     ensures deterministic { IfOk result AreDeterministic }
 {

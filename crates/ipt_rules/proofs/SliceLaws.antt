@@ -18,7 +18,7 @@ use Rattle.ipt_rules.specs.ChainTable.{rule_count}
 use Rattle.ipt_rules.specs.Loops.{jump_of, jumps_of}
 use Rattle.ipt_rules.specs.Matching.{matches}
 use Rattle.ipt_rules.specs.Semantics.{Continues, JumpsTo, step_of, Gives, at_end, goes_on, ends, decides, comes_back, verdict_by, HasVerdictIn}
-use Rattle.ipt_rules.specs.Slices.{HaveSameVerdicts}
+use Rattle.ipt_rules.specs.Slices.{HaveSameChainVerdicts}
 use Rattle.ipt_rules.specs.inner.Ranks.{HasTopologicalOrder}
 use Rattle.ipt_rules.specs.inner.Slicing.{AreSlices, FitsNone, IsThinned, Thins, thin_end, thin_keeps, thin_drops, all_stay, chains_stay, stays}
 use Rattle.ipt_rules.specs.inner.Walking.{is_known_to_return}
@@ -180,7 +180,7 @@ module _ (b : PacketBox) (p : Packet) (inside : IsIn b p) (state : CtState) (mar
 
 -- The slice has the verdicts of the chains.
 pub same_verdicts : (b : PacketBox) (marks : List Bool) (xs ys : List Chain) → AreSlices b marks 0 xs ys → chains_stay marks ys ≡ true → is_known_to_return marks 1 ≡ true → HasTopologicalOrder ys
-    → HaveSameVerdicts b xs ys
+    → HaveSameChainVerdicts b xs ys
 same_verdicts b marks xs ys are stay there topological_order p inside state v = (
   (λ is.
       let one = each_gives_one ys topological_order (matches p state) 1 0 in

@@ -57,8 +57,8 @@ DecidesWalk fits chains c None = (place : Place) → Meets fits chains c place �
 DecidesWalk fits chains c (Some place) = Meets fits chains c place × IsSome (verdict_at chains place)
 
 -- The decider of a packet that enters FORWARD.
-abbrev pub IsDecider : List Chain → Packet → CtState → Option Place → Type 0
-IsDecider chains packet state = DecidesWalk (matches packet state) chains 1
+abbrev pub IsRuleDecider : List Chain → Packet → CtState → Option Place → Type 0
+IsRuleDecider chains packet state = DecidesWalk (matches packet state) chains 1
 
 -- The verdict of a decider on a packet that enters FORWARD: the verdict of the rule, or the policy of FORWARD.
 abbrev pub decided : List Chain → Option Place → Verdict

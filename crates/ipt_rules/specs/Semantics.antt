@@ -61,5 +61,5 @@ pub record HasVerdictIn (chains : List Chain) (c : ℕ) (packet : Packet) (state
   pub verdict : v ≡ verdict_by (policy_of chains c) outcome
 
 -- The chains as a filter: in a state they forward a packet through FORWARD, chain 1, or do not, as `passes` states.
-abbrev pub Passes : List Chain → CtState → Packet → Bool → Type 0
-Passes chains state packet passes = HasVerdictIn chains 1 packet state (verdict_if passes)
+abbrev pub PassesChains : List Chain → CtState → Packet → Bool → Type 0
+PassesChains chains state packet passes = HasVerdictIn chains 1 packet state (verdict_if passes)

@@ -9,6 +9,6 @@ use Rattle.ipt_rules.specs.Chain.{Chain}
 use Rattle.ipt_rules.specs.Semantics.{HasVerdictIn}
 
 -- Two lists of chains have the same verdict on each packet of the box that traverses FORWARD, in each state.
-abbrev pub HaveSameVerdicts : PacketBox → List Chain → List Chain → Type 0
-HaveSameVerdicts b chains others =
+abbrev pub HaveSameChainVerdicts : PacketBox → List Chain → List Chain → Type 0
+HaveSameChainVerdicts b chains others =
     (p : Packet) → IsIn b p → (state : CtState) (v : Verdict) → (HasVerdictIn chains 1 p state v ↔ HasVerdictIn others 1 p state v)

@@ -8,7 +8,7 @@ ghost use Rattle.ipt_rules.specs.declared.marks.Place.{Place};
 ghost use Rattle.ipt_rules.specs.ChainTable.{rule_count};
 ghost use Rattle.ipt_rules.specs.DeadRules.{AreUnmarked, without_places};
 ghost use Rattle.ipt_rules.specs.Marks.{AreMarksOf, is_marked};
-ghost use Rattle.ipt_rules.specs.Meets.{IsMet, IsDecider, decided};
+ghost use Rattle.ipt_rules.specs.Meets.{IsMet, IsRuleDecider, decided};
 ghost use Rattle.ipt_rules.specs.inner.OneOutcome.{HasVerdict};
 ghost use Rattle.ipt_rules.specs.inner.Ranks.{HasTopologicalOrder};
 
@@ -34,9 +34,9 @@ impl Ruleset {
         ensures part { Narrows within.old within.new }
         ensures marks { AreMarksOf met.new self.now }
         ensures marked { (p : Packet) → IsIn within.new p → (place : Place) → (IsTrue (is_marked met.new place) ↔ (IsTrue (is_marked met.old place) ⊎ IsMet self.now p state place)) }
-        ensures decider { (p : Packet) → IsIn within.new p → IsDecider self.now p state result }
+        ensures decider { (p : Packet) → IsIn within.new p → IsRuleDecider self.now p state result }
         // Nothing else decides, and the verdict is the verdict of the decider.
-        ensures only { (p : Packet) → IsIn within.new p → (other : Option Place) → IsDecider self.now p state other → other ≡ result }
+        ensures only { (p : Packet) → IsIn within.new p → (other : Option Place) → IsRuleDecider self.now p state other → other ≡ result }
         ensures verdict { (p : Packet) → IsIn within.new p → HasVerdict self.now p state (decided self.now result) }
         // The verdicts are unchanged without rules that stay unmarked.
         ensures unmarked { (p : Packet) → IsIn within.new p → (places : Place → Bool) → AreUnmarked met.new places → (v : Verdict) → (HasVerdict self.now p state v ↔ HasVerdict (without_places places self.now) p state v) }
@@ -62,8 +62,8 @@ fn meet_forward(
     ensures part { Narrows within.old within.new }
     ensures marks { AreMarksOf met.new chains.now }
     ensures marked { (p : Packet) → IsIn within.new p → (place : Place) → (IsTrue (is_marked met.new place) ↔ (IsTrue (is_marked met.old place) ⊎ IsMet chains.now p state place)) }
-    ensures decider { (p : Packet) → IsIn within.new p → IsDecider chains.now p state result }
-    ensures only { (p : Packet) → IsIn within.new p → (other : Option Place) → IsDecider chains.now p state other → other ≡ result }
+    ensures decider { (p : Packet) → IsIn within.new p → IsRuleDecider chains.now p state result }
+    ensures only { (p : Packet) → IsIn within.new p → (other : Option Place) → IsRuleDecider chains.now p state other → other ≡ result }
     ensures verdict { (p : Packet) → IsIn within.new p → HasVerdict chains.now p state (decided chains.now result) }
     // The verdicts are unchanged without rules that stay unmarked.
     ensures unmarked { (p : Packet) → IsIn within.new p → (places : Place → Bool) → AreUnmarked met.new places → (v : Verdict) → (HasVerdict chains.now p state v ↔ HasVerdict (without_places places chains.now) p state v) }

@@ -6,7 +6,7 @@ ghost use Rattle.std.specs.List.{list_all};
 ghost use Rattle.host_net.specs.declared.packet.Packet.{Packet};
 ghost use Rattle.header_space.specs.Boxes.{IsBox, IsIn, Narrows};
 ghost use Rattle.ipt_rules.specs.ChainTable.{rule_count};
-ghost use Rattle.ipt_rules.specs.Slices.{HaveSameVerdicts};
+ghost use Rattle.ipt_rules.specs.Slices.{HaveSameChainVerdicts};
 ghost use Rattle.ipt_rules.specs.inner.OneOutcome.{AreDeterministic, HasVerdict};
 ghost use Rattle.ipt_rules.specs.inner.Ranks.{HasTopologicalOrder};
 ghost use Rattle.ipt_rules.specs.inner.Slicing.{AreSlices, FitsNone, Thins, all_stay, chains_stay, stays};
@@ -69,7 +69,7 @@ impl Slice {
 
     /// Returns the slice for the packets of a box, or None if it has more than five eighths of the rules.
     pub fn slice(&self, alloc: Global, within: &PacketBox) -> Result<Option<Slice>, AllocError>
-        ensures { IfOk result (λ slice. IfSome slice (HaveSameVerdicts within.now self.now)) }
+        ensures { IfOk result (λ slice. IfSome slice (HaveSameChainVerdicts within.now self.now)) }
     {
         slice_of(alloc, &self.chains, self.rules, within)
     }
@@ -78,7 +78,7 @@ impl Slice {
 impl Ruleset {
     /// Returns the slice for the packets of a box, or None if it has more than five eighths of the rules.
     pub fn slice(&self, alloc: Global, within: &PacketBox) -> Result<Option<Slice>, AllocError>
-        ensures { IfOk result (λ slice. IfSome slice (HaveSameVerdicts within.now self.now)) }
+        ensures { IfOk result (λ slice. IfSome slice (HaveSameChainVerdicts within.now self.now)) }
     {
         slice_of(alloc, &self.chains, self.rules, within)
     }
@@ -95,7 +95,7 @@ fn slice_of(
     requires forward { 1 < length chains.now }
     requires few_rules { rule_count chains.now ≤ 1000000 }
     requires topological_order { HasTopologicalOrder chains.now }
-    ensures { IfOk result (λ slice. IfSome slice (HaveSameVerdicts within.now chains.now)) }
+    ensures { IfOk result (λ slice. IfSome slice (HaveSameChainVerdicts within.now chains.now)) }
 {
     if rules <= FEW_RULES + chains.len() as u32 / 4 {
         return Ok(None);
@@ -121,7 +121,7 @@ fn closed_slice(
     requires forward { 1 < length chains.now }
     requires few_rules { rule_count chains.now ≤ 1000000 }
     requires topological_order { HasTopologicalOrder chains.now }
-    ensures { IfOk result (λ slice. IfSome slice (HaveSameVerdicts within.now chains.now)) }
+    ensures { IfOk result (λ slice. IfSome slice (HaveSameChainVerdicts within.now chains.now)) }
 {
     let marks = reached.chains.as_slice();
     let kept = sliced(alloc, chains, marks, within)?;

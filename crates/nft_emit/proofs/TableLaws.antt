@@ -21,7 +21,7 @@ use Rattle.nft_rules.specs.declared.table.End.TheVariants.{Source}
 use Rattle.nft_rules.specs.declared.table.Table.{Table}
 use Rattle.nft_rules.specs.declared.table.Verdict.{Verdict}
 use Rattle.nft_rules.specs.Loadable.{IsLoadable}
-use Rattle.nft_rules.specs.Semantics.{Passes}
+use Rattle.nft_rules.specs.Semantics.{PassesTable}
 use Rattle.nft_rules.specs.Semantics.Decides.{by_policy}
 use Rattle.nft_emit.specs.declared.cuts.Cut.{Cut}
 use Rattle.nft_emit.specs.inner.Building.{AreBuilt}
@@ -106,10 +106,10 @@ head_below : (policy : FlowPolicy) (heads : List (Option Verdict)) → length he
 head_below policy heads whole a i of = subst (λ (n : ℕ). i < n) (sym whole) (owner_below policy.site.hosts a i of)
 
 pub table_enforces : (policy : FlowPolicy) (cuts : List Cut) (heads : List (Option Verdict)) (table : Table) → IsLaidOut policy cuts heads table
-    → Enforces (Passes table) policy
+    → Enforces (PassesTable table) policy
 table_enforces policy cuts heads table laid = record {
   given = λ packet state is.
-      subst (Passes table state packet)
+      subst (PassesTable table state packet)
       (owners_send policy packet (is_established state) (owner_of policy.site.hosts packet.src) (owner_of policy.site.hosts packet.dst))
       (falls_given table.chains.items state packet Source policy.site.hosts cuts heads table.forward.items _ laid.cuts_are is.0 laid.falls
       (from_given table.chains.items policy cuts heads packet state (owner_of policy.site.hosts packet.src) is laid.cuts_are laid.heads_are
@@ -122,9 +122,9 @@ table_enforces policy cuts heads table laid = record {
 }
 
 pub table_expected : (policy : FlowPolicy) (cuts : List Cut) (heads : List (Option Verdict)) (table : Table) → IsFlowPolicy policy → IsLaidOut policy cuts heads table
-    → ForwardsAsExpected (Passes table) policy
+    → ForwardsAsExpected (PassesTable table) policy
 table_expected policy cuts heads table known laid =
-    enforced_expected (Passes table) policy known.within (table_enforces policy cuts heads table laid)
+    enforced_expected (PassesTable table) policy known.within (table_enforces policy cuts heads table laid)
 
 pub table_loads : (policy : FlowPolicy) (cuts : List Cut) (heads : List (Option Verdict)) (table : Table) → IsHosts policy.site.hosts
     → length table.chains.items ≤ 65792 → AreBuilt policy.site.hosts (length policy.site.hosts) table.chains.items → IsLaidOut policy cuts heads table

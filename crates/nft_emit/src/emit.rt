@@ -3,7 +3,7 @@
 ghost use Rattle.std.specs.Prelude.{◌≡◌, ◌≤◌, [], length, IfOk, OnOk};
 ghost use Rattle.pkt_core.specs.Filter.{Enforces, ForwardsAsExpected};
 ghost use Rattle.nft_rules.specs.Loadable.{IsLoadable};
-ghost use Rattle.nft_rules.specs.Semantics.{Passes};
+ghost use Rattle.nft_rules.specs.Semantics.{PassesTable};
 ghost use Rattle.nft_emit.specs.inner.Building.{AreBuilt};
 ghost use Rattle.nft_emit.specs.inner.Cuts.{AreCuts};
 ghost use Rattle.nft_emit.specs.inner.Sending.{AreHeads};
@@ -23,11 +23,11 @@ pub fn nft_layout(alloc: Global, policy: &FlowPolicy<'_>) -> Result<Table, Alloc
     ensures loadable { IfOk result (λ table. IsLoadable table) }
 
     // Each packet has a verdict, and it is forwarded if and only if the policy allows it.
-    ensures enforces { IfOk result (λ table. Enforces (Passes table) policy.now) }
+    ensures enforces { IfOk result (λ table. Enforces (PassesTable table) policy.now) }
 
     // For every list of events, a packet is forwarded if and only if the policy and its answers
     // expect it.
-    ensures expected { IfOk result (λ table. ForwardsAsExpected (Passes table) policy.now) }
+    ensures expected { IfOk result (λ table. ForwardsAsExpected (PassesTable table) policy.now) }
 {
     let cuts = cuts_of(alloc, policy.hosts())?;
     let mut chains = Chains::new(alloc);

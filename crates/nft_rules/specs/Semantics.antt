@@ -63,5 +63,5 @@ pub data Decides (chains : List Chain) (state : CtState) (packet : Packet) : Lis
       → slice_get chains c ≡ Some chain → Decides chains state packet chain.rules.items passes → Decides chains state packet (rule ∷ rules) passes
 
 -- The table as a filter: the base chain decides.
-abbrev pub Passes : Table → CtState → Packet → Bool → Type 0
-Passes table state packet passes = Decides table.chains.items state packet table.forward.items passes
+abbrev pub PassesTable : Table → CtState → Packet → Bool → Type 0
+PassesTable table state packet passes = Decides table.chains.items state packet table.forward.items passes

@@ -11,7 +11,7 @@ use Rattle.nft_rules.specs.declared.table.Table.{Table}
 use Rattle.nft_rules.specs.declared.table.Verdict.{Verdict}
 use Rattle.nft_rules.specs.declared.table.Verdict.TheVariants.{Accept, Drop, Goto}
 use Rattle.nft_rules.specs.Loadable.{AreRules, IsLoadable, IsRule, LeadBack, LeadsBelow}
-use Rattle.nft_rules.specs.Semantics.{Decides, Gives, Passes, address_at}
+use Rattle.nft_rules.specs.Semantics.{Decides, Gives, PassesTable, address_at}
 use Rattle.nft_rules.specs.Semantics.Decides.{by_policy, by_next, by_accept, by_drop, by_goto}
 use Rattle.nft_rules.proofs.EvalLaws.{Follows, decides_first, first_decides, none_decides}
 use Rattle.nft_rules.proofs.MapLaws.{leads_same, leads_some}
@@ -92,7 +92,7 @@ decide_below (suc n) chains state p back c chain less there =
 -- ---- Exactly one
 
 pub passes_one : (table : Table) (state : CtState) (p : Packet) → IsLoadable table
-    → (passes : Bool) × Passes table state p passes × ((other : Bool) → Passes table state p other → other ≡ passes)
+    → (passes : Bool) × PassesTable table state p passes × ((other : Bool) → PassesTable table state p other → other ≡ passes)
 passes_one table state p is =
     let chains = table.chains.items in
     let found = rules_some (length chains) chains state p table.forward.items (omega arith) (decide_below (length chains) chains state p is.back) is.forward in

@@ -6,7 +6,7 @@ ghost use Rattle.host_net.specs.declared.packet.CtState.{CtState};
 ghost use Rattle.host_net.specs.Packet.{IsPacket};
 ghost use Rattle.header_space.specs.Boxes.{IsBox, IsIn, Narrows};
 ghost use Rattle.nft_rules.specs.Loadable.{IsLoadable};
-ghost use Rattle.nft_rules.specs.Semantics.{Passes};
+ghost use Rattle.nft_rules.specs.Semantics.{PassesTable};
 
 use crate::check::is_loadable;
 use crate::walk::walk;
@@ -60,14 +60,14 @@ impl LoadableTable {
         ensures loadable { IsLoadable self.now }
         // A packet passes in a state or does not, and not both.
         ensures one { (state : CtState) (p : Packet) → IsPacket p →
-            (passes : Bool) × Passes self.now state p passes × ((other : Bool) → Passes self.now state p other → other ≡ passes) }
+            (passes : Bool) × PassesTable self.now state p passes × ((other : Bool) → PassesTable self.now state p other → other ≡ passes) }
     {
         &self.table
     }
 
     /// Whether the table forwards a packet in a state.
     pub fn passes(&self, packet: &Packet, state: CtState) -> bool
-        ensures { Passes self.now state packet.now result }
+        ensures { PassesTable self.now state packet.now result }
     {
         let mut single = PacketBox {
             least: *packet,
@@ -81,7 +81,7 @@ impl LoadableTable {
     pub fn passes_within(&self, within: &mut PacketBox, state: CtState) -> bool
         requires { IsBox within.old }
         ensures part { Narrows within.old within.new }
-        ensures passes { (p : Packet) → IsIn within.new p → Passes self.now state p result }
+        ensures passes { (p : Packet) → IsIn within.new p → PassesTable self.now state p result }
     {
         walk(&self.table, within, state)
     }

@@ -3,7 +3,7 @@
 ghost use Rattle.host_net.specs.declared.packet.Packet.{Packet};
 ghost use Rattle.header_space.specs.Boxes.{IsBox, IsIn, Narrows};
 ghost use Rattle.nft_rules.specs.Loadable.{IsLoadable};
-ghost use Rattle.nft_rules.specs.Semantics.{Passes};
+ghost use Rattle.nft_rules.specs.Semantics.{PassesTable};
 ghost use Rattle.nft_space.specs.inner.First.{Ascend, First};
 
 use crate::rule::rule_within;
@@ -17,7 +17,7 @@ pub(crate) fn walk(table: &Table, within: &mut PacketBox, state: CtState) -> boo
     requires is_box { IsBox within.old }
     requires loadable { IsLoadable table.now }
     ensures part { Narrows within.old within.new }
-    ensures passes { (p : Packet) → IsIn within.new p → Passes table.now state p result }
+    ensures passes { (p : Packet) → IsIn within.new p → PassesTable table.now state p result }
 {
     let mut rules = table.forward.as_slice();
     let mut below = table.chains.len();

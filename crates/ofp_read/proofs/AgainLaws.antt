@@ -16,7 +16,7 @@ use Rattle.ofp_rules.specs.Matching.{asks_of_ip}
 use Rattle.ofp_rules.specs.inner.Ranges.{in_range, AreInRange}
 use Rattle.ofp_rules.specs.Text.{text}
 use Rattle.ofp_read.specs.Grammar.{AddsEntry}
-use Rattle.ofp_read.specs.TextLines.{IsReading}
+use Rattle.ofp_read.specs.TextLines.{IsReadingOfFlows}
 use Rattle.ofp_read.proofs.WrittenLaws.{bare_line, line_is, bare_writes, bare_lacks, bare_flow}
 
 -- 1. Its length.
@@ -77,7 +77,7 @@ entries_follow n before (e ∷ rest) accepted asks range =
           (entries_follow (n + 1) (before ++ e ∷ []) rest moved ask.1 fit.1),
     )
 
-pub text_read_again : (entries : List Entry) → IsTable entries → IsReading (text entries) entries
+pub text_read_again : (entries : List Entry) → IsTable entries → IsReadingOfFlows (text entries) entries
 text_read_again entries table =
     let few = table.accepted.0 in
     record {

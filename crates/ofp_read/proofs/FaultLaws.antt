@@ -11,7 +11,7 @@ use Rattle.ofp_read.specs.declared.fault.OfpWhy.{OfpWhy}
 use Rattle.ofp_read.specs.Grammar.{AddsEntry}
 use Rattle.ofp_read.proofs.RangeLaws.{written_in_range}
 use Rattle.ofp_read.proofs.OnceLaws.{one_flow, one_reason, written_or_not}
-use Rattle.ofp_read.specs.TextLines.{IsBad, unwritten, too_many, ambiguous, flows_text, IsReading, HasFault}
+use Rattle.ofp_read.specs.TextLines.{IsBad, unwritten, too_many, ambiguous, flows_text, IsReadingOfFlows, HasFaultInFlows}
 
 -- 1. One line.
 
@@ -47,13 +47,13 @@ flows_settled = record {
   ends_or_not = λ n s l w p q. q;
 }
 
-pub one_reading : (bytes : List ℕ) (a b : List Entry) → IsReading bytes a → IsReading bytes b → a ≡ b
+pub one_reading : (bytes : List ℕ) (a b : List Entry) → IsReadingOfFlows bytes a → IsReadingOfFlows bytes b → a ≡ b
 one_reading = reading_once flows_text flows_settled
 
-pub one_fault : (bytes : List ℕ) (l m : ℕ) (w v : OfpWhy) → HasFault bytes l w → HasFault bytes m v → (l ≡ m) × (w ≡ v)
+pub one_fault : (bytes : List ℕ) (l m : ℕ) (w v : OfpWhy) → HasFaultInFlows bytes l w → HasFaultInFlows bytes m v → (l ≡ m) × (w ≡ v)
 one_fault = fault_once flows_text flows_settled
 
-pub no_reading_with_fault : (bytes : List ℕ) (entries : List Entry) (l : ℕ) (w : OfpWhy) → HasFault bytes l w → IsReading bytes entries → ⊥
+pub no_reading_with_fault : (bytes : List ℕ) (entries : List Entry) (l : ℕ) (w : OfpWhy) → HasFaultInFlows bytes l w → IsReadingOfFlows bytes entries → ⊥
 no_reading_with_fault = reading_or_fault_alone flows_text flows_settled
 
 table_told : (ls : List (List ℕ)) (n : ℕ) (s all : List Entry) → IsTable s → Follows AddsEntry n s ls all → IsTable all
@@ -63,5 +63,5 @@ table_told (x ∷ xs) n s all table (inr adds) =
     table_told xs (n + 1) adds.0 all (subst IsTable (sym adds.2.4)
     (table_more s adds.2.0 table adds.2.2 adds.2.3 (written_in_range x adds.2.0 adds.2.1) adds.2.1.1)) adds.3
 
-pub reading_is_table : (bytes : List ℕ) (entries : List Entry) → IsReading bytes entries → IsTable entries
+pub reading_is_table : (bytes : List ℕ) (entries : List Entry) → IsReadingOfFlows bytes entries → IsTable entries
 reading_is_table bytes entries reading = table_told (lines bytes) 1 [] entries empty_table reading.told

@@ -1,6 +1,6 @@
 -- The format of a flow file: the entries that it defines, and the reasons why a line is rejected.
 use Rattle.std.specs.Prelude.{◌≡◌, ◌<◌, ◌≤◌, ℕ, List, [], Some, codes, length, slice_get}
-use Rattle.text_core.specs.LineFormat.{LineFormat, IsReading as IsReadingOf, HasFault as HasFaultOf}
+use Rattle.text_core.specs.LineFormat.{LineFormat, IsReading, HasFault}
 use Rattle.ofp_rules.specs.declared.entry.Entry.{Entry}
 use Rattle.ofp_rules.specs.Ambiguity.{Contradict, most_entries}
 use Rattle.ofp_read.specs.declared.fault.OfpWhy.{OfpWhy}
@@ -29,20 +29,20 @@ flows_text = record {
 }
 
 -- The parse result of a file.
-abbrev pub IsReading : List ℕ → List Entry → Type 0
-IsReading = IsReadingOf flows_text
+abbrev pub IsReadingOfFlows : List ℕ → List Entry → Type 0
+IsReadingOfFlows = IsReading flows_text
 
 -- The first error of a file.
-abbrev pub HasFault : List ℕ → ℕ → OfpWhy → Type 0
-HasFault = HasFaultOf flows_text
+abbrev pub HasFaultInFlows : List ℕ → ℕ → OfpWhy → Type 0
+HasFaultInFlows = HasFault flows_text
 
 -- The name of a reason, as it is printed.
-abbrev pub name : OfpWhy → List ℕ
-name TooLong = codes "TooLong"
-name BadLine = codes "BadLine"
-name UnknownField = codes "UnknownField"
-name BadValue = codes "BadValue"
-name NeedsIp = codes "NeedsIp"
-name UnknownAction = codes "UnknownAction"
-name Ambiguous = codes "Ambiguous"
-name TooMany = codes "TooMany"
+abbrev pub flows_reason : OfpWhy → List ℕ
+flows_reason TooLong = codes "TooLong"
+flows_reason BadLine = codes "BadLine"
+flows_reason UnknownField = codes "UnknownField"
+flows_reason BadValue = codes "BadValue"
+flows_reason NeedsIp = codes "NeedsIp"
+flows_reason UnknownAction = codes "UnknownAction"
+flows_reason Ambiguous = codes "Ambiguous"
+flows_reason TooMany = codes "TooMany"

@@ -1,7 +1,7 @@
 //! The reasons why a file is no flow table.
 
 ghost use Rattle.std.specs.Prelude.{◌≡◌};
-ghost use Rattle.ofp_read.specs.TextLines.{name};
+ghost use Rattle.ofp_read.specs.TextLines.{flows_reason};
 
 use text_core::TextFault;
 use thiserror::Error;
@@ -40,7 +40,7 @@ pub enum OfpWhy {
 impl OfpWhy {
     /// Returns the name of the reason, as it is printed.
     pub fn name(self) -> &'static [u8]
-        ensures { result.now ≡ name self }
+        ensures { result.now ≡ flows_reason self }
     {
         match self {
             OfpWhy::TooLong => b"TooLong",

@@ -9,7 +9,7 @@ ghost use Rattle.ofp_rules.specs.inner.Build.{IsTable};
 ghost use Rattle.ofp_rules.specs.Text.{text};
 ghost use Rattle.ofp_read.specs.declared.fault.OfpWhy.{OfpWhy};
 ghost use Rattle.ofp_read.specs.inner.State.{IsLeftOut};
-ghost use Rattle.ofp_read.specs.TextLines.{flows_text, HasFault, IsReading};
+ghost use Rattle.ofp_read.specs.TextLines.{flows_text, HasFaultInFlows, IsReadingOfFlows};
 
 use crate::fault::{OfpFault, OfpWhy};
 use crate::line::read_flow;
@@ -22,16 +22,16 @@ pub const BYTE_LIMIT: usize = 67_108_864;
 
 /// Parses a flow table.
 pub fn read(alloc: Global, bytes: &[u8]) -> Result<Table, OfpFault>
-    ensures found { IfOk result (IsReading bytes.now) }
+    ensures found { IfOk result (IsReadingOfFlows bytes.now) }
     // A file that has a parse result is rejected only if allocation fails.
-    ensures only { (entries : List Entry) → IsReading bytes.now entries →
+    ensures only { (entries : List Entry) → IsReadingOfFlows bytes.now entries →
         MatchResult result (λ table. table ≡ entries) (λ fault. fault ≡ TextFault.Memory) }
     ensures refused { IfErr result (HasCause flows_text bytes.now) }
     // A file has at most one first error, and none if it has a parse result.
-    ensures faulty { (line : ℕ) (why : OfpWhy) → HasFault bytes.now line why →
+    ensures faulty { (line : ℕ) (why : OfpWhy) → HasFaultInFlows bytes.now line why →
         MatchResult result (λ table. ⊥) (IsFault line why) }
     // The text of a table parses to its entries.
-    ensures written { (entries : List Entry) → IsTable entries → bytes.now ≡ text entries → IsReading bytes.now entries }
+    ensures written { (entries : List Entry) → IsTable entries → bytes.now ≡ text entries → IsReadingOfFlows bytes.now entries }
     // A formatted table is parsed back.
     ensures again { (entries : List Entry) → IsTable entries → bytes.now ≡ text entries →
         MatchResult result (λ table. table ≡ entries) (λ fault. fault ≡ TextFault.Memory) }

@@ -8,7 +8,7 @@ use Rattle.host_net.specs.declared.packet.Verdict.TheVariants.{Drop as Dropped}
 use Rattle.ofp_rules.specs.declared.deciders.Found.{Found}
 use Rattle.ofp_rules.specs.declared.entry.Entry.{Entry}
 use Rattle.ofp_rules.specs.declared.entry.Frame.{Frame}
-use Rattle.ofp_rules.specs.Deciders.{DecidesAt, IsDecider, decided}
+use Rattle.ofp_rules.specs.Deciders.{DecidesAt, IsEntryDecider, decided}
 use Rattle.ofp_rules.specs.Matching.{matches}
 use Rattle.ofp_rules.specs.Semantics.{IsOneOf, HasVerdict, verdict_of}
 use Rattle.ofp_rules.specs.inner.Deciding.{DecidesTo, IsFoundTo, found_with, is_higher, place_of}
@@ -85,7 +85,7 @@ found_next entries frame n e found next low read same is =
 
 -- ---- All entries
 
-pub decider_found : (entries : List Entry) (frame : Frame) (n : ℕ) (found : Option Found) → length entries ≤ n → IsFoundTo entries frame n found → IsDecider entries frame (place_of found)
+pub decider_found : (entries : List Entry) (frame : Frame) (n : ℕ) (found : Option Found) → length entries ≤ n → IsFoundTo entries frame n found → IsEntryDecider entries frame (place_of found)
 decider_found entries frame n None past none = λ j f there on. none j f (let low = slice_get_within entries j f there in omega (arith, low, past)) there on
 decider_found entries frame n (Some found) past is = record {
   entry = is.entry;
@@ -107,7 +107,7 @@ not_before entries frame k l one other low =
     let more = one.above l other.entry other.there other.matched in
     omega (arith, less, more)
 
-pub one_decider : (entries : List Entry) (frame : Frame) (d e : Option ℕ) → IsDecider entries frame d → IsDecider entries frame e → d ≡ e
+pub one_decider : (entries : List Entry) (frame : Frame) (d e : Option ℕ) → IsEntryDecider entries frame d → IsEntryDecider entries frame e → d ≡ e
 one_decider entries frame None None is also = refl
 one_decider entries frame None (Some l) is also = absurd (is l also.entry also.there also.matched)
 one_decider entries frame (Some k) None is also = absurd (also k is.entry is.there is.matched)
@@ -126,7 +126,7 @@ at_of_one f [] h = absurd h
 at_of_one f (x ∷ xs) (inl same) = (zero, ap (λ (y : Entry). Some y) (sym same))
 at_of_one f (x ∷ xs) (inr later) = let (j, there) = at_of_one f xs later in (suc j, there)
 
-pub verdict_decided : (entries : List Entry) (frame : Frame) (d : Option ℕ) → IsDecider entries frame d → HasVerdict entries frame (decided entries d)
+pub verdict_decided : (entries : List Entry) (frame : Frame) (d : Option ℕ) → IsEntryDecider entries frame d → HasVerdict entries frame (decided entries d)
 verdict_decided entries frame None is = inr (λ f h on. let (j, there) = at_of_one f entries h in is j f there on, refl)
 verdict_decided entries frame (Some k) is =
     inl (

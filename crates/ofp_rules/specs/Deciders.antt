@@ -18,9 +18,9 @@ pub record DecidesAt (entries : List Entry) (frame : Frame) (k : ℕ) : Type 0 w
   pub first : (j : ℕ) (f : Entry) → j < k → slice_get entries j ≡ Some f → IsTrue (matches frame f) → f.priority < entry.priority
 
 -- The decider of the frame is the index of the entry that decides it, or None, the end of the table, if no entry matches.
-abbrev pub IsDecider : List Entry → Frame → Option ℕ → Type 0
-IsDecider entries frame None = (j : ℕ) (f : Entry) → slice_get entries j ≡ Some f → IsTrue (matches frame f) → ⊥
-IsDecider entries frame (Some k) = DecidesAt entries frame k
+abbrev pub IsEntryDecider : List Entry → Frame → Option ℕ → Type 0
+IsEntryDecider entries frame None = (j : ℕ) (f : Entry) → slice_get entries j ≡ Some f → IsTrue (matches frame f) → ⊥
+IsEntryDecider entries frame (Some k) = DecidesAt entries frame k
 
 -- The verdict of a decider: the verdict of the entry's action, or a drop.
 abbrev pub decided : List Entry → Option ℕ → Verdict

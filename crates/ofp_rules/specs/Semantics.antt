@@ -38,5 +38,5 @@ HasVerdict entries frame v =
     ((e : Entry) × IsHighest entries frame e × (v ≡ verdict_of e.action)) ⊎ (MatchesNone entries frame × (v ≡ Dropped))
 
 -- The table as a filter of IPv4 frames: it forwards the packet or drops it. It is stateless: the result is the same in every state.
-abbrev pub Passes : List Entry → CtState → Packet → Bool → Type 0
-Passes entries state packet passes = HasVerdict entries (Ipv4 packet) (verdict_if passes)
+abbrev pub PassesEntries : List Entry → CtState → Packet → Bool → Type 0
+PassesEntries entries state packet passes = HasVerdict entries (Ipv4 packet) (verdict_if passes)

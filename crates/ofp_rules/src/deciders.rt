@@ -5,7 +5,7 @@ ghost use Rattle.std.specs.Prelude.{◌≡◌, ◌≤◌, length, Option, ℕ};
 ghost use Rattle.host_net.specs.declared.packet.Packet.{Packet};
 ghost use Rattle.header_space.specs.Boxes.{IsBox, IsIn, Narrows};
 ghost use Rattle.ofp_rules.specs.declared.entry.Frame.TheVariants.{Ipv4};
-ghost use Rattle.ofp_rules.specs.Deciders.{IsDecider, decided};
+ghost use Rattle.ofp_rules.specs.Deciders.{IsEntryDecider, decided};
 ghost use Rattle.ofp_rules.specs.Semantics.{HasVerdict};
 ghost use Rattle.ofp_rules.specs.inner.Deciding.{found_with, is_higher, place_of};
 
@@ -26,9 +26,9 @@ impl Table {
     pub fn decider_within(&self, within: &mut PacketBox) -> Option<u32>
         requires { IsBox within.old }
         ensures part { Narrows within.old within.new }
-        ensures decider { (p : Packet) → IsIn within.new p → IsDecider self.now (Ipv4 p) result }
+        ensures decider { (p : Packet) → IsIn within.new p → IsEntryDecider self.now (Ipv4 p) result }
         // The decider is unique, and the verdict of the table is the verdict of the decider.
-        ensures only { (p : Packet) → IsIn within.new p → (other : Option ℕ) → IsDecider self.now (Ipv4 p) other → other ≡ result }
+        ensures only { (p : Packet) → IsIn within.new p → (other : Option ℕ) → IsEntryDecider self.now (Ipv4 p) other → other ≡ result }
         ensures verdict { (p : Packet) → IsIn within.new p → HasVerdict self.now (Ipv4 p) (decided self.now result) }
     {
         let entries = self.entries.as_slice();
@@ -41,8 +41,8 @@ fn decider_among(entries: &[Entry], within: &mut PacketBox) -> Option<u32>
     requires few { length entries.now ≤ 8192 }
     requires is_box { IsBox within.old }
     ensures part { Narrows within.old within.new }
-    ensures decider { (p : Packet) → IsIn within.new p → IsDecider entries.now (Ipv4 p) result }
-    ensures only { (p : Packet) → IsIn within.new p → (other : Option ℕ) → IsDecider entries.now (Ipv4 p) other → other ≡ result }
+    ensures decider { (p : Packet) → IsIn within.new p → IsEntryDecider entries.now (Ipv4 p) result }
+    ensures only { (p : Packet) → IsIn within.new p → (other : Option ℕ) → IsEntryDecider entries.now (Ipv4 p) other → other ≡ result }
     ensures verdict { (p : Packet) → IsIn within.new p → HasVerdict entries.now (Ipv4 p) (decided entries.now result) }
 {
     place_of(found_within(entries, within))
@@ -61,7 +61,7 @@ fn found_within(entries: &[Entry], within: &mut PacketBox) -> Option<Found>
     requires few { length entries.now ≤ 8192 }
     requires is_box { IsBox within.old }
     ensures part { Narrows within.old within.new }
-    ensures decider { (p : Packet) → IsIn within.new p → IsDecider entries.now (Ipv4 p) (place_of result) }
+    ensures decider { (p : Packet) → IsIn within.new p → IsEntryDecider entries.now (Ipv4 p) (place_of result) }
 {
     let mut found = None;
     for at in 0..entries.len() {

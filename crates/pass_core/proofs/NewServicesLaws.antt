@@ -2,9 +2,9 @@
 use Rattle.std.proofs.Common.{◌≡◌, ap, List, Option, Some, None}
 use Rattle.std.specs.Prelude.{IfSome}
 use Rattle.ipt_rules.specs.Chain.{Chain}
-use Rattle.rules_space.specs.Rules.{Rules, Chains, Entries, chains_of}
+use Rattle.rules_space.specs.Rules.{AnyRules, Chains, Entries, chains_of}
 
-pub chains_are : (rules : Rules) (chains : List Chain) → chains_of rules ≡ Some chains → rules ≡ Chains chains
+pub chains_are : (rules : AnyRules) (chains : List Chain) → chains_of rules ≡ Some chains → rules ≡ Chains chains
 chains_are (Chains own) chains is = let same : own ≡ chains = cc in ap Chains same
 chains_are (Entries entries) chains is = absurd (cc)
 

@@ -10,7 +10,7 @@ use Rattle.header_space.specs.declared.packet_box.PacketBox.{PacketBox}
 use Rattle.header_space.specs.Boxes.{IsBox, IsIn, IsNoHigher}
 use Rattle.header_space.specs.Owners.{GoesBetween}
 use Rattle.ipt_rules.specs.Chain.{Chain}
-use Rattle.ipt_rules.specs.Semantics.{Passes}
+use Rattle.ipt_rules.specs.Semantics.{PassesChains}
 use Rattle.packet_set.specs.declared.find.Found.{Found}
 use Rattle.packet_set.specs.declared.node.Node.{Node}
 use Rattle.packet_set.specs.Finding.{IsFound, IsOneOrNone, IsUpTo}
@@ -47,25 +47,25 @@ true_or_false true = inl refl
 true_or_false false = inr refl
 
 module _ (chains : List Chain) (from to : List AddressRange) (nodes : List Node) (sets : PairSets) (are : ArePairSets chains New from to nodes sets)
-    (one : GivesOne (Passes chains)) where
+    (one : GivesOne (PassesChains chains)) where
   abbrev Holds : Packet → Type 0
-  Holds p = Passes chains New p true
+  Holds p = PassesChains chains New p true
 
-  decides : (p : Packet) (b : Bool) → IsPacket p → Passes chains New p b → Decides b (Holds p)
+  decides : (p : Packet) (b : Bool) → IsPacket p → PassesChains chains New p b → Decides b (Holds p)
   decides p b is passes = (
-    λ on. subst (Passes chains New p) on passes,
+    λ on. subst (PassesChains chains New p) on passes,
     λ holds. (one New p is).2 b passes ∙ sym ((one New p is).2 true holds),
   )
 
-  verdict : (p : Packet) (b : Bool) → GoesBetween from to p → has nodes sets.passing p ≡ b → Passes chains New p b
-  verdict p b goes is = subst (Passes chains New p) is (are.passes p goes)
+  verdict : (p : Packet) (b : Bool) → GoesBetween from to p → has nodes sets.passing p ≡ b → PassesChains chains New p b
+  verdict p b goes is = subst (PassesChains chains New p) is (are.passes p goes)
 
-  stays_verdict : (p : Packet) → IsPacket p → has nodes sets.staying p ≡ true → Passes chains New p false
+  stays_verdict : (p : Packet) → IsPacket p → has nodes sets.staying p ≡ true → PassesChains chains New p false
   stays_verdict p is stays =
       let goes = are.between p is (inr stays) in
       verdict p false goes (not_true (has nodes sets.passing p) (sym (are.stays p goes) ∙ stays))
 
-  passes_verdict : (p : Packet) → IsPacket p → has nodes sets.passing p ≡ true → Passes chains New p true
+  passes_verdict : (p : Packet) → IsPacket p → has nodes sets.passing p ≡ true → PassesChains chains New p true
   passes_verdict p is passes = verdict p true (are.between p is (inl passes)) passes
 
   module _ (whole part rest : PacketBox) (first : Service) (s : Survey) (passing staying : Found)

@@ -7,7 +7,7 @@ ghost use Rattle.header_space.specs.declared.address_range.AddressRange.{Address
 ghost use Rattle.header_space.specs.Boxes.{IsIn};
 ghost use Rattle.header_space.specs.Owners.{GoesBetween};
 ghost use Rattle.ipt_rules.specs.Chain.{Chain};
-ghost use Rattle.ipt_rules.specs.Semantics.{Passes};
+ghost use Rattle.ipt_rules.specs.Semantics.{PassesChains};
 ghost use Rattle.rules_set.specs.Pairs.{ArePairSets};
 ghost use Rattle.rules_space.specs.Verdicts.{GivesOne};
 ghost use Rattle.pass_core.specs.Passing.{ArePassing};
@@ -38,8 +38,8 @@ pub(crate) fn services_of_chains(
     within: &PacketBox,
 ) -> Result<Option<Vec<PassingRange>>, AllocError>
     requires covers { (p : Packet) → GoesBetween from.now to.now p → IsIn within.now p }
-    requires one { GivesOne (Passes chains.now) }
-    ensures { IfOk result (λ ranges. IfSome ranges (λ ranges. ArePassing (λ p. Passes chains.now New p true) (GoesBetween from.now to.now) ranges.items)) }
+    requires one { GivesOne (PassesChains chains.now) }
+    ensures { IfOk result (λ ranges. IfSome ranges (λ ranges. ArePassing (λ p. PassesChains chains.now New p true) (GoesBetween from.now to.now) ranges.items)) }
 {
     if !has_few_rules(chains) {
         return Ok(None);
@@ -70,7 +70,7 @@ fn services_of_pair(
     requires passing { sets.passing < length diagrams.now }
     requires staying { sets.staying < length diagrams.now }
     ensures ranges { IfOk result (λ ranges. IfSome ranges (λ ranges. (chains : List Chain) (from to : List AddressRange) → ArePairSets chains New from to diagrams.now sets
-        → GivesOne (Passes chains) → ArePassing (λ p. Passes chains New p true) (GoesBetween from to) ranges.items)) }
+        → GivesOne (PassesChains chains) → ArePassing (λ p. PassesChains chains New p true) (GoesBetween from to) ranges.items)) }
     ensures none { IfOk result (λ ranges. IfNone ranges (HasServiceWithout diagrams.now sets)) }
 {
     let mut ranges = Vec::new(alloc);

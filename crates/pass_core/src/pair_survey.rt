@@ -7,7 +7,7 @@ ghost use Rattle.host_net.specs.Packet.{IsPacket};
 ghost use Rattle.header_space.specs.declared.address_range.AddressRange.{AddressRange};
 ghost use Rattle.header_space.specs.Boxes.{IsBox, IsIn};
 ghost use Rattle.ipt_rules.specs.Chain.{Chain};
-ghost use Rattle.ipt_rules.specs.Semantics.{Passes};
+ghost use Rattle.ipt_rules.specs.Semantics.{PassesChains};
 ghost use Rattle.rules_set.specs.Pairs.{ArePairSets};
 ghost use Rattle.rules_space.specs.Verdicts.{GivesOne};
 ghost use Rattle.pass_core.specs.Services.{service_of};
@@ -29,7 +29,7 @@ pub(crate) fn survey_pair(diagrams: &Diagrams, sets: PairSets, first: Service) -
     requires staying { sets.staying < length diagrams.now }
     ensures last { IfSome result (λ survey. number first ≤ number survey.last) }
     ensures survey { IfSome result (λ survey. (chains : List Chain) (from to : List AddressRange) → ArePairSets chains New from to diagrams.now sets
-        → GivesOne (Passes chains) → IsSurvey (λ p. Passes chains New p true) (areas_between from to) (number first) survey) }
+        → GivesOne (PassesChains chains) → IsSurvey (λ p. PassesChains chains New p true) (areas_between from to) (number first) survey) }
     ensures none { IfNone result (HasNone diagrams.now sets (number first)) }
 {
     let whole = packets_from(first);

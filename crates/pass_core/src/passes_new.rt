@@ -26,9 +26,9 @@ pub struct PassesNew<'a> {
 }
 
 impl<'a> Model for PassesNew<'a> {
-    ghost use Rattle.rules_space.specs.Rules.{Rules};
+    ghost use Rattle.rules_space.specs.Rules.{AnyRules};
 
-    ghost Value = { Rules };
+    ghost Value = { AnyRules };
 
     ghost view = { λ q. q.rules };
 }

@@ -8,7 +8,7 @@ use Rattle.pkt_core.specs.declared.event.Event.TheVariants.{Seen, Forget}
 use Rattle.pkt_core.specs.Events.{SeenAt}
 use Rattle.pkt_core.specs.laws.EventLaws.{get_back}
 use Rattle.text_core.specs.ListFormat.{AddsEntry}
-use Rattle.pkt_core.specs.EventsText.{EncodesEvent, IsReading, events_text}
+use Rattle.pkt_core.specs.EventsText.{EncodesEvent, IsReadingOfEvents, events_text}
 use Rattle.pkt_core.specs.Filter.{ArePackets}
 
 -- A parsed event of a packet.
@@ -39,5 +39,5 @@ packets_all n before (l ∷ ls) events are (inr more) = packets_all (n + 1) more
 nothing_seen : (k : ℕ) (p : Packet) → SeenAt [] k p → ⊥
 nothing_seen k p there = cc
 
-pub packets_read : (bytes : List ℕ) (events : List Event) → IsReading bytes events → ArePackets events
+pub packets_read : (bytes : List ℕ) (events : List Event) → IsReadingOfEvents bytes events → ArePackets events
 packets_read bytes events reading = packets_all 1 [] _ events (λ k p there. absurd (nothing_seen k p there)) reading.told

@@ -2,7 +2,7 @@
 use Rattle.std.specs.Prelude.{◌≡◌, ℕ, List, [], ◌∷◌, length, slice_get, Some, ◌⊎◌, codes, decimal}
 use Rattle.text_core.specs.Lines.{words}
 use Rattle.text_core.specs.ListFormat.{ListFormat, by_lines}
-use Rattle.text_core.specs.LineFormat.{HasFault, IsReading as IsReadingOf}
+use Rattle.text_core.specs.LineFormat.{HasFault, IsReading}
 use Rattle.text_core.specs.declared.faults.ListWhy.{ListWhy}
 use Rattle.host_net.specs.declared.packet.Packet.{Packet}
 use Rattle.host_net.specs.Packet.{IsPacket}
@@ -43,9 +43,9 @@ events_text = record {
 }
 
 -- The parse result of a file.
-abbrev pub IsReading : List ℕ → List Event → Type 0
-IsReading bytes events = IsReadingOf (by_lines events_text) bytes events
+abbrev pub IsReadingOfEvents : List ℕ → List Event → Type 0
+IsReadingOfEvents bytes events = IsReading (by_lines events_text) bytes events
 
 -- The first error of a file.
-abbrev pub IsRefused : List ℕ → ℕ → ListWhy → Type 0
-IsRefused bytes line why = HasFault (by_lines events_text) bytes line why
+abbrev pub IsRefusedInEvents : List ℕ → ℕ → ListWhy → Type 0
+IsRefusedInEvents bytes line why = HasFault (by_lines events_text) bytes line why

@@ -7,7 +7,7 @@ ghost use Rattle.text_core.specs.ListFormat.{by_lines};
 ghost use Rattle.text_core.specs.inner.TextAnswers.{HasCause, IsFault};
 ghost use Rattle.text_core.specs.declared.faults.ListWhy.{ListWhy};
 ghost use Rattle.pkt_core.specs.declared.event.Event.{Event as Meant};
-ghost use Rattle.pkt_core.specs.EventsText.{IsReading, IsRefused, events_text};
+ghost use Rattle.pkt_core.specs.EventsText.{IsReadingOfEvents, IsRefusedInEvents, events_text};
 ghost use Rattle.pkt_core.specs.inner.EventSteps.{event_of, event_by, packet_of, protocol_of};
 ghost use Rattle.pkt_core.specs.Filter.{ArePackets};
 
@@ -31,13 +31,13 @@ pub type EventFault = TextFault<ListWhy>;
 
 /// Parses the events of a file.
 pub fn read_events(alloc: Global, bytes: &[u8]) -> Result<Vec<Event>, EventFault>
-    ensures found { IfOk result (λ events. IsReading bytes.now events.items) }
+    ensures found { IfOk result (λ events. IsReadingOfEvents bytes.now events.items) }
     // A file of events is rejected only if allocation fails.
-    ensures only { (told : List Meant) → IsReading bytes.now told →
+    ensures only { (told : List Meant) → IsReadingOfEvents bytes.now told →
         MatchResult result (λ events. events.items ≡ told) (λ fault. fault ≡ TextFault.Memory) }
     ensures refused { IfErr result (HasCause (by_lines events_text) bytes.now) }
     // A file has at most one first error, and none if it parses to events.
-    ensures faulty { (line : ℕ) (why : ListWhy) → IsRefused bytes.now line why →
+    ensures faulty { (line : ℕ) (why : ListWhy) → IsRefusedInEvents bytes.now line why →
         MatchResult result (λ events. ⊥) (IsFault line why) }
     ensures packets { IfOk result (λ events. ArePackets events.items) }
 {

@@ -3,7 +3,7 @@ use Rattle.std.proofs.Common.{◌≡◌, ℕ, ◌<◌, suc, List, [], ◌∷◌,
 use Rattle.std.specs.List.{All}
 use Rattle.std.proofs.lemmas.List.Kept.{AllPairs-from_increasing}
 use Rattle.ipt_rules.specs.declared.marks.Place.{Place}
-use Rattle.rules_space.specs.Rules.{Chains, Entries, Rules}
+use Rattle.rules_space.specs.Rules.{Chains, Entries, AnyRules}
 use Rattle.pass_core.specs.Dead.{is_listed}
 use Rattle.decide_core.specs.DeadPlaces.{AreDeadPlaces}
 use Rattle.query_core.proofs.AlikeFlowLaws.{both_bools, places_are_one}
@@ -24,7 +24,7 @@ one_chain (p ∷ ps) (q ∷ qs) one other same =
 not_back : (x y : ℕ) → x < y → y < x → ⊥
 not_back x y low high = omega (arith, low, high)
 
-pub dead_are_one : (rules : Rules) (ps qs : List Place) → AreDeadPlaces rules ps → AreDeadPlaces rules qs → ps ≡ qs
+pub dead_are_one : (rules : AnyRules) (ps qs : List Place) → AreDeadPlaces rules ps → AreDeadPlaces rules qs → ps ≡ qs
 dead_are_one (Chains chains) ps qs one other =
     places_are_one ps qs one.ascending other.ascending
     (λ x. both_bools (is_listed ps x) (is_listed qs x) (λ there. (other.exact x).1 ((one.exact x).0 there)) (λ there. (one.exact x).1 ((other.exact x).0 there)))

@@ -8,7 +8,7 @@ use Rattle.header_space.specs.Owners.{IsOfPair, owners_of}
 use Rattle.host_net.specs.Host.{Host}
 use Rattle.host_net.specs.declared.packet.Packet.{Packet}
 use Rattle.ipt_rules.specs.declared.marks.Place.{Place}
-use Rattle.rules_space.specs.Rules.{Rules}
+use Rattle.rules_space.specs.Rules.{AnyRules}
 use Rattle.pass_core.specs.Dead.{AreAscending, ComesBefore, ComesFirst, is_listed, same_place}
 use Rattle.pass_core.specs.NewPackets.{LetsPass}
 use Rattle.pass_core.specs.Pairs.{AreListedByOwners, AreListedFor, IsEntryOf, IsListedFor}
@@ -102,11 +102,11 @@ both_bools true b there back = sym (there refl)
 both_bools false true there back = back refl
 both_bools false false there back = refl
 
-module _ (rules : Rules) (Among Others : Packet → Type 0) (into : (p : Packet) → Among p → Others p) where
+module _ (rules : AnyRules) (Among Others : Packet → Type 0) (into : (p : Packet) → Among p → Others p) where
   also_decides : (decider : Option Place) → DecidesOne rules (PassesAmong rules Among) decider → DecidesOne rules (PassesAmong rules Others) decider
   also_decides decider one = record { packet = one.packet; among = (into one.packet one.among.0, one.among.1); decides = one.decides }
 
-module _ (rules : Rules) (Among Others : Packet → Type 0) (into : (p : Packet) → Among p → Others p) (back : (p : Packet) → Others p → Among p)
+module _ (rules : AnyRules) (Among Others : Packet → Type 0) (into : (p : Packet) → Among p → Others p) (back : (p : Packet) → Others p → Among p)
     (d e : Deciders) (one : AreDeciders rules Among d) (other : AreDeciders rules Others e) where
   places_alike : d.places.items ≡ e.places.items
   places_alike = places_are_one d.places.items e.places.items one.ascending other.ascending
@@ -133,10 +133,10 @@ of_range_too hosts from to from' to' r s sources ends lows highs p is =
 -- ---- the ranges of a pair
 
 -- The deciders of each range.
-abbrev HaveDeciders : Rules → List Host → (from to : Option ℕ) → List FlowRange → Type 0
+abbrev HaveDeciders : AnyRules → List Host → (from to : Option ℕ) → List FlowRange → Type 0
 HaveDeciders rules hosts from to rs = All (λ r. AreDeciders rules (IsOfRange hosts from to r.range) r.deciders) rs
 
-ranges_alike : (rules : Rules) (hosts : List Host) (from to from' to' : Option ℕ) → from ≡ from' → to ≡ to' → (rs qs : List FlowRange)
+ranges_alike : (rules : AnyRules) (hosts : List Host) (from to from' to' : Option ℕ) → from ≡ from' → to ≡ to' → (rs qs : List FlowRange)
     → map range_facts (map (λ r. r.range) rs) ≡ map range_facts (map (λ r. r.range) qs)
     → HaveDeciders rules hosts from to rs → HaveDeciders rules hosts from' to' qs → map flow_range_facts rs ≡ map flow_range_facts qs
 ranges_alike rules hosts from to from' to' sources ends [] [] same one other = refl
@@ -205,7 +205,7 @@ services_alike Holds hosts ss ts one other =
 
 -- ---- the flows of all pairs
 
-pair_alike : (rules : Rules) (hosts : List Host) (s t : PairServices) (f g : PairFlows) → service_facts s ≡ service_facts t → AreFlowsOf rules hosts s f
+pair_alike : (rules : AnyRules) (hosts : List Host) (s t : PairServices) (f g : PairFlows) → service_facts s ≡ service_facts t → AreFlowsOf rules hosts s f
     → AreFlowsOf rules hosts t g → pair_facts f ≡ pair_facts g
 pair_alike rules hosts s t f g same one other =
     let sources : f.from ≡ g.from = one.source ∙ ap (λ (x : Option ℕ × Option ℕ × List (ℕ × ℕ × Bool)). x.0) same ∙ sym other.source in
@@ -214,7 +214,7 @@ pair_alike rules hosts s t f g same one other =
     let all = ranges_alike rules hosts f.from f.to g.from g.to sources ends f.ranges.items g.ranges.items ranges one.deciders other.deciders in
     λ i. (sources i, ends i, all i)
 
-each_alike : (rules : Rules) (hosts : List Host) (ss ts : List PairServices) (fs gs : List PairFlows) → map service_facts ss ≡ map service_facts ts
+each_alike : (rules : AnyRules) (hosts : List Host) (ss ts : List PairServices) (fs gs : List PairFlows) → map service_facts ss ≡ map service_facts ts
     → AreFlowsOfEach rules hosts ss fs → AreFlowsOfEach rules hosts ts gs → map pair_facts fs ≡ map pair_facts gs
 each_alike rules hosts [] [] [] [] same one other = refl
 each_alike rules hosts [] ts (f ∷ fs) gs same one other = absurd one
@@ -231,7 +231,7 @@ each_alike rules hosts (s ∷ ss) (t ∷ ts) (f ∷ fs) (g ∷ gs) same one othe
     λ i. first i ∷ later i
 
 -- Two lists of all flows are alike.
-pub flows_are_alike : (rules : Rules) (hosts : List Host) (fs gs : List PairFlows) → AreFlows rules hosts fs → AreFlows rules hosts gs
+pub flows_are_alike : (rules : AnyRules) (hosts : List Host) (fs gs : List PairFlows) → AreFlows rules hosts fs → AreFlows rules hosts gs
     → map pair_facts fs ≡ map pair_facts gs
 flows_are_alike rules hosts fs gs one other =
     each_alike rules hosts one.services other.services fs gs (services_alike (LetsPass rules) hosts one.services other.services one.listed other.listed)

@@ -3,7 +3,7 @@ use Rattle.std.proofs.Common.{◌≡◌, ◌<◌, ◌+◌, ℕ, suc, List, [], �
 use Rattle.std.proofs.lemmas.List.Elements.{All-append, All-cons, All-nil}
 use Rattle.std.specs.Prelude.{All}
 use Rattle.std.specs.Option.{ForSome}
-use Rattle.rules_space.specs.Rules.{Rules}
+use Rattle.rules_space.specs.Rules.{AnyRules}
 use Rattle.decide_core.specs.Flows.{AreFlows, AreFlowsOfEach}
 use Rattle.decide_core.specs.declared.flows.PairFlows.{PairFlows}
 use Rattle.header_space.specs.Owners.{IsOfPair, owners_from, owners_of}
@@ -33,7 +33,7 @@ no_host host is = cc is
 same_host : (i host : ℕ) → Some i ≡ Some host → i ≡ host
 same_host i host is = cc is
 
-module _ (rules : Rules) (hosts : List Host) where
+module _ (rules : AnyRules) (hosts : List Host) where
   -- The owner is a host of the list, or nobody.
   abbrev FitsOwner : Option ℕ → Type 0
   FitsOwner owner = ForSome owner (λ host. host < length hosts)

@@ -8,7 +8,7 @@ use Rattle.decide_core.specs.declared.flows.FlowRange.{FlowRange}
 use Rattle.decide_core.specs.declared.flows.PairFlows.{PairFlows}
 use Rattle.host_net.specs.Host.{Host}
 use Rattle.ipt_rules.specs.declared.marks.Place.{Place}
-use Rattle.rules_space.specs.Rules.{Rules}
+use Rattle.rules_space.specs.Rules.{AnyRules}
 use Rattle.pass_core.specs.Passing.{is_wholly}
 use Rattle.pass_core.specs.declared.passing_range.PassingRange.{PassingRange}
 use Rattle.query_core.specs.ChangesJson.{changes_json}
@@ -38,7 +38,7 @@ weakened_facts x = (x.flows, x.denied_by.items)
 
 -- Both texts are answers of `flows` for the same rules and hosts, with the same dead rules, and with flows that are alike.
 pub record AreAlikeFlows (text other : List ℕ) : Type 0 where
-  pub rules : Rules
+  pub rules : AnyRules
   pub hosts : List Host
   pub dead : List Place
   pub flows : List PairFlows

@@ -1,7 +1,7 @@
 -- The answer of `flows` as JSON (docs/QUERIES.md).
 use Rattle.std.specs.Prelude.{ℕ, ◌==◌, ◌||◌, Bool, List, [], ◌∷◌, ◌++◌, codes, if◌then◌else◌}
 use Rattle.std.specs.List.{flat_map}
-use Rattle.rules_space.specs.Rules.{Rules, Chains, Entries}
+use Rattle.rules_space.specs.Rules.{AnyRules, Chains, Entries}
 use Rattle.decide_core.specs.declared.flows.FlowRange.{FlowRange}
 use Rattle.decide_core.specs.declared.flows.PairFlows.{PairFlows}
 use Rattle.host_net.specs.Host.{Host}
@@ -33,24 +33,24 @@ unfoldable pub entry_json : Place → List ℕ
 entry_json place = codes "{\"entry\":" ++ (number_json place.rule ++ codes "}")
 
 -- The rule or the entry at a place.
-abbrev pub place_json : Rules → Place → List ℕ
+abbrev pub place_json : AnyRules → Place → List ℕ
 place_json (Chains chains) place = rule_json chains place
 place_json (Entries entries) place = entry_json place
 
 -- A range of services that pass, with the rules that let them pass:
 -- {"low":[6,80],"high":[6,90],"whole":true,"passes":{..},"drops":null,"rules":[..],"default":false}.
-unfoldable pub flow_range_json : Rules → FlowRange → List ℕ
+unfoldable pub flow_range_json : AnyRules → FlowRange → List ℕ
 flow_range_json rules r =
     range_json r.range ++ (codes ",\"passes\":" ++ (header_json r.range.passes ++ (codes ",\"drops\":" ++ (header_or_null r.range.stays
     ++ (codes ",\"rules\":" ++ (array_json (place_json rules) r.deciders.places.items ++ (codes ",\"default\":" ++ (bool_json r.deciders.by_default ++ codes "}"))))))))
 
 -- The services from one owner to another: {"from":"web","to":null,"services":[..]}.
-unfoldable pub pair_flows_json : Rules → List Host → PairFlows → List ℕ
+unfoldable pub pair_flows_json : AnyRules → List Host → PairFlows → List ℕ
 pair_flows_json rules hosts f =
     codes "{\"from\":" ++ (owner_json hosts f.from ++ (codes ",\"to\":" ++ (owner_json hosts f.to
     ++ (codes ",\"services\":" ++ (array_json (flow_range_json rules) f.ranges.items ++ codes "}")))))
 
 -- The answer of `flows`: the version of the format, all pairs between which a packet passes, and all dead rules.
-unfoldable pub flows_json : Rules → List Host → List PairFlows → (dead : List Place) → List ℕ
+unfoldable pub flows_json : AnyRules → List Host → List PairFlows → (dead : List Place) → List ℕ
 flows_json rules hosts flows dead =
     codes "{\"version\":1,\"pairs\":" ++ (array_json (pair_flows_json rules hosts) flows ++ (codes ",\"dead\":" ++ (array_json (place_json rules) dead ++ codes "}\n")))

@@ -15,7 +15,7 @@ use Rattle.query_core.specs.Alike.{AreAlikeChanges, AreAlikeFlows}
 use Rattle.query_core.specs.FlowsJson.{flows_json}
 use Rattle.query_core.specs.Weakening.{IsWeakening}
 use Rattle.report_core.specs.FlowPolicies.{flow_policy_of}
-use Rattle.rules_space.specs.Rules.{Rules}
+use Rattle.rules_space.specs.Rules.{AnyRules}
 use Rattle.run_core.specs.Dialects.{rule_dialect_of}
 use Rattle.run_core.specs.Outcomes.{Answers, stream_of}
 use Rattle.run_core.specs.Replies.{Replies, RepliesTo, observable_shelf}
@@ -33,7 +33,7 @@ use Rattle.query_top.proofs.ParseLaws.{one_ask}
 
 -- ---- answers to `flows`
 
-flows_texts : (hosts : List Host) (rules : Rules) (text other : List ℕ) → IsFlowsAnswer hosts rules text → IsFlowsAnswer hosts rules other
+flows_texts : (hosts : List Host) (rules : AnyRules) (text other : List ℕ) → IsFlowsAnswer hosts rules text → IsFlowsAnswer hosts rules other
     → AreAlikeFlows text other
 flows_texts hosts rules text other p q = record {
   rules = rules;
@@ -46,7 +46,7 @@ flows_texts hosts rules text other p q = record {
   other_written = q.written ∙ ap (flows_json rules hosts q.flows) (dead_are_one rules q.dead p.dead q.are_dead p.are_dead);
 }
 
-flows_related : (command : Command) (hosts : List Host) (rules : Rules) (r s : Reply)
+flows_related : (command : Command) (hosts : List Host) (rules : AnyRules) (r s : Reply)
     → ((text other : List ℕ) → AreAlikeFlows text other → r.status ≡ s.status → r.stream ≡ s.stream → text ≡ r.text → other ≡ s.text → AreAlike command r s)
     → Answers true (flows_outcomes hosts rules) r → Answers true (flows_outcomes hosts rules) s → AreAlike command r s
 flows_related command hosts rules r s made (on, inl p) (also, inl q) =

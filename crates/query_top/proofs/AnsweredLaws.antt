@@ -2,7 +2,7 @@
 use Rattle.std.proofs.Common.{◌≡◌, ◌⊎◌, inl, inr, ℕ, List, Option, None, Some, true, false, refl, sym, subst}
 use Rattle.std.specs.Prelude.{IfSome}
 use Rattle.std.specs.FinMap.{get}
-use Rattle.rules_space.specs.Rules.{Rules}
+use Rattle.rules_space.specs.Rules.{AnyRules}
 use Rattle.audit_core.specs.Sides.{AreEquivalent, AreSafe}
 use Rattle.edge_io.specs.Observable.{Files}
 use Rattle.host_net.specs.Host.{Host}
@@ -117,7 +117,7 @@ module _ (s : Status) (shelf : ShelfChange) (out err : SinkChange) (second : Fil
     so = other_read on.said on.after on.took.began.told on.next;
   }
 
-compare_done : (out err : SinkChange) (d : Described) (rules : Rules) → HoldsAtOutcome status.Done true out err (compare_outcomes d rules)
+compare_done : (out err : SinkChange) (d : Described) (rules : AnyRules) → HoldsAtOutcome status.Done true out err (compare_outcomes d rules)
     → OfSides d rules (λ sides. AreEquivalent sides × AreSafe sides) × Appends out equal_json
 compare_done out err d rules at = elim at.1 [
   | inl differ ↦ let other = differ.0.0 in cc other
@@ -127,7 +127,7 @@ compare_done out err d rules at = elim at.1 [
   ]
 ]
 
-compare_differs : (out err : SinkChange) (d : Described) (rules : Rules) → HoldsAtOutcome status.Violated true out err (compare_outcomes d rules)
+compare_differs : (out err : SinkChange) (d : Described) (rules : AnyRules) → HoldsAtOutcome status.Violated true out err (compare_outcomes d rules)
     → Wrote out (λ text. OfSides d rules (λ sides. ReportsDifferences sides text))
 compare_differs out err d rules at = elim at.1 [
   | inl differ ↦ (at.0, at.2.0, differ.1)
@@ -137,7 +137,7 @@ compare_differs out err d rules at = elim at.1 [
   ]
 ]
 
-flows_done : (out err : SinkChange) (hosts : List Host) (rules : Rules) → HoldsAtOutcome status.Done true out err (flows_outcomes hosts rules) → Wrote out (IsFlowsAnswer hosts rules)
+flows_done : (out err : SinkChange) (hosts : List Host) (rules : AnyRules) → HoldsAtOutcome status.Done true out err (flows_outcomes hosts rules) → Wrote out (IsFlowsAnswer hosts rules)
 flows_done out err hosts rules at = elim at.1 [
   | inl answer ↦ (at.0, at.2.0, answer.1)
   | inr none ↦ absurd none
@@ -235,7 +235,7 @@ never_bad_text_between shelf out err old new (inr on) = elim on.next [
   | inr went ↦ elim (changes_ends on.said went.said status.BadText went.next.1.0 went.next.1.1) [ inl is ↦ cc is | inr is ↦ cc is ]
 ]
 
-flows_ends : (hosts : List Host) (rules : Rules) → EndsInTwo (flows_outcomes hosts rules)
+flows_ends : (hosts : List Host) (rules : AnyRules) → EndsInTwo (flows_outcomes hosts rules)
 flows_ends hosts rules ended text (inl answer) = inl answer.0.0
 flows_ends hosts rules ended text (inr none) = absurd none
 

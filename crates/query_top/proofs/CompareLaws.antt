@@ -6,7 +6,7 @@ use Rattle.audit_core.proofs.PairLaws.{first_is, one_list_of_differences}
 use Rattle.audit_core.specs.Findings.{DifferSomewhere}
 use Rattle.audit_core.specs.Pairs.{AreDifferences, Case, IsComplete, IsDifference, all_cases}
 use Rattle.header_space.specs.Owners.{owners_of}
-use Rattle.rules_space.specs.Rules.{Rules, filter_of}
+use Rattle.rules_space.specs.Rules.{AnyRules, filter_of}
 use Rattle.audit_core.specs.Sides.{AreEquivalent}
 use Rattle.rules_space.specs.Verdicts.{GivesOne}
 use Rattle.audit_core.specs.declared.difference.Difference.{Difference}
@@ -26,7 +26,7 @@ use Rattle.run_core.specs.declared.status.Status.TheVariants.{Done, Violated}
 use Rattle.run_core.specs.declared.status.Stream.TheVariants.{Output}
 use Rattle.run_core.specs.inner.Views.{reply_on}
 
-module _ (d : Network) (rules : Rules) where
+module _ (d : Network) (rules : AnyRules) where
   -- Differences are reported in one text.
   text_is_one : (a b : List ℕ) → OfSides d rules (λ sides. ReportsDifferences sides a) → OfSides d rules (λ sides. ReportsDifferences sides b) → a ≡ b
   text_is_one a b p q =
@@ -52,7 +52,7 @@ module _ (d : Network) (rules : Rules) where
 
 -- ---- what the code answers
 
-module _ (d : Network) (rules : Rules) (policy : Policy) (is_policy : IsPolicyOf d policy) (gives : GivesOne (filter_of rules)) where
+module _ (d : Network) (rules : AnyRules) (policy : Policy) (is_policy : IsPolicyOf d policy) (gives : GivesOne (filter_of rules)) where
   ends_equal : (reply : Reply) → (DifferSomewhere (sides_for d rules policy) → ⊥) → reply ≡ reply_on Done Output equal_json
       → Answers true (compare_outcomes d rules) reply
   ends_equal reply none is =

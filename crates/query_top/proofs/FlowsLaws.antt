@@ -2,7 +2,7 @@
 use Rattle.std.proofs.Common.{◌≡◌, ◌⊎◌, inl, inr, ℕ, ◌<◌, ◌≤◌, Bool, List, [], ◌∷◌, Option, map, refl, sym, subst, ◌∙◌, arith}
 use Rattle.std.specs.List.{Contains}
 use Rattle.std.proofs.lemmas.List.Elements.{Contains-append_left, Contains-append_right}
-use Rattle.rules_space.specs.Rules.{Rules}
+use Rattle.rules_space.specs.Rules.{AnyRules}
 use Rattle.rules_space.proofs.ListLaws.{contains_cases, contains_first, contains_later, contains_none}
 use Rattle.audit_core.proofs.PairLaws.{owner_among}
 use Rattle.decide_core.specs.Flows.{AreFlows, AreFlowsOf, AreFlowsOfEach}
@@ -92,7 +92,7 @@ of_range (x ∷ xs) ranges r is has =
           (rest.0, contains_later x xs rest.0 rest.1, rest.2)
     ]
 
-module _ (rules : Rules) (hosts : List Host) where
+module _ (rules : AnyRules) (hosts : List Host) where
   -- The flows of a pair with services are listed.
   flows_for : (ss : List PairServices) (fs : List PairFlows) → AreFlowsOfEach rules hosts ss fs → (s : PairServices) → Contains ss s
       → (f : PairFlows) × Contains fs f × AreFlowsOf rules hosts s f

@@ -2,7 +2,7 @@
 use Rattle.std.specs.Prelude.{◌≡◌, ℕ, List, [], ◌∷◌, codes}
 use Rattle.audit_core.specs.Findings.{DifferSomewhere}
 use Rattle.audit_core.specs.Pairs.{AreDifferences, IsComplete}
-use Rattle.rules_space.specs.Rules.{Rules}
+use Rattle.rules_space.specs.Rules.{AnyRules}
 use Rattle.audit_core.specs.Sides.{AreEquivalent, AreSafe, Sides}
 use Rattle.audit_core.specs.declared.difference.Difference.{Difference}
 use Rattle.net_core.specs.Network.{Network}
@@ -25,7 +25,7 @@ pub record ReportsDifferences (sides : Sides) (text : List ℕ) : Type 0 where
   pub written : text ≡ compare_json sides.policy.site.hosts differences
 
 -- The rules and the policy differ on some list of packets and forget events: all differences are reported.
-abbrev pub difference : Network → Rules → Outcome
+abbrev pub difference : Network → AnyRules → Outcome
 difference d rules = record {
   status = Violated;
   when = OfSides d rules DifferSomewhere;
@@ -34,7 +34,7 @@ difference d rules = record {
 }
 
 -- The rules forward what the policy and its answers expect: there is no difference. With any connection tracking they forward only that.
-abbrev pub agreement : Network → Rules → Outcome
+abbrev pub agreement : Network → AnyRules → Outcome
 agreement d rules = record {
   status = Done;
   when = OfSides d rules AreEquivalent;
@@ -42,5 +42,5 @@ agreement d rules = record {
   guarantees = λ text. OfSides d rules (λ sides. AreEquivalent sides × AreSafe sides) × (text ≡ equal_json);
 }
 
-abbrev pub compare_outcomes : Network → Rules → Outcomes
+abbrev pub compare_outcomes : Network → AnyRules → Outcomes
 compare_outcomes d rules = difference d rules ∷ (agreement d rules ∷ [])

@@ -1,7 +1,7 @@
 -- `flows DIALECT FILE RULES`: what rules let pass between the hosts of a network.
 use Rattle.std.specs.Prelude.{◌≡◌, ℕ, List}
 use Rattle.std.specs.List.{Contains}
-use Rattle.rules_space.specs.Rules.{Rules}
+use Rattle.rules_space.specs.Rules.{AnyRules}
 use Rattle.decide_core.specs.DeadPlaces.{AreDeadPlaces, AreRemovablePlaces}
 use Rattle.decide_core.specs.Flows.{AreFlows, IsOfRange}
 use Rattle.decide_core.specs.declared.flows.FlowRange.{FlowRange}
@@ -23,12 +23,12 @@ pub record HavePacket (hosts : List Host) (flows : List PairFlows) (p : Packet) 
   pub of_range : IsOfRange hosts flow.from flow.to range.range p
 
 -- The flows have each packet that the rules let pass as a packet of a new connection.
-abbrev pub AreComplete : List Host → Rules → List PairFlows → Type 0
+abbrev pub AreComplete : List Host → AnyRules → List PairFlows → Type 0
 AreComplete hosts rules flows = (p : Packet) → IsPacket p → LetsPass rules p → HavePacket hosts flows p
 
 -- The text is the JSON of all flows that the rules let pass between the owners of addresses, and of all dead rules. Each new packet that they
 -- let pass is in the flows, and the dead rules are removable.
-pub record IsFlowsAnswer (hosts : List Host) (rules : Rules) (text : List ℕ) : Type 0 where
+pub record IsFlowsAnswer (hosts : List Host) (rules : AnyRules) (text : List ℕ) : Type 0 where
   pub flows : List PairFlows
   pub are : AreFlows rules hosts flows
   pub complete : AreComplete hosts rules flows
@@ -37,5 +37,5 @@ pub record IsFlowsAnswer (hosts : List Host) (rules : Rules) (text : List ℕ) :
   pub removable : AreRemovablePlaces rules dead
   pub written : text ≡ flows_json rules hosts flows dead
 
-abbrev pub flows_outcomes : List Host → Rules → Outcomes
+abbrev pub flows_outcomes : List Host → AnyRules → Outcomes
 flows_outcomes hosts rules = writes (IsFlowsAnswer hosts rules) (IsFlowsAnswer hosts rules)

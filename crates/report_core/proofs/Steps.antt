@@ -8,7 +8,7 @@ use Rattle.host_net.specs.declared.packet.Packet.{Packet}
 use Rattle.host_net.specs.Verdict.{verdict_if}
 use Rattle.ofp_rules.specs.declared.entry.Entry.{Entry}
 use Rattle.ofp_rules.specs.declared.entry.Frame.TheVariants.{Ipv4}
-use Rattle.ofp_rules.specs.Semantics.{HasVerdict, Passes}
+use Rattle.ofp_rules.specs.Semantics.{HasVerdict, PassesEntries}
 use Rattle.pkt_core.specs.declared.event.Event.{Event}
 use Rattle.pkt_core.specs.declared.event.Event.TheVariants.{Seen, Forget}
 use Rattle.pkt_core.specs.Firewall.{Filter}
@@ -61,6 +61,6 @@ runs_anyhow filter same kept now (Forget p ∷ events) (Some a ∷ answers) run 
 
 pub seen_first : (entries : List Entry) (p : Packet) (passes : Bool) → HasVerdict entries (Ipv4 p) (verdict_if passes)
     → (events : List Event) (answers : List (Option Bool))
-    → Runs (Passes entries) no_connections events answers → Runs (Passes entries) no_connections (Seen p ∷ events) (Some passes ∷ answers)
+    → Runs (PassesEntries entries) no_connections events answers → Runs (PassesEntries entries) no_connections (Seen p ∷ events) (Some passes ∷ answers)
 seen_first entries p passes has events answers run =
-    (has, runs_anyhow (Passes entries) (λ s t q b h. h) no_connections (after_seen no_connections p passes) events answers run)
+    (has, runs_anyhow (PassesEntries entries) (λ s t q b h. h) no_connections (after_seen no_connections p passes) events answers run)

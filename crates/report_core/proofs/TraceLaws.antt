@@ -6,12 +6,12 @@ use Rattle.host_net.specs.declared.packet.CtState.{CtState}
 use Rattle.host_net.specs.Packet.{IsPacket}
 use Rattle.host_net.specs.Verdict.{verdict_if}
 use Rattle.ipt_rules.specs.Chain.{Chain}
-use Rattle.ipt_rules.specs.Semantics.{Passes}
+use Rattle.ipt_rules.specs.Semantics.{PassesChains}
 use Rattle.ipt_rules.proofs.MeaningLaws.{verdict_once}
 use Rattle.ofp_rules.specs.declared.entry.Entry.{Entry}
 use Rattle.ofp_rules.specs.declared.entry.Frame.TheVariants.{Ipv4}
 use Rattle.ofp_rules.specs.inner.Build.{IsTable}
-use Rattle.ofp_rules.specs.Semantics.{Passes as TablePasses}
+use Rattle.ofp_rules.specs.Semantics.{PassesChains as TablePasses}
 use Rattle.pkt_core.specs.declared.event.Event.{Event}
 use Rattle.pkt_core.specs.declared.event.Event.TheVariants.{Seen, Forget}
 use Rattle.pkt_core.specs.inner.FirewallFor.{AllKnown}
@@ -35,7 +35,7 @@ same_if false false h = refl
 same_if true false h = cc
 same_if false true h = cc
 
-pub chains_answer_once : (chains : List Chain) → AnswersOnce AnyPacket (Passes chains)
+pub chains_answer_once : (chains : List Chain) → AnswersOnce AnyPacket (PassesChains chains)
 chains_answer_once chains state p a b known first second = same_if a b (verdict_once first second)
 
 pub table_answers_once : (entries : List Entry) → IsTable entries → AnswersOnce IsPacket (TablePasses entries)

@@ -2,8 +2,8 @@
 //! table.
 
 ghost use Rattle.std.specs.Prelude.{◌∷◌, List, Option, Bool, IfOk};
-ghost use Rattle.ipt_rules.specs.Semantics.{Passes};
-ghost use Rattle.ofp_rules.specs.Semantics.{Passes as TablePasses};
+ghost use Rattle.ipt_rules.specs.Semantics.{PassesChains};
+ghost use Rattle.ofp_rules.specs.Semantics.{PassesChains as TablePasses};
 ghost use Rattle.pkt_core.specs.declared.event.Event.{Event as EventOf};
 ghost use Rattle.pkt_core.specs.inner.ConnectionTable.{kept_in};
 ghost use Rattle.pkt_core.specs.Tracking.{Runs, no_connections};
@@ -18,7 +18,7 @@ use std::alloc::{AllocError, Global};
 /// Returns the result of the rules for each event, one line per event. The state of a packet's
 /// connection depends on the events before it.
 pub fn trace_rules(alloc: Global, rules: &Ruleset, events: &[Event]) -> Result<Vec<u8>, AllocError>
-    ensures { IfOk result (λ text. IsTrace (Passes rules.now) events.now text.items) }
+    ensures { IfOk result (λ text. IsTrace (PassesChains rules.now) events.now text.items) }
 {
     let indexed = IndexedRuleset::of(alloc, rules, events.len())?;
     trace_indexed(alloc, &indexed, events)
@@ -29,7 +29,7 @@ fn trace_indexed(
     indexed: &IndexedRuleset<'_>,
     events: &[Event],
 ) -> Result<Vec<u8>, AllocError>
-    ensures { IfOk result (λ text. IsTrace (Passes indexed.now) events.now text.items) }
+    ensures { IfOk result (λ text. IsTrace (PassesChains indexed.now) events.now text.items) }
 {
     let mut track = Track::new(alloc);
     let mut text = Vec::new(alloc);
@@ -60,8 +60,8 @@ fn answer(
     event: Event,
 ) -> Result<Option<bool>, AllocError>
     ensures { IfOk result (λ answer. (events : List EventOf) (results : List (Option Bool))
-        → Runs (Passes indexed.now) (kept_in track.new) events results
-        → Runs (Passes indexed.now) (kept_in track.old) (event ∷ events) (answer ∷ results)) }
+        → Runs (PassesChains indexed.now) (kept_in track.new) events results
+        → Runs (PassesChains indexed.now) (kept_in track.old) (event ∷ events) (answer ∷ results)) }
 {
     match event {
         Event::Seen(packet) => {

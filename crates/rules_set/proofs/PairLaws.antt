@@ -11,7 +11,7 @@ use Rattle.header_space.specs.Boxes.{IsIn}
 use Rattle.header_space.specs.Matching.{lies_in}
 use Rattle.header_space.specs.Owners.{GoesBetween, LiesIn, LiesInOne}
 use Rattle.ipt_rules.specs.Chain.{Chain}
-use Rattle.ipt_rules.specs.Semantics.{Passes}
+use Rattle.ipt_rules.specs.Semantics.{PassesChains}
 use Rattle.packet_set.specs.declared.node.Node.{Node}
 use Rattle.packet_set.specs.Nodes.{has}
 use Rattle.packet_set.specs.Sets.{IsSet, Keeps, is_among, match_of}
@@ -100,7 +100,7 @@ module _ (one two three four new : List Node) (chains : List Chain) (state : CtS
   are_sets = record {
     passing_there = let x = passes.there in let y = fourth.longer in omega (arith, x, y);
     staying_there = stays.there;
-    passes = λ p goes. subst (Passes chains state p) (sym (passing_is p ∙ passing_if (has three between p) (has one accepted p) (in_area p goes)))
+    passes = λ p goes. subst (PassesChains chains state p) (sym (passing_is p ∙ passing_if (has three between p) (has one accepted p) (in_area p goes)))
         (is.exact p (covers p goes));
     stays = λ p goes. staying_is p ∙ (passing_if (has three between p) (not (has one accepted p)) (in_area p goes)
         ∙ ap not (sym (passing_is p ∙ passing_if (has three between p) (has one accepted p) (in_area p goes))));

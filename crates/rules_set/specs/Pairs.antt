@@ -6,7 +6,7 @@ use Rattle.host_net.specs.Packet.{IsPacket}
 use Rattle.header_space.specs.declared.address_range.AddressRange.{AddressRange}
 use Rattle.header_space.specs.Owners.{GoesBetween}
 use Rattle.ipt_rules.specs.Chain.{Chain}
-use Rattle.ipt_rules.specs.Semantics.{Passes}
+use Rattle.ipt_rules.specs.Semantics.{PassesChains}
 use Rattle.packet_set.specs.declared.node.Node.{Node}
 use Rattle.packet_set.specs.Nodes.{has}
 use Rattle.rules_set.specs.declared.pair.PairSets.{PairSets}
@@ -16,6 +16,6 @@ use Rattle.rules_set.specs.declared.pair.PairSets.{PairSets}
 pub record ArePairSets (chains : List Chain) (state : CtState) (from to : List AddressRange) (nodes : List Node) (s : PairSets) : Type 0 where
   pub passing_there : s.passing < length nodes
   pub staying_there : s.staying < length nodes
-  pub passes : (p : Packet) → GoesBetween from to p → Passes chains state p (has nodes s.passing p)
+  pub passes : (p : Packet) → GoesBetween from to p → PassesChains chains state p (has nodes s.passing p)
   pub stays : (p : Packet) → GoesBetween from to p → has nodes s.staying p ≡ not (has nodes s.passing p)
   pub between : (p : Packet) → IsPacket p → (has nodes s.passing p ≡ true) ⊎ (has nodes s.staying p ≡ true) → GoesBetween from to p

@@ -12,14 +12,14 @@ use Rattle.header_space.specs.declared.packet_box.PacketBox.{PacketBox}
 use Rattle.ipt_rules.specs.Chain.{Chain, policy_of}
 use Rattle.ipt_rules.specs.Matching.{matches}
 use Rattle.ipt_rules.specs.Semantics.{verdict_by}
-use Rattle.ipt_rules.specs.Slices.{HaveSameVerdicts as HaveSameChainVerdicts}
+use Rattle.ipt_rules.specs.Slices.{HaveSameChainVerdicts}
 use Rattle.ipt_rules.proofs.MeaningLaws.{verdict_once}
 use Rattle.ipt_rules.specs.inner.OneOutcome.{AreDeterministic}
 use Rattle.ofp_rules.specs.declared.entry.Entry.{Entry}
 use Rattle.ofp_rules.specs.declared.entry.Frame.TheVariants.{Ipv4}
 use Rattle.ofp_rules.specs.inner.Build.{IsTable}
 use Rattle.ofp_rules.specs.Semantics.{HasVerdict}
-use Rattle.rules_space.specs.Rules.{Chains, Entries, Rules, filter_of}
+use Rattle.rules_space.specs.Rules.{Chains, Entries, AnyRules, filter_of}
 use Rattle.rules_space.specs.Verdicts.{GivesOne, HaveSameVerdicts}
 
 -- Every verdict is that the packet passes, or that it does not pass.
@@ -27,7 +27,7 @@ said_by : (v : Verdict) → (b : Bool) × (v ≡ verdict_if b)
 said_by Forwarded = (true, refl)
 said_by Dropped = (false, refl)
 
-pub one_verdict : (rules : Rules) → GivesOne (filter_of rules) → (state : CtState) (p : Packet) → IsPacket p → (b c : Bool)
+pub one_verdict : (rules : AnyRules) → GivesOne (filter_of rules) → (state : CtState) (p : Packet) → IsPacket p → (b c : Bool)
     → filter_of rules state p b → filter_of rules state p c → b ≡ c
 one_verdict rules gives state p is b c first second = let one = gives state p is in one.2 b first ∙ sym (one.2 c second)
 

@@ -6,7 +6,7 @@ use Rattle.host_net.specs.Packet.{IsPacket}
 use Rattle.header_space.specs.declared.packet_box.PacketBox.{PacketBox}
 use Rattle.header_space.specs.Boxes.{IsIn}
 use Rattle.pkt_core.specs.Firewall.{Filter}
-use Rattle.rules_space.specs.Rules.{Rules, filter_of}
+use Rattle.rules_space.specs.Rules.{AnyRules, filter_of}
 
 -- In each state a packet passes or does not, and not both.
 abbrev pub GivesOne : Filter → Type 0
@@ -14,6 +14,6 @@ GivesOne filter =
     (state : CtState) (p : Packet) → IsPacket p → (passes : Bool) × filter state p passes × ((other : Bool) → filter state p other → other ≡ passes)
 
 -- In each state, both rule sets forward the same packets of the box.
-abbrev pub HaveSameVerdicts : PacketBox → Rules → Rules → Type 0
+abbrev pub HaveSameVerdicts : PacketBox → AnyRules → AnyRules → Type 0
 HaveSameVerdicts b rules others =
     (p : Packet) → IsIn b p → (state : CtState) (passes : Bool) → (filter_of rules state p passes ↔ filter_of others state p passes)

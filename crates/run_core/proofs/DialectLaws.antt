@@ -11,11 +11,11 @@ use Rattle.host_net.specs.Packet.{IsPacket}
 use Rattle.host_net.specs.inner.Site.{IsSite}
 use Rattle.ipt_read.proofs.AgainLaws.{text_read_again}
 use Rattle.ipt_read.proofs.FaultLaws.{one_reading, one_fault, no_reading_with_fault}
-use Rattle.ipt_read.specs.TextLines.{HasFault as HasFaultInRules, name as rules_reason}
+use Rattle.ipt_read.specs.TextLines.{HasFaultInRules, rules_reason}
 use Rattle.ipt_read.specs.declared.fault.IptWhy.TheVariants.{TooLong as RulesTooLong}
 use Rattle.ofp_read.proofs.AgainLaws.{text_read_again as flows_read_again}
 use Rattle.ofp_read.proofs.FaultLaws.{one_reading as one_reading_of_flows, reading_is_table, one_fault as one_fault_in_flows, no_reading_with_fault as no_flows_with_fault}
-use Rattle.ofp_read.specs.TextLines.{HasFault as HasFaultInFlows, name as flows_reason}
+use Rattle.ofp_read.specs.TextLines.{HasFaultInFlows, flows_reason}
 use Rattle.ofp_read.specs.declared.fault.OfpWhy.TheVariants.{TooLong as FlowsTooLong}
 use Rattle.pkt_core.specs.Filter.{Enforces}
 use Rattle.pkt_core.specs.FlowPolicy.{FlowPolicy}

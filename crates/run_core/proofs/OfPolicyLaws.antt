@@ -7,7 +7,7 @@ use Rattle.net_core.specs.Policies.{Policy}
 use Rattle.pkt_core.proofs.AnyTrackingLaws.{forwards_only_expected}
 use Rattle.pkt_core.specs.FlowPolicy.{FlowPolicy}
 use Rattle.report_core.specs.FlowPolicies.{flow_policy_of}
-use Rattle.rules_space.specs.Rules.{Rules, filter_of}
+use Rattle.rules_space.specs.Rules.{AnyRules, filter_of}
 use Rattle.run_core.specs.OfPolicy.{OfPolicy, OfSides}
 
 -- Properties of the policy of one hold for the policy of the other.
@@ -17,15 +17,15 @@ moved d P Q a b =
     subst (λ (policy : Policy). P (flow_policy_of d policy)) (policy_is_one d a.policy b.policy a.is_policy b.is_policy) a.so
 
 -- A policy of the network, and the rules.
-abbrev pub sides_for : Network → Rules → Policy → Sides
+abbrev pub sides_for : Network → AnyRules → Policy → Sides
 sides_for d rules policy = sides_of (flow_policy_of d policy) rules
 
 -- Properties of the sides of one hold for the sides of the other.
-pub sides_moved : (d : Network) (rules : Rules) (Holds Other : Sides → Type 0) (p : OfSides d rules Holds) (q : OfSides d rules Other) → Holds (sides_for d rules q.policy)
+pub sides_moved : (d : Network) (rules : AnyRules) (Holds Other : Sides → Type 0) (p : OfSides d rules Holds) (q : OfSides d rules Other) → Holds (sides_for d rules q.policy)
 sides_moved d rules Holds Other p q = moved d (λ policy. Holds (sides_of policy rules)) (λ policy. Other (sides_of policy rules)) p q
 
 -- Rules that forward what the policy expects forward only that with any connection tracking.
-pub safe_where_equal : (d : Network) (rules : Rules) → OfSides d rules AreEquivalent → OfSides d rules (λ sides. AreEquivalent sides × AreSafe sides)
+pub safe_where_equal : (d : Network) (rules : AnyRules) → OfSides d rules AreEquivalent → OfSides d rules (λ sides. AreEquivalent sides × AreSafe sides)
 safe_where_equal d rules agree = record {
   policy = agree.policy;
   is_policy = agree.is_policy;

@@ -1,6 +1,6 @@
 -- The dialects of rules: their texts, their parsers, the packets that rules forward, and the rules of a policy.
 use Rattle.std.specs.Prelude.{◌≡◌, ◌≤◌, ◌<◌, ℕ, List, [], ◌∷◌, ◌++◌, length, codes, decimal}
-use Rattle.rules_space.specs.Rules.{Rules as AuditedRules, Chains, Entries}
+use Rattle.rules_space.specs.Rules.{AnyRules, Chains, Entries}
 use Rattle.emit_core.specs.FlowTable.{flow_entries}
 use Rattle.emit_core.specs.EmitRefusals.{rule_limit}
 use Rattle.emit_core.specs.FlowTableEvents.{AnswersAreCovered, IsFirstUncovered}
@@ -9,14 +9,14 @@ use Rattle.emit_core.specs.Layout.{layout}
 use Rattle.emit_core.specs.OtherStates.{HaveNoOtherState}
 use Rattle.emit_core.specs.PortRanges.{HasNoRange, IsFirstRange}
 use Rattle.flow_set.specs.declared.flow.Flow.{Flow}
-use Rattle.ipt_read.specs.TextLines.{IsReading as IsReadingOfRules, HasFault as HasFaultInRules, name as rules_reason, rules_text}
+use Rattle.ipt_read.specs.TextLines.{IsReadingOfRules, HasFaultInRules, rules_reason, rules_text}
 use Rattle.ipt_rules.specs.Chain.{Chain}
 use Rattle.ipt_rules.specs.ChainTable.{rule_count}
-use Rattle.ipt_rules.specs.Semantics.{Passes as PassesChains}
+use Rattle.ipt_rules.specs.Semantics.{PassesChains}
 use Rattle.ipt_rules.specs.Text.{text as chains_text}
-use Rattle.ofp_read.specs.TextLines.{IsReading as IsReadingOfFlows, HasFault as HasFaultInFlows, flows_text, name as flows_reason}
+use Rattle.ofp_read.specs.TextLines.{IsReadingOfFlows, HasFaultInFlows, flows_text, flows_reason}
 use Rattle.ofp_rules.specs.Ambiguity.{most_entries}
-use Rattle.ofp_rules.specs.Semantics.{Passes as PassesTable}
+use Rattle.ofp_rules.specs.Semantics.{PassesEntries}
 use Rattle.ofp_rules.specs.Text.{text as table_text}
 use Rattle.ofp_rules.specs.declared.entry.Entry.{Entry}
 use Rattle.pkt_core.specs.Firewall.{Filter}
@@ -39,7 +39,7 @@ pub record RuleDialect : Type 1 where
   pub IsReading : List ℕ → Rules → Type 0
   pub Refuses : (bytes line : List ℕ) → Type 0
   pub filter : Rules → Filter
-  pub audited : Rules → AuditedRules
+  pub audited : Rules → AnyRules
   pub OtherFrames : Rules → Type 0
   pub OtherStates : Rules → Type 0
   pub layout : FlowPolicy → Rules
@@ -88,7 +88,7 @@ openflow = record {
   byte_limit = flows_text.byte_limit;
   IsReading = IsReadingOfFlows;
   Refuses = ReportsFault (codes "rules") flows_reason HasFaultInFlows;
-  filter = PassesTable;
+  filter = PassesEntries;
   audited = Entries;
   OtherFrames = ForwardsArpAlone;
   OtherStates = λ entries. Unit {0};

@@ -4,7 +4,7 @@ use Rattle.net_core.specs.Network.{Network}
 use Rattle.net_core.specs.Policies.{IsPolicyOf, Policy}
 use Rattle.pkt_core.specs.FlowPolicy.{FlowPolicy}
 use Rattle.report_core.specs.FlowPolicies.{flow_policy_of}
-use Rattle.rules_space.specs.Rules.{Rules}
+use Rattle.rules_space.specs.Rules.{AnyRules}
 
 -- The property holds for the policy of the network.
 pub record OfPolicy (d : Network) (Holds : FlowPolicy → Type 0) : Type 0 where
@@ -13,5 +13,5 @@ pub record OfPolicy (d : Network) (Holds : FlowPolicy → Type 0) : Type 0 where
   pub so : Holds (flow_policy_of d policy)
 
 -- The property holds for the policy of the network and the rules.
-abbrev pub OfSides : Network → Rules → (Sides → Type 0) → Type 0
+abbrev pub OfSides : Network → AnyRules → (Sides → Type 0) → Type 0
 OfSides d rules Holds = OfPolicy d (λ policy. Holds (sides_of policy rules))

@@ -2,7 +2,7 @@
 use Rattle.std.proofs.Common.{◌≡◌, ℕ, List, Result, Ok, Err, length, map, filter, sym, ap, subst, ◌∙◌, refl, arith}
 use Rattle.desc_core.specs.Description.{described_by_table}
 use Rattle.ipt_rules.specs.Chain.{Chain}
-use Rattle.ipt_rules.specs.Semantics.{Passes}
+use Rattle.ipt_rules.specs.Semantics.{PassesChains}
 use Rattle.ipt_rules.specs.Text.{text_lines}
 use Rattle.net_core.specs.Network.{Network}
 use Rattle.net_core.specs.Policies.{IsPolicyOf, Policy}
@@ -62,8 +62,8 @@ found_is_one n f g =
       offences = offences_are_one g.network.invariants g.network.asked.flows f.offences g.offences
           (subst (λ (d : Network). AreViolations d.invariants d.asked.flows f.offences) net f.are_offences) g.are_offences;
       table = table_is_one (flow_policy_of g.network g.policy) f.table g.table same_table g.is_table;
-      results = runs_once AnyPacket (Passes last) (chains_answer_once last) no_connections (sample_events n) (any_known (sample_events n))
-          f.results g.results (subst (λ (x : List Chain). RunsFromNoConnections (Passes x) (sample_events n) f.results) chains f.run) g.run;
+      results = runs_once AnyPacket (PassesChains last) (chains_answer_once last) no_connections (sample_events n) (any_known (sample_events n))
+          f.results g.results (subst (λ (x : List Chain). RunsFromNoConnections (PassesChains x) (sample_events n) f.results) chains f.run) g.run;
     }
 
 text_is_one : (n : ℕ) (f g : Found n) → AreSame n f g → sample_text n f ≡ sample_text n g

@@ -11,7 +11,7 @@ use Rattle.flow_set.specs.FlowSet.{has}
 use Rattle.flow_set.specs.declared.flow.Flow.{Flow}
 use Rattle.host_net.specs.Limits.{host_limit}
 use Rattle.host_net.specs.Packet.{IsPacket}
-use Rattle.ipt_rules.specs.Semantics.{Passes}
+use Rattle.ipt_rules.specs.Semantics.{PassesChains}
 use Rattle.net_core.specs.inner.Fitting.{IsNetwork}
 use Rattle.net_core.proofs.HeadlineLaws.{CompliesWithAll-from_policy}
 use Rattle.net_core.specs.Network.{Network}
@@ -49,7 +49,7 @@ reports_sample n report is =
     let policy : FlowPolicy = flow_policy_of d found.policy in
     let network : IsNetwork d = IsNetwork-table (sample_table n) d found.described in
     let few : n ≤ host_limit = sample_is_small n d found.described in
-    let forwards : ForwardsAsExpected (Passes (layout policy)) policy = layout_expected policy network.hosts (IsSubset-stateful d policy.permitted policy.stateful found.is_policy.stateful) in
+    let forwards : ForwardsAsExpected (PassesChains (layout policy)) policy = layout_expected policy network.hosts (IsSubset-stateful d policy.permitted policy.stateful found.is_policy.stateful) in
     record {
       found = found;
       written = is.written;

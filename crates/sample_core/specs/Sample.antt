@@ -10,7 +10,7 @@ use Rattle.flow_set.specs.EveryFlow.{every_flow}
 use Rattle.flow_set.specs.declared.flow.Flow.{Flow}
 use Rattle.host_net.specs.declared.packet.Packet.{Packet}
 use Rattle.ipt_rules.specs.Chain.{Chain}
-use Rattle.ipt_rules.specs.Semantics.{Passes}
+use Rattle.ipt_rules.specs.Semantics.{PassesChains}
 use Rattle.ipt_rules.specs.Text.{text_lines}
 use Rattle.net_core.specs.Network.{Network}
 use Rattle.net_core.specs.Policies.{IsPolicyOf, Policy}
@@ -62,7 +62,7 @@ pub record Found (n : ℕ) : Type 0 where
   pub table : TableLines
   pub is_table : IsTableLines (flow_policy_of network policy) table
   pub results : List (Option Bool)
-  pub run : RunsFromNoConnections (Passes (chains_of network policy)) (sample_events n) results
+  pub run : RunsFromNoConnections (PassesChains (chains_of network policy)) (sample_events n) results
 
 -- ---- the printed form
 

@@ -2,7 +2,7 @@
 
 ghost use Rattle.std.specs.Prelude.{◌≡◌, ◌≤◌, ◌∷◌, Bool, List, [], Option, Some, IfOk, if◌then◌else◌, map};
 ghost use Rattle.host_net.specs.Limits.{host_limit};
-ghost use Rattle.ipt_rules.specs.Semantics.{Passes};
+ghost use Rattle.ipt_rules.specs.Semantics.{PassesChains};
 ghost use Rattle.pkt_core.specs.inner.ConnectionTable.{kept_in};
 ghost use Rattle.pkt_core.specs.Tracking.{Runs};
 ghost use Rattle.pkt_core.specs.declared.event.Event.{Event};
@@ -65,7 +65,7 @@ fn forwarded(
     indexed: &IndexedRuleset<'_>,
     packets: &[Packet],
 ) -> Result<usize, AllocError>
-    ensures { IfOk result (AreForwarded (Passes indexed.now) (map Seen packets.now)) }
+    ensures { IfOk result (AreForwarded (PassesChains indexed.now) (map Seen packets.now)) }
 {
     let mut track = Track::new(alloc);
     let mut count = 0;
@@ -84,8 +84,8 @@ fn is_forwarded(
     packet: &Packet,
 ) -> Result<bool, AllocError>
     ensures { IfOk result (λ passes. (events : List Event) (results : List (Option Bool))
-        → Runs (Passes indexed.now) (kept_in track.new) events results
-        → Runs (Passes indexed.now) (kept_in track.old) (Seen packet.now ∷ events) (Some passes ∷ results)) }
+        → Runs (PassesChains indexed.now) (kept_in track.new) events results
+        → Runs (PassesChains indexed.now) (kept_in track.old) (Seen packet.now ∷ events) (Some passes ∷ results)) }
 {
     let verdict = indexed.verdict(packet, track.state_of(packet));
     let passes = verdict.is_forward();

@@ -11,7 +11,7 @@ use Rattle.audit_core.specs.FindingText.{trace_text}
 use Rattle.audit_core.specs.inner.FindingText.{finding_text}
 use Rattle.audit_core.specs.Lists.{front_of}
 use Rattle.audit_core.specs.Places.{representatives_of}
-use Rattle.rules_space.specs.Rules.{Rules, filter_of}
+use Rattle.rules_space.specs.Rules.{AnyRules, filter_of}
 use Rattle.rules_space.specs.Verdicts.{GivesOne}
 use Rattle.audit_core.specs.Sides.{AreSafe, AreEquivalent, Sides}
 use Rattle.audit_core.specs.declared.finding.Finding.{Finding}
@@ -72,7 +72,7 @@ differ_there sides t found =
 
 -- ---- obligations of the outcomes
 
-module _ (d : Network) (rules : Rules) where
+module _ (d : Network) (rules : AnyRules) where
   pub trace_once : (a b : List ℕ) → OfSides d rules (λ sides. ReportsDifference sides a) → OfSides d rules (λ sides. ReportsDifference sides b) → a ≡ b
   trace_once a b p q =
       let first = sides_moved d rules (λ sides. ReportsDifference sides a) (λ sides. ReportsDifference sides b) p q in
@@ -102,7 +102,7 @@ module _ (d : Network) (rules : Rules) where
 -- ---- both directions
 
 -- If the number of classes is within the limit, `equal` is written if and only if they forward alike.
-pub equal_exactly : (d : Network) (rules : Rules) (reply : Reply) → Answers true (audit_outcomes d rules) reply → OfSides d rules FewClasses
+pub equal_exactly : (d : Network) (rules : AnyRules) (reply : Reply) → Answers true (audit_outcomes d rules) reply → OfSides d rules FewClasses
     → (reply.status ≡ Done) ↔ OfSides d rules AreEquivalent
 equal_exactly d rules reply answers few = (alike_where_done, done_where_alike)
   where
@@ -144,7 +144,7 @@ written_alike dialect d text said network can is reading =
 
 -- ---- the result of the code
 
-module _ (d : Network) (rules : Rules) (policy : Policy) (is_policy : IsPolicyOf d policy) where
+module _ (d : Network) (rules : AnyRules) (policy : Policy) (is_policy : IsPolicyOf d policy) where
   ends_different : (reply : Reply) (t : Trace) → FewClasses (sides_for d rules policy) → IsFinding (sides_for d rules policy) (Differing t)
       → reply ≡ reply_on Violated Output (finding_text (Differing t)) → Answers true (audit_outcomes d rules) reply
   ends_different reply t few found is =

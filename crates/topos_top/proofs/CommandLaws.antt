@@ -1,7 +1,7 @@
 -- The obligations of each command's outcomes after its files were read.
 use Rattle.std.proofs.Common.{◌≡◌, ℕ, List, true, refl, sym, ◌∙◌}
 use Rattle.audit_core.specs.Findings.{DifferSomewhere}
-use Rattle.rules_space.specs.Rules.{Rules as AuditedRules}
+use Rattle.rules_space.specs.Rules.{AnyRules}
 use Rattle.audit_core.specs.Sides.{AreEquivalent}
 use Rattle.host_net.specs.Packet.{IsPacket}
 use Rattle.desc_core.proofs.NetworkLaws.{IsNetwork-described}
@@ -76,7 +76,7 @@ settled_trace : (filter : Filter) (events : List Event) → AnswersOnce IsPacket
 settled_trace filter events once packets =
     settled_writes _ _ (trace_is_one _ filter once events packets) (reports_run _ filter once events packets)
 
-settled_audit : (d : Network) (rules : AuditedRules) → IsSettled (audit_outcomes d rules)
+settled_audit : (d : Network) (rules : AnyRules) → IsSettled (audit_outcomes d rules)
 settled_audit d rules = record {
   owed = (
     record { status = refl; one = line_once d rules; guarantees = λ now line is. is },

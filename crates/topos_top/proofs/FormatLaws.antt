@@ -8,10 +8,10 @@ use Rattle.desc_form.specs.declared.refusal.Place.TheVariants.{Document as Whole
 use Rattle.desc_form.specs.declared.refusal.Why.TheVariants.{TooLong}
 use Rattle.edit_core.proofs.EditFaultLaws.{edits_settled}
 use Rattle.edit_core.specs.Edit.{Edit}
-use Rattle.edit_core.specs.EditsText.{edits_text, IsReading as IsReadingOfEdits, IsRefused as IsRefusedInEdits}
+use Rattle.edit_core.specs.EditsText.{edits_text, IsReadingOfEdits, IsRefusedInEdits}
 use Rattle.edit_core.specs.Summaries.{IsStarted}
 use Rattle.pkt_core.proofs.EventFaultLaws.{events_settled}
-use Rattle.pkt_core.specs.EventsText.{events_text, IsReading as IsReadingOfEvents, IsRefused as IsRefusedInEvents}
+use Rattle.pkt_core.specs.EventsText.{events_text, IsReadingOfEvents, IsRefusedInEvents}
 use Rattle.pkt_core.specs.declared.event.Event.{Event}
 use Rattle.report_core.specs.RefusalLine.{refusal_text}
 use Rattle.text_core.specs.declared.faults.ListWhy.TheVariants.{TooLong as ListTooLong}

@@ -1,6 +1,6 @@
 -- The headline, from the results of the commands that write rules and descriptions, and of the command that compares rules.
 use Rattle.std.proofs.Common.{◌≡◌, inl, inr, ℕ, List, Option, Some, subst}
-use Rattle.rules_space.specs.Rules.{Rules as AuditedRules}
+use Rattle.rules_space.specs.Rules.{AnyRules}
 use Rattle.audit_core.specs.Sides.{AreEquivalent, AreSafe}
 use Rattle.edge_io.specs.Observable.{Files}
 use Rattle.net_core.specs.Network.{Network}
@@ -49,7 +49,7 @@ by_local d host text (inr (inl barred)) = let other = barred.0.0 in cc other
 by_local d host text (inr (inr (inl written))) = (written.0.1.0, written.1)
 by_local d host text (inr (inr (inr none))) = absurd none
 
-by_audit : (d : Network) (rules : AuditedRules) (text : List ℕ) → AnyOutcome (EndsWithGuarantee Done text) (audit_outcomes d rules) → (text ≡ codes "equal\n") × OfSides d rules (λ sides. AreEquivalent sides × AreSafe sides)
+by_audit : (d : Network) (rules : AnyRules) (text : List ℕ) → AnyOutcome (EndsWithGuarantee Done text) (audit_outcomes d rules) → (text ≡ codes "equal\n") × OfSides d rules (λ sides. AreEquivalent sides × AreSafe sides)
 by_audit d rules text (inl many) = let other = many.0.0 in cc other
 by_audit d rules text (inr (inl differ)) = let other = differ.0.0 in cc other
 by_audit d rules text (inr (inr (inl equal))) = (equal.0.2, equal.1)

@@ -12,7 +12,7 @@ use Rattle.host_net.specs.Host.{Host, rest_of}
 use Rattle.host_net.specs.inner.Site.{IsSite}
 use Rattle.ipt_read.proofs.AgainLaws.{text_read_again}
 use Rattle.ipt_read.proofs.FaultLaws.{one_reading}
-use Rattle.ipt_read.specs.TextLines.{IsReading}
+use Rattle.ipt_read.specs.TextLines.{IsReadingOfRules}
 use Rattle.ipt_rules.specs.Chain.{Chain}
 use Rattle.ipt_rules.specs.Text.{text}
 use Rattle.net_core.specs.inner.Fitting.{IsNetwork}
@@ -85,8 +85,8 @@ module _ (d : Network) (host : List ℕ) where
       let number = one_number is.so.0 found in
       let own : List Chain = local_chains_for d is.policy found.number in
       let written : rules ≡ text own = is.so.1 ∙ ap (λ (h : ℕ). text (local_chains_for d is.policy h)) number in
-      let read : IsReading rules own =
-      subst (λ (bytes : List ℕ). IsReading bytes own) (sym written)
+      let read : IsReadingOfRules rules own =
+      subst (λ (bytes : List ℕ). IsReadingOfRules bytes own) (sym written)
       (text_read_again own (local_writable policy found.number known) (local_short policy found.number known)) in
       record {
         policy = is.policy;

@@ -6,7 +6,7 @@ use Rattle.audit_core.specs.Cuts.{cuts_between}
 use Rattle.audit_core.specs.Findings.{DifferSomewhere, IsFirstTrace, events_of}
 use Rattle.audit_core.specs.FindingText.{classes_line, trace_text}
 use Rattle.audit_core.specs.Places.{class_count, representatives_of, most_classes}
-use Rattle.rules_space.specs.Rules.{Rules}
+use Rattle.rules_space.specs.Rules.{AnyRules}
 use Rattle.audit_core.specs.Sides.{AreSafe, DifferThen, AreEquivalent, Sides}
 use Rattle.audit_core.specs.declared.finding.Trace.{Trace}
 use Rattle.host_net.specs.declared.packet.Packet.{Packet}
@@ -39,7 +39,7 @@ abbrev pub HasManyClasses : Sides → (line : List ℕ) → Type 0
 HasManyClasses sides line = (most_classes < class_count sides) × (line ≡ classes_line (class_count sides))
 
 -- The rules and the policy differ on some list of events: the first short one is reported.
-abbrev pub difference : Network → Rules → Outcome
+abbrev pub difference : Network → AnyRules → Outcome
 difference d rules = record {
   status = Violated;
   when = OfSides d rules (λ sides. FewClasses sides × DifferSomewhere sides);
@@ -49,7 +49,7 @@ difference d rules = record {
 
 -- The rules and the policy forward alike: `equal` is written only in this case, and always in this case if the number
 -- of classes is within the limit.
-abbrev pub agreement : Network → Rules → Outcome
+abbrev pub agreement : Network → AnyRules → Outcome
 agreement d rules = record {
   status = Done;
   when = OfSides d rules (λ sides. FewClasses sides × AreEquivalent sides);
@@ -58,6 +58,6 @@ agreement d rules = record {
 }
 
 -- The outcomes of an audit: too many packet classes, a difference, or agreement.
-abbrev pub audit_outcomes : Network → Rules → Outcomes
+abbrev pub audit_outcomes : Network → AnyRules → Outcomes
 audit_outcomes d rules =
     says_why NotEmittable (Unit {0}) (λ line. OfSides d rules (λ sides. HasManyClasses sides line)) ∷ (difference d rules ∷ (agreement d rules ∷ []))

@@ -3,8 +3,8 @@ use Rattle.std.specs.Prelude.{ℕ, List, Ok, codes}
 use Rattle.desc_core.specs.Migrated.{IsMigrated}
 use Rattle.edit_core.specs.Summaries.{IsStarted}
 use Rattle.edit_core.specs.Edit.{Edit}
-use Rattle.edit_core.specs.EditsText.{IsReading as IsReadingOfEdits, IsRefused as IsRefusedInEdits, edits_text}
-use Rattle.pkt_core.specs.EventsText.{IsReading as IsReadingOfEvents, IsRefused as IsRefusedInEvents, events_text}
+use Rattle.edit_core.specs.EditsText.{IsReadingOfEdits, IsRefusedInEdits, edits_text}
+use Rattle.pkt_core.specs.EventsText.{IsReadingOfEvents, IsRefusedInEvents, events_text}
 use Rattle.pkt_core.specs.declared.event.Event.{Event}
 use Rattle.run_core.specs.Dialects.{rule_dialect_of}
 use Rattle.run_core.specs.FileFormats.{FileFormat, description_as, text}

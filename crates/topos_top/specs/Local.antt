@@ -5,7 +5,7 @@ use Rattle.host_emit.specs.HostEnforcement.{EnforcesAtHost}
 use Rattle.host_emit.specs.LocalEvents.{DeliversAsExpected}
 use Rattle.host_emit.specs.LocalLayout.{is_specific, local_layout}
 use Rattle.host_net.specs.Host.{host_named, rest_of}
-use Rattle.ipt_read.specs.TextLines.{IsReading}
+use Rattle.ipt_read.specs.TextLines.{IsReadingOfRules}
 use Rattle.ipt_rules.specs.Chain.{Chain}
 use Rattle.ipt_rules.specs.Text.{text}
 use Rattle.net_core.specs.Network.{Network}
@@ -51,8 +51,8 @@ pub record EnforcesPolicyLocally (d : Network) (host rules : List ℕ) : Type 0 
   pub enforces_at_host : EnforcesAtHost (local_chains_for d policy found.number) (flow_policy_of d policy) found.number
   pub passes : DeliversAsExpected (local_chains_for d policy) (flow_policy_of d policy)
   pub other_states : HaveNoOtherState (local_chains_for d policy found.number)
-  pub read : IsReading rules (local_chains_for d policy found.number)
-  pub only_reading : (others : List Chain) → IsReading rules others → others ≡ local_chains_for d policy found.number
+  pub read : IsReadingOfRules rules (local_chains_for d policy found.number)
+  pub only_reading : (others : List Chain) → IsReadingOfRules rules others → others ≡ local_chains_for d policy found.number
 
 -- The rules, if the condition holds and the host is specific; with higher precedence the line with the reason, if the condition holds and
 -- the host is not specific.

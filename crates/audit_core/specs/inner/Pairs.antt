@@ -21,7 +21,7 @@ use Rattle.audit_core.specs.declared.sources.Sender.{Sender}
 use Rattle.audit_core.specs.declared.sources.Source.{Source}
 use Rattle.audit_core.specs.inner.Faults.{expected_at}
 use Rattle.audit_core.specs.Pairs.{Case, AreListedFor, DiffersAt}
-use Rattle.rules_space.specs.Rules.{Rules, filter_of}
+use Rattle.rules_space.specs.Rules.{AnyRules, filter_of}
 use Rattle.audit_core.specs.Sides.{Sides}
 
 -- ---- The end of a list
@@ -31,7 +31,7 @@ abbrev pub state_after : Bool → CtState
 state_after passed = if passed then Established else New
 
 -- The rules for packets, together with the rules for their swaps, forward p at the end of the list of that kind, or drop it.
-abbrev pub EndsBy : Rules → Rules → Kind → Packet → Bool → Type 0
+abbrev pub EndsBy : AnyRules → AnyRules → Kind → Packet → Bool → Type 0
 EndsBy rules swaps Alone p passes = filter_of rules New p passes
 EndsBy rules swaps AfterSwap p passes =
     (passed : Bool) × filter_of swaps New (swap_of p) passed × filter_of rules (state_after passed) p passes

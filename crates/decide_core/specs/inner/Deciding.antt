@@ -7,18 +7,18 @@ use Rattle.header_space.specs.Boxes.{IsIn}
 use Rattle.ipt_rules.specs.declared.marks.Place.{Place}
 use Rattle.ipt_rules.specs.Marks.{is_marked}
 use Rattle.ipt_rules.specs.inner.Marking.{with_mark}
-use Rattle.rules_space.specs.Rules.{Rules, filter_of}
+use Rattle.rules_space.specs.Rules.{AnyRules, filter_of}
 use Rattle.decide_core.specs.Deciders.{DecidesOne, IsDecider}
 
 -- Rules, with marks on the rules that decide some packets: the packets that pass if `passing` is true, else any packets.
 pub record Deciding : Type 0 where
-  pub rules : Rules
+  pub rules : AnyRules
   pub passing : Bool
   pub marks : List (List Bool)
   pub by_default : Bool
 
 -- The deciders of the packet have to be marked: it passes, or the deciders of all packets have to be marked.
-abbrev pub Counts : Rules → Bool → Packet → Type 0
+abbrev pub Counts : AnyRules → Bool → Packet → Type 0
 Counts rules true p = filter_of rules New p true
 Counts rules false p = Unit {0}
 

@@ -1,6 +1,6 @@
 -- The contract of the code that reads rules. No promise of `run` depends on it.
 use Rattle.std.specs.Prelude.{◌≡◌, ℕ, List, Result, Ok, Err, codes}
-use Rattle.rules_space.specs.Rules.{Rules as AuditedRules}
+use Rattle.rules_space.specs.Rules.{AnyRules}
 use Rattle.run_core.specs.Dialects.{rule_dialect_of}
 use Rattle.run_core.specs.Replies.{StopsRunAt}
 use Rattle.run_core.specs.Reply.{Reply}
@@ -14,7 +14,7 @@ use Rattle.run_core.specs.declared.dialect.RulesFault.{RulesFault}
 use Rattle.run_core.specs.declared.dialect.RulesFault.TheVariants.{Refused, Memory}
 use Rattle.query_top.specs.PlainRules.{plain_rules}
 
-abbrev pub MayReadPlainRules : Dialect → (file : List ℕ) → ShelfChange → Result AuditedRules Reply → Type 0
+abbrev pub MayReadPlainRules : Dialect → (file : List ℕ) → ShelfChange → Result AnyRules Reply → Type 0
 MayReadPlainRules dialect file shelf (Ok audited) = ReadRules dialect (λ said. MayRead (plain_rules dialect) file shelf (Ok said)) audited
 MayReadPlainRules dialect file shelf (Err given) = StopsRunAt shelf (plain_rules dialect) file given
 

@@ -1,6 +1,6 @@
 -- The contract of the code that reads a file. No promise of `run` depends on it.
 use Rattle.std.specs.Prelude.{◌≡◌, ℕ, List, Result, Ok, Err, Some}
-use Rattle.rules_space.specs.Rules.{Rules as AuditedRules}
+use Rattle.rules_space.specs.Rules.{AnyRules}
 use Rattle.run_core.specs.Dialects.{rule_dialect_of}
 use Rattle.run_core.specs.FileFormats.{FileFormat}
 use Rattle.run_core.specs.Replies.{StopsRunAt}
@@ -23,7 +23,7 @@ MayRead format file shelf (Ok said) = (bytes : List ℕ) × ConsumesFile shelf f
 MayRead format file shelf (Err given) = StopsRunAt shelf format file given
 
 -- Rules of a dialect were read, in the form of an audit.
-pub record ReadRules (dialect : Dialect) (Read : (rule_dialect_of dialect).Rules → Type 0) (rules : AuditedRules) : Type 0 where
+pub record ReadRules (dialect : Dialect) (Read : (rule_dialect_of dialect).Rules → Type 0) (rules : AnyRules) : Type 0 where
   pub said : (rule_dialect_of dialect).Rules
   pub told : rules ≡ (rule_dialect_of dialect).audited said
   pub read : Read said

@@ -4,7 +4,7 @@ use Rattle.std.specs.List.{concat}
 use Rattle.std.specs.Result.{result_map_both}
 use Rattle.std.specs.Global.{Global}
 use Rattle.std.specs.declared.vec.Vec.{Vec}
-use Rattle.rules_space.specs.Rules.{Rules as AuditedRules, Chains, Entries}
+use Rattle.rules_space.specs.Rules.{AnyRules, Chains, Entries}
 use Rattle.desc_core.specs.declared.fault.DescFault.{DescFault}
 use Rattle.desc_core.specs.declared.fault.DescFault.TheVariants as desc
 use Rattle.desc_form.specs.Refusals.{name}
@@ -23,7 +23,7 @@ use Rattle.run_core.specs.declared.text.Text.{Text}
 use Rattle.run_core.specs.declared.text.Text.TheVariants as text
 
 -- Parsed rules, in the form of an audit.
-abbrev pub rules_view : CodeRules → AuditedRules
+abbrev pub rules_view : CodeRules → AnyRules
 rules_view (rules.Chains chains) = Chains chains
 rules_view (rules.Table table) = Entries table
 
@@ -68,5 +68,5 @@ abbrev pub items_view : {A : Type 0} → Result (Vec A Global) Answer → Result
 items_view outcome = result_map_both (λ xs. xs.items) reply_view outcome
 
 -- The result of reading a file of rules, in the form of an audit.
-abbrev pub rules_outcome : Result CodeRules Answer → Result AuditedRules Reply
+abbrev pub rules_outcome : Result CodeRules Answer → Result AnyRules Reply
 rules_outcome outcome = result_map_both rules_view reply_view outcome

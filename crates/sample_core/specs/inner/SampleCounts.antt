@@ -2,7 +2,7 @@
 use Rattle.std.specs.Prelude.{◌≡◌, ℕ, Bool, List, ◌++◌, length, map, filter, Option, codes}
 use Rattle.flow_set.specs.declared.flow.Flow.{Flow}
 use Rattle.ipt_rules.specs.Chain.{Chain}
-use Rattle.ipt_rules.specs.Semantics.{Passes}
+use Rattle.ipt_rules.specs.Semantics.{PassesChains}
 use Rattle.ipt_rules.specs.Text.{text_lines}
 use Rattle.net_core.specs.Network.{Network}
 use Rattle.pkt_core.specs.declared.event.Event.{Event}
@@ -29,7 +29,7 @@ pub record AreForwarded (filter_of : Filter) (events : List Event) (count : ℕ)
 pub record AreRunCounts (n : ℕ) (chains : List Chain) (rules events forwarded : ℕ) : Type 0 where
   pub lines : rules ≡ length (text_lines chains)
   pub all : events ≡ length (sample_events n)
-  pub passed : AreForwarded (Passes chains) (sample_events n) forwarded
+  pub passed : AreForwarded (PassesChains chains) (sample_events n) forwarded
 
 -- The numbers of the results for the sample of n hosts.
 pub record AreCounts (n : ℕ) (counts : Counts) : Type 0 where

@@ -1,6 +1,6 @@
 -- The contract of the code that reads rules. No promise of `run` depends on it.
 use Rattle.std.specs.Prelude.{ℕ, List, Result, Ok, Err}
-use Rattle.rules_space.specs.Rules.{Rules as AuditedRules}
+use Rattle.rules_space.specs.Rules.{AnyRules}
 use Rattle.run_core.specs.Replies.{StopsRunAt}
 use Rattle.run_core.specs.Reply.{Reply}
 use Rattle.run_core.specs.Shelf.{ShelfChange}
@@ -8,6 +8,6 @@ use Rattle.run_core.specs.declared.dialect.Dialect.{Dialect}
 use Rattle.run_core.specs.inner.Reads.{MayRead, ReadRules}
 use Rattle.topos_top.specs.FileFormats.{rules}
 
-abbrev pub MayReadRules : Dialect → (file : List ℕ) → ShelfChange → Result AuditedRules Reply → Type 0
+abbrev pub MayReadRules : Dialect → (file : List ℕ) → ShelfChange → Result AnyRules Reply → Type 0
 MayReadRules dialect file shelf (Ok audited) = ReadRules dialect (λ said. MayRead (rules dialect) file shelf (Ok said)) audited
 MayReadRules dialect file shelf (Err given) = StopsRunAt shelf (rules dialect) file given

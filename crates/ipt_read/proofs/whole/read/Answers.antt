@@ -9,28 +9,28 @@ use Rattle.ipt_rules.specs.inner.Writable.{IsWritable}
 use Rattle.ipt_read.specs.declared.fault.IptWhy.{IptWhy}
 use Rattle.ipt_read.proofs.AgainLaws.{text_read_again}
 use Rattle.ipt_read.proofs.FaultLaws.{one_reading, one_fault, no_reading_with_fault}
-use Rattle.ipt_read.specs.TextLines.{rules_text, HasFault, IsReading}
+use Rattle.ipt_read.specs.TextLines.{rules_text, HasFaultInRules, IsReadingOfRules}
 use Rattle.ipt_read.specs.inner.State.{IsFine}
 use Rattle.ipt_read.proofs.FineLaws.{fine_at_first}
 use Rattle.ipt_read.proofs.whole.read.Goals as goal
 
-only : (bytes : List ℕ) (r : Result (List Chain) (TextFault IptWhy)) (chains : List Chain) → IfOk r (IsReading bytes)
-    → IfErr r (HasCause rules_text bytes) → IsReading bytes chains
+only : (bytes : List ℕ) (r : Result (List Chain) (TextFault IptWhy)) (chains : List Chain) → IfOk r (IsReadingOfRules bytes)
+    → IfErr r (HasCause rules_text bytes) → IsReadingOfRules bytes chains
     → MatchResult r (λ rules. rules ≡ chains) (λ fault. fault ≡ Memory)
 only bytes (Ok rules) chains found cause reading = one_reading bytes rules chains found reading
 only bytes (Err (Refused line why)) chains found cause reading = absurd (no_reading_with_fault bytes chains line why cause reading)
 only bytes (Err Memory) chains found cause reading = refl
 
-faulty : (bytes : List ℕ) (r : Result (List Chain) (TextFault IptWhy)) (line : ℕ) (why : IptWhy) → IfOk r (IsReading bytes)
-    → IfErr r (HasCause rules_text bytes) → HasFault bytes line why → MatchResult r (λ rules. ⊥) (IsFault line why)
+faulty : (bytes : List ℕ) (r : Result (List Chain) (TextFault IptWhy)) (line : ℕ) (why : IptWhy) → IfOk r (IsReadingOfRules bytes)
+    → IfErr r (HasCause rules_text bytes) → HasFaultInRules bytes line why → MatchResult r (λ rules. ⊥) (IsFault line why)
 faulty bytes (Ok rules) line why found cause fault = no_reading_with_fault bytes rules line why fault found
 faulty bytes (Err (Refused told reason)) line why found cause fault = one_fault bytes told line reason why cause fault
 faulty bytes (Err Memory) line why found cause fault = tt
 
 written : (bytes : List ℕ) (chains : List Chain) → IsWritable chains → bytes ≡ text chains
-    → length bytes ≤ 67108864 → IsReading bytes chains
+    → length bytes ≤ 67108864 → IsReadingOfRules bytes chains
 written bytes chains fine e short =
-    subst (λ (bs : List ℕ). IsReading bs chains) (sym e)
+    subst (λ (bs : List ℕ). IsReadingOfRules bs chains) (sym e)
     (text_read_again chains fine (subst (λ (bs : List ℕ). length bs ≤ 67108864) e short))
 
 pub read_counted_lines-requires-clause-holds : goal.read_counted_lines-requires-clause-holds

@@ -11,25 +11,25 @@ use Rattle.ofp_rules.specs.Text.{text}
 use Rattle.ofp_read.specs.declared.fault.OfpWhy.{OfpWhy}
 use Rattle.ofp_read.proofs.AgainLaws.{text_read_again}
 use Rattle.ofp_read.proofs.FaultLaws.{flows_settled}
-use Rattle.ofp_read.specs.TextLines.{flows_text, HasFault, IsReading}
+use Rattle.ofp_read.specs.TextLines.{flows_text, HasFaultInFlows, IsReadingOfFlows}
 use Rattle.ofp_read.proofs.whole.read.Goals as goal
 
 abbrev Answer : Type 0
 Answer = Result (List Entry) (TextFault OfpWhy)
 
-found : (bytes : List ℕ) (entries : List Entry) → IsReadToEnd flows_text bytes entries → IsReading bytes entries
+found : (bytes : List ℕ) (entries : List Entry) → IsReadToEnd flows_text bytes entries → IsReadingOfFlows bytes entries
 found bytes entries through = record { short = through.short; told = through.told; ends = tt }
 
-only : (bytes : List ℕ) (r : Answer) (entries : List Entry) → IfOk r (IsReading bytes) → IfErr r (HasCause flows_text bytes)
-    → IsReading bytes entries → MatchResult r (λ table. table ≡ entries) (λ fault. fault ≡ Memory)
+only : (bytes : List ℕ) (r : Answer) (entries : List Entry) → IfOk r (IsReadingOfFlows bytes) → IfErr r (HasCause flows_text bytes)
+    → IsReadingOfFlows bytes entries → MatchResult r (λ table. table ≡ entries) (λ fault. fault ≡ Memory)
 only bytes r entries read cause reading = told_reading flows_text flows_settled (λ (x : List Entry). x) bytes r entries read cause reading
 
-faulty : (bytes : List ℕ) (r : Answer) (line : ℕ) (why : OfpWhy) → IfOk r (IsReading bytes) → IfErr r (HasCause flows_text bytes)
-    → HasFault bytes line why → MatchResult r (λ table. ⊥) (IsFault line why)
+faulty : (bytes : List ℕ) (r : Answer) (line : ℕ) (why : OfpWhy) → IfOk r (IsReadingOfFlows bytes) → IfErr r (HasCause flows_text bytes)
+    → HasFaultInFlows bytes line why → MatchResult r (λ table. ⊥) (IsFault line why)
 faulty bytes r line why read cause fault = told_fault flows_text flows_settled (λ (x : List Entry). x) bytes r line why read cause fault
 
-written : (bytes : List ℕ) (entries : List Entry) → IsTable entries → bytes ≡ text entries → IsReading bytes entries
-written bytes entries table is = subst (λ (bs : List ℕ). IsReading bs entries) (sym is) (text_read_again entries table)
+written : (bytes : List ℕ) (entries : List Entry) → IsTable entries → bytes ≡ text entries → IsReadingOfFlows bytes entries
+written bytes entries table is = subst (λ (bs : List ℕ). IsReadingOfFlows bs entries) (sym is) (text_read_again entries table)
 
 pub returns-in-Ok-read_lines-clause-only : goal.returns-in-Ok-read_lines-clause-only
 returns-in-Ok-read_lines-clause-only c = λ entries reading.

@@ -1,5 +1,5 @@
 use Rattle.std.proofs.Common.{◌≡◌, ℕ, List, inl, refl, subst, sym, true}
-use Rattle.rules_space.specs.Rules.{Rules}
+use Rattle.rules_space.specs.Rules.{AnyRules}
 use Rattle.host_net.specs.Host.{Host}
 use Rattle.query_core.proofs.FlowsLaws.{flows_fit}
 use Rattle.query_top.proofs.FlowsLaws.{are_complete}
@@ -12,7 +12,7 @@ use Rattle.run_core.specs.declared.status.Stream.TheVariants.{Output}
 use Rattle.query_top.proofs.flows.answer.Goals as goal
 
 -- The text with the flows is that of an outcome.
-answers_flows : (hosts : List Host) (rules : Rules) (text : List ℕ) (given : Reply) → IsFlowsAnswer hosts rules text → given ≡ reply_on Done Output text
+answers_flows : (hosts : List Host) (rules : AnyRules) (text : List ℕ) (given : Reply) → IsFlowsAnswer hosts rules text → given ≡ reply_on Done Output text
     → Answers true (flows_outcomes hosts rules) given
 answers_flows hosts rules text given answer is =
     subst (λ (r : Reply). Answers true (flows_outcomes hosts rules) r) (sym is) (refl, inl (refl, tt, answer))

@@ -1,5 +1,5 @@
 use Rattle.std.proofs.Common.{◌≤◌, drop}
-use Rattle.ipt_rules.specs.Semantics.{Passes}
+use Rattle.ipt_rules.specs.Semantics.{PassesChains}
 use Rattle.pkt_core.specs.inner.ConnectionTable.{kept_in}
 use Rattle.sample_core.proofs.RunLemmas.{Leaves}
 use Rattle.sample_core.proofs.run.forwarded.Given as goal
@@ -9,5 +9,5 @@ invariant-loop-place l = record {
   -- At most each packet was forwarded.
   few : l.count ≤ l.place;
   -- The number of forwarded packets among the remaining ones is added.
-  left : Leaves (Passes l.indexed) l.packets (kept_in l.track) (drop l.place l.packets) l.count;
+  left : Leaves (PassesChains l.indexed) l.packets (kept_in l.track) (drop l.place l.packets) l.count;
 }

@@ -4,7 +4,7 @@ use Rattle.std.proofs.lemmas.Result.{IfOk-weaker}
 use Rattle.host_net.specs.declared.packet.Packet.{Packet}
 use Rattle.header_space.specs.Boxes.{IsIn}
 use Rattle.header_space.specs.Owners.{GoesBetween}
-use Rattle.rules_space.specs.Rules.{Rules}
+use Rattle.rules_space.specs.Rules.{AnyRules}
 use Rattle.pass_core.specs.NewPackets.{LetsPass}
 use Rattle.pass_core.specs.Passing.{ArePassing}
 use Rattle.pass_core.proofs.NewServicesLaws.{some_weaker}
@@ -27,7 +27,7 @@ returns-in-Some c =
     let inside : (p : Packet) → GoesBetween from to p → IsIn b p =
     λ p goes. c.box_between-within.ensures.inside p goes.packet (c.hull.ensures.covers p.src goes.src) (c.hull-2.ensures.covers p.dst goes.dst) in
     let agrees : (p : Packet) → IsIn b p → (LetsPass t p ↔ LetsPass q p) =
-    subst (λ (o : Option Rules). IfSome o (λ x. (p : Packet) → IsIn b p → (LetsPass x p ↔ LetsPass q p))) c.in-Some.is c.in_ok-restrict.ensures in
+    subst (λ (o : Option AnyRules). IfSome o (λ x. (p : Packet) → IsIn b p → (LetsPass x p ↔ LetsPass q p))) c.in-Some.is c.in_ok-restrict.ensures in
     IfOk-weaker c.services_within-in-Some.result (λ found. IfSome found (λ ranges. ArePassing (LetsPass t) (GoesBetween from to) ranges.items))
     (λ found. IfSome found (λ ranges. ArePassing (LetsPass q) (GoesBetween from to) ranges.items))
     (λ found is. some_weaker _ _ (λ ranges are. passing_alike (LetsPass t) (LetsPass q) (GoesBetween from to) (GoesBetween from to)

@@ -1,7 +1,7 @@
 use Rattle.std.proofs.Common.{subst, sym}
 use Rattle.std.specs.Prelude.{IfSome}
 use Rattle.std.proofs.lemmas.Result.{IfOk-weaker}
-use Rattle.ipt_rules.specs.Slices.{HaveSameVerdicts as HaveSameChainVerdicts}
+use Rattle.ipt_rules.specs.Slices.{HaveSameChainVerdicts}
 use Rattle.rules_space.specs.declared.rules_ref.RulesRef.{RulesRef}
 use Rattle.rules_space.specs.Rules.{Chains}
 use Rattle.rules_space.specs.Verdicts.{HaveSameVerdicts}
