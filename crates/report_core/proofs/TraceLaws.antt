@@ -11,7 +11,7 @@ use Rattle.ipt_rules.proofs.MeaningLaws.{verdict_once}
 use Rattle.ofp_rules.specs.declared.entry.Entry.{Entry}
 use Rattle.ofp_rules.specs.declared.entry.Frame.TheVariants.{Ipv4}
 use Rattle.ofp_rules.specs.inner.Build.{IsTable}
-use Rattle.ofp_rules.specs.Semantics.{PassesChains as TablePasses}
+use Rattle.ofp_rules.specs.Semantics.{PassesEntries}
 use Rattle.pkt_core.specs.declared.event.Event.{Event}
 use Rattle.pkt_core.specs.declared.event.Event.TheVariants.{Seen, Forget}
 use Rattle.pkt_core.specs.inner.FirewallFor.{AllKnown}
@@ -38,7 +38,7 @@ same_if false true h = cc
 pub chains_answer_once : (chains : List Chain) → AnswersOnce AnyPacket (PassesChains chains)
 chains_answer_once chains state p a b known first second = same_if a b (verdict_once first second)
 
-pub table_answers_once : (entries : List Entry) → IsTable entries → AnswersOnce IsPacket (TablePasses entries)
+pub table_answers_once : (entries : List Entry) → IsTable entries → AnswersOnce IsPacket (PassesEntries entries)
 table_answers_once entries table state p a b known first second =
     let one = table.one_verdict (Ipv4 p) known in
     same_if a b (one.only (verdict_if a) first ∙ sym (one.only (verdict_if b) second))

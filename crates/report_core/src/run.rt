@@ -3,7 +3,7 @@
 
 ghost use Rattle.std.specs.Prelude.{◌∷◌, List, Option, Bool, IfOk};
 ghost use Rattle.ipt_rules.specs.Semantics.{PassesChains};
-ghost use Rattle.ofp_rules.specs.Semantics.{PassesChains as TablePasses};
+ghost use Rattle.ofp_rules.specs.Semantics.{PassesEntries};
 ghost use Rattle.pkt_core.specs.declared.event.Event.{Event as EventOf};
 ghost use Rattle.pkt_core.specs.inner.ConnectionTable.{kept_in};
 ghost use Rattle.pkt_core.specs.Tracking.{Runs, no_connections};
@@ -43,7 +43,7 @@ fn trace_indexed(
 /// Returns the result of the entries for each event, one line per event. A packet is an IPv4 frame,
 /// and its result is independent of the events before it.
 pub fn trace_table(alloc: Global, table: &Table, events: &[Event]) -> Result<Vec<u8>, AllocError>
-    ensures { IfOk result (λ text. IsTrace (TablePasses table.now) events.now text.items) }
+    ensures { IfOk result (λ text. IsTrace (PassesEntries table.now) events.now text.items) }
 {
     let mut text = Vec::new(alloc);
     for (place, event) in events.iter().enumerate() {
@@ -82,8 +82,8 @@ fn answer(
 /// connection table.
 fn table_answer(table: &Table, event: Event) -> Option<bool>
     ensures { (events : List EventOf) (results : List (Option Bool))
-        → Runs (TablePasses table.now) no_connections events results
-        → Runs (TablePasses table.now) no_connections (event ∷ events) (result ∷ results) }
+        → Runs (PassesEntries table.now) no_connections events results
+        → Runs (PassesEntries table.now) no_connections (event ∷ events) (result ∷ results) }
 {
     match event {
         Event::Seen(packet) => Some(table.verdict(&Frame::Ipv4(packet)).is_forward()),

@@ -28,11 +28,11 @@ pub struct HeldRules<'a> {
 }
 
 impl<'a> Model for HeldRules<'a> {
-    ghost use Rattle.rules_space.specs.Rules.{Rules, filter_of};
+    ghost use Rattle.rules_space.specs.Rules.{AnyRules, filter_of};
     ghost use Rattle.rules_space.specs.RulesView.{held_rules};
     ghost use Rattle.rules_space.specs.Verdicts.{GivesOne};
 
-    ghost Value = { Rules };
+    ghost Value = { AnyRules };
 
     ghost view = { λ r. held_rules r.held };
 
