@@ -16,14 +16,14 @@ use Rattle.packet_set.proofs.HasLaws.{has_empty, has_every}
 
 -- ---- numbers of fields
 
-no_higher : (field : Field) (p q : Packet) → IsNoHigher p q → number_of field p ≤ number_of field q
+pub no_higher : (field : Field) (p q : Packet) → IsNoHigher p q → number_of field p ≤ number_of field q
 no_higher Proto p q h = h.proto
 no_higher Dport p q h = h.dport
 no_higher Src p q h = h.src
 no_higher Dst p q h = h.dst
 no_higher Sport p q h = h.sport
 
-self_higher : (p : Packet) → IsNoHigher p p
+pub self_higher : (p : Packet) → IsNoHigher p p
 self_higher p = record { src = omega arith; dst = omega arith; proto = omega arith; sport = omega arith; dport = omega arith }
 
 -- A fellow of a packet of a box, with a service of the box, has no greater numbers than the box.

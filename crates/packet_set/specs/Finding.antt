@@ -1,4 +1,4 @@
--- The search for a packet of a set in a box: its result, and the services for which the result holds.
+-- The search for a packet of a set in a box: its result, and the services for which the result of a search among some services holds.
 use Rattle.std.specs.Prelude.{◌≡◌, ℕ, ◌≤◌, true, false, List, Option, Some, None}
 use Rattle.host_net.specs.declared.packet.Packet.{Packet}
 use Rattle.header_space.specs.declared.packet_box.PacketBox.{PacketBox}
@@ -40,3 +40,8 @@ pub record IsFound (nodes : List Node) (set : ℕ) (b : PacketBox) (f : Found) :
   pub proto_most : f.proto ≤ b.greatest.proto
   pub dport_most : f.dport ≤ b.greatest.dport
   pub packet : IsOneOrNone nodes set b f f.packet
+
+-- The packet is a packet of the box that is in the set. If there is no packet, no packet of the box is in the set.
+abbrev pub IsMember : List Node → ℕ → PacketBox → Option Packet → Type 0
+IsMember nodes set b None = (p : Packet) → IsIn b p → has nodes set p ≡ false
+IsMember nodes set b (Some q) = IsIn b q × (has nodes set q ≡ true)

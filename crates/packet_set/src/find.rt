@@ -72,7 +72,7 @@ fn is_last(within: &PacketBox, field: Field, last: u32) -> bool
 }
 
 /// Returns the packets of a box whose field is at most a number.
-fn up_to(within: &PacketBox, field: Field, last: u32) -> PacketBox
+pub(crate) fn up_to(within: &PacketBox, field: Field, last: u32) -> PacketBox
     requires is_box { IsBox within.now }
     requires some { number_of field within.now.least ≤ last }
     ensures is_box { IsBox result }
@@ -119,14 +119,14 @@ fn after(within: &PacketBox, found: &Found, field: Field, last: u32) -> PacketBo
     part
 }
 
-fn next_address(last: u32, greatest: u32) -> u32
+pub(crate) fn next_address(last: u32, greatest: u32) -> u32
     requires { last < greatest }
     ensures { result ≡ last + 1 }
 {
     last + 1
 }
 
-fn next_port(last: u32, greatest: u16) -> u16
+pub(crate) fn next_port(last: u32, greatest: u16) -> u16
     requires { last < greatest }
     ensures { result ≡ last + 1 }
 {

@@ -7,6 +7,7 @@ mod combine;
 mod diagrams;
 mod field;
 mod find;
+mod member;
 mod node;
 mod ranges;
 mod refusal;
