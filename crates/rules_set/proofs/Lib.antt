@@ -1,3 +1,4 @@
 pub mod EffectLaws
 pub mod KnownLaws
 pub mod PairLaws
+pub mod WalkLaws

@@ -1,3 +1,4 @@
 pub mod Accepting
+pub mod Meeting
 pub mod Pairs
 pub mod inner

@@ -6,7 +6,9 @@ mod accepted;
 mod effect;
 mod header;
 mod known;
+mod met;
 mod pair;
 
 pub use accepted::accepted_by;
+pub use met::{MeetRefusal, MetSet, MetSets, met_by};
 pub use pair::PairSets;
