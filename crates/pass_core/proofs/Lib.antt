@@ -1,6 +1,7 @@
 mod AreaLemmas
 pub mod DeadLemmas
 mod MeetingLemmas
+mod MetSetLemmas
 mod NewPacketsLemmas
 mod NewServicesLaws
 pub mod PairLemmas

@@ -1,11 +1,14 @@
 //! The rules of a rule set that no packet that enters FORWARD meets.
 
-ghost use Rattle.std.specs.Prelude.{◌≡◌, ◌+◌, ◌<◌, length, IfOk};
+ghost use Rattle.std.specs.Prelude.{◌≡◌, ◌+◌, ◌<◌, length, IfOk, OnOk};
+ghost use Rattle.host_net.specs.declared.packet.Packet.{Packet};
+ghost use Rattle.header_space.specs.Boxes.{IsIn, every_packet};
 ghost use Rattle.pass_core.specs.Dead.{AreDead, AreRemovable};
-ghost use Rattle.pass_core.specs.inner.Meeting.{IsUnmarked};
+ghost use Rattle.pass_core.specs.inner.Meeting.{AreMarked, IsUnmarked, MarksMore};
 ghost use Rattle.pass_core.specs.inner.Places.{AreBefore};
 
 use crate::met_rules::MetRules;
+use crate::met_sets::mark_by_sets;
 use header_space::{PacketBox, visit_all};
 use ipt_rules::{INPUT, Marks, OUTPUT, Place, Ruleset};
 use std::alloc::{AllocError, Global};
@@ -17,7 +20,7 @@ use std::alloc::{AllocError, Global};
 /// or of `OUTPUT`. If no jump from `FORWARD` leads to a user chain, all of its rules are dead, even if `INPUT` or
 /// `OUTPUT` uses the chain: its rules may count packets that do not enter `FORWARD`.
 ///
-/// Costs two traversals for each box of packets that the rules distinguish.
+/// Costs two traversals for each box of packets that the rules distinguish, if sets of packets are not used.
 pub fn dead_rules(alloc: Global, rules: &Ruleset) -> Result<Vec<Place>, AllocError>
     ensures dead { IfOk result (λ places. AreDead rules.now places.items) }
     ensures removable { IfOk result (λ places. AreRemovable rules.now places.items) }
@@ -25,9 +28,23 @@ pub fn dead_rules(alloc: Global, rules: &Ruleset) -> Result<Vec<Place>, AllocErr
     // This call establishes that each chain has one outcome for a packet.
     let _count = rules.rules();
     let mut met = MetRules::none(alloc, rules)?;
-    visit_all(alloc, &mut met, PacketBox::every())?;
+    mark_met(alloc, &mut met)?;
     let places = unmarked(alloc, rules, met.marks())?;
     Ok(places)
+}
+
+/// Marks all rules that packets meet: by sets of packets, or by a search if there are too many rules or the sets are too
+/// large.
+fn mark_met(alloc: Global, met: &mut MetRules<'_>) -> Result<(), AllocError>
+    ensures more { OnOk result (MarksMore every_packet met.old met.new) }
+    ensures known { OnOk result ((p : Packet) → IsIn every_packet p → AreMarked met.new p) }
+{
+    let all = mark_by_sets(alloc, met)?;
+    if all {
+        return Ok(());
+    }
+    visit_all(alloc, met, PacketBox::every())?;
+    Ok(())
 }
 
 /// Returns the places of the unmarked rules, in all chains except `INPUT` and `OUTPUT`.

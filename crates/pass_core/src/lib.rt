@@ -7,6 +7,7 @@ mod area;
 mod asked_area;
 mod dead;
 mod met_rules;
+mod met_sets;
 mod new_services;
 mod pair_services;
 mod pair_survey;
@@ -19,7 +20,7 @@ mod survey;
 
 pub use dead::dead_rules;
 pub use new_services::{passing_between, passing_by_pairs};
-pub use pairs::{PairServices, services_by_pairs};
+pub use pairs::{PairServices, hull, services_by_pairs};
 pub use passes_new::PassesNew;
 pub use passing::services_between;
 pub use passing_range::PassingRange;

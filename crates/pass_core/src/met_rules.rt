@@ -41,6 +41,13 @@ impl<'a> MetRules<'a> {
         Ok(MetRules { rules, marks })
     }
 
+    /// Returns the rule set.
+    pub(crate) fn rules(&self) -> &'a Ruleset
+        ensures { result.now ≡ self.now.chains }
+    {
+        self.rules
+    }
+
     /// Returns the marks of the rules.
     pub(crate) fn marks(&self) -> &Marks
         ensures { result.now ≡ self.now.marks }

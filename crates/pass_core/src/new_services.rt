@@ -9,7 +9,9 @@ ghost use Rattle.pass_core.specs.Pairs.{AreListed, AreListedByOwners, AreListedF
 ghost use Rattle.pass_core.specs.Passing.{ArePassing, AreRanges};
 ghost use Rattle.pass_core.specs.inner.Listing.{IsAdded};
 
-use crate::pairs::{PairServices, every_address, hull, services_by_pairs};
+use crate::pairs::{
+    PairServices, every_address, hull, push_pairs as search_pairs, services_by_pairs,
+};
 use crate::passes_new::PassesNew;
 use crate::passing_range::PassingRange;
 use header_space::{AddressRange, Owned, Question, all_owned, box_between};
@@ -17,9 +19,12 @@ use host_net::Hosts;
 use rules_space::RulesRef;
 use std::alloc::{AllocError, Global};
 
-/// The maximum number of owners for which sets of packets are computed. For each pair of more owners most rules
-/// match no packet, and a search passes over these.
+/// The maximum number of owners for which sets of packets are computed by any number of rules.
 const FEW_OWNERS: usize = 8;
+
+/// The maximum product of the number of owners and the number of rules for the packets of one owner, if there are
+/// more owners. A search passes over the rules that match no packet of a pair, and sets of packets do not.
+const WORK_LIMIT: usize = 1 << 15;
 
 /// Returns the services that the rules accept for new connections from one set of addresses to another,
 /// wholly or in part, as ranges in ascending order.
@@ -50,8 +55,8 @@ pub fn passing_by_pairs(
     services_of_owned(alloc, text, &owned)
 }
 
-/// Returns the services that the rules accept for each pair of owners: by sets of packets for chains and few owners,
-/// by a search for more owners or a flow table.
+/// Returns the services that the rules accept for each pair of owners: for chains by sets of packets or by a search, as
+/// the numbers of owners and of rules suggest, for a flow table by a search.
 fn services_of_owned(
     alloc: Global,
     text: &RulesRef<'_>,
@@ -62,14 +67,13 @@ fn services_of_owned(
 {
     let question = PassesNew::whole(text);
     match text {
-        RulesRef::Ipt(_) if owned.len() <= FEW_OWNERS => {
-            new_services_by_pairs(alloc, &question, owned)
-        }
-        _ => services_by_pairs(alloc, &question, owned),
+        RulesRef::Ipt(_) => new_services_by_pairs(alloc, &question, owned),
+        RulesRef::Ofp(_) => services_by_pairs(alloc, &question, owned),
     }
 }
 
-/// Returns the services that pass for each pair of owners, as `services_by_pairs` does, by sets of packets.
+/// Returns the services that pass for each pair of owners, as `services_by_pairs` does, by sets of packets if this is
+/// worth the cost.
 fn new_services_by_pairs(
     alloc: Global,
     question: &PassesNew<'_>,
@@ -99,8 +103,29 @@ fn push_from(
 {
     let within = box_between(hull(&from.ranges), every_address());
     match question.restrict(alloc, &within)? {
-        None => push_pairs(alloc, list, question, from, owned),
-        Some(part) => push_pairs(alloc, list, &part, from, owned),
+        None => push_by_size(alloc, list, question, from, owned),
+        Some(part) => push_by_size(alloc, list, &part, from, owned),
+    }
+}
+
+/// Lists the pairs of one source owner with all destination owners: by sets of packets if there are few owners or few
+/// rules, else by a search.
+fn push_by_size(
+    alloc: Global,
+    list: &mut Vec<PairServices>,
+    question: &PassesNew<'_>,
+    from: &Owned,
+    owned: &[Owned],
+) -> Result<(), AllocError>
+    requires from { HasRanges from.now }
+    requires to { All HasRanges owned.now }
+    ensures { OnOk result (IsAdded (AreListedFrom (LetsPass question.now) owned.now from.now) list.old.items list.new.items) }
+{
+    let work = owned.len().saturating_mul(question.rule_count());
+    if owned.len() <= FEW_OWNERS || work <= WORK_LIMIT {
+        push_pairs(alloc, list, question, from, owned)
+    } else {
+        search_pairs(alloc, list, question, from, owned)
     }
 }
 

@@ -41,7 +41,7 @@ pub(crate) fn services_of_chains(
     requires one { GivesOne (PassesChains chains.now) }
     ensures { IfOk result (λ ranges. IfSome ranges (λ ranges. ArePassing (λ p. PassesChains chains.now New p true) (GoesBetween from.now to.now) ranges.items)) }
 {
-    if !has_few_rules(chains) {
+    if rule_count(chains) > RULE_LIMIT {
         return Ok(None);
     }
     let mut diagrams = Diagrams::new(alloc)?;
@@ -52,13 +52,13 @@ pub(crate) fn services_of_chains(
     }
 }
 
-/// Whether the chains have at most `RULE_LIMIT` rules.
-fn has_few_rules(chains: &ChainsRef<'_>) -> bool {
+/// Returns the number of rules of the chains.
+pub(crate) fn rule_count(chains: &ChainsRef<'_>) -> usize {
     let mut rules: usize = 0;
     for chain in 0..chains.count() {
         rules = rules.saturating_add(chains.rules_in(chain).len());
     }
-    rules <= RULE_LIMIT
+    rules
 }
 
 /// Returns the services that pass, or `None` if a service has no packets.

@@ -60,7 +60,7 @@ fn push_from<Q: Question>(
 }
 
 /// Lists the pairs of one source owner with all destination owners.
-fn push_pairs<Q: Question>(
+pub(crate) fn push_pairs<Q: Question>(
     alloc: Global,
     list: &mut Vec<PairServices>,
     question: &Q,
@@ -173,7 +173,7 @@ fn passes_in<Q: Question>(alloc: Global, question: &Q, area: Area) -> Result<boo
 }
 
 /// Returns a range that contains all of the ranges.
-pub(crate) fn hull(ranges: &[AddressRange]) -> AddressRange
+pub fn hull(ranges: &[AddressRange]) -> AddressRange
     requires { All IsRange ranges.now }
     ensures range { IsRange result }
     ensures covers { (a : ℕ) → LiesInOne ranges.now a → LiesIn result a }

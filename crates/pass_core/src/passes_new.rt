@@ -9,7 +9,7 @@ ghost use Rattle.header_space.specs.Owners.{GoesBetween, IsRange};
 ghost use Rattle.pass_core.specs.NewPackets.{LetsPass};
 ghost use Rattle.pass_core.specs.Passing.{ArePassing, AreRanges};
 
-use crate::pair_services::services_of_chains;
+use crate::pair_services::{rule_count, services_of_chains};
 use crate::pairs::hull;
 use crate::passing::services_between;
 use crate::passing_range::PassingRange;
@@ -45,6 +45,14 @@ impl<'a> PassesNew<'a> {
 }
 
 impl<'a> PassesNew<'a> {
+    /// Returns the number of rules of the chains, or 0 for a flow table.
+    pub(crate) fn rule_count(&self) -> usize {
+        match self.rules.as_chains() {
+            None => 0,
+            Some(chains) => rule_count(&chains),
+        }
+    }
+
     /// Returns the services that the rules accept from one set of addresses to another, as ranges in ascending order:
     /// by sets of packets, or by a search if these need too many nodes.
     pub(crate) fn services(
