@@ -39,7 +39,7 @@ passes_only rules others p b same gives packet is = subst (λ (r : AnyRules). Is
 
 -- ---- places of deciders
 
-verdict_there : (rs : List Rule) (n : ℕ) (o : Option Rule) → slice_get rs n ≡ o → IsSome (option_and_then (λ r. target_verdict r.target) o) → n < length rs
+pub verdict_there : (rs : List Rule) (n : ℕ) (o : Option Rule) → slice_get rs n ≡ o → IsSome (option_and_then (λ r. target_verdict r.target) o) → n < length rs
 verdict_there rs n None is some = cc
 verdict_there rs n (Some r) is some = slice_get_within rs n r is
 

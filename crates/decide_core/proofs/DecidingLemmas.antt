@@ -21,17 +21,17 @@ abbrev pub IsThere : Deciding → Option Place → Type 0
 IsThere x d = IfSome d (λ place. place.rule < length (marks_of x.marks place.chain))
 
 module _ (x : Deciding) where
-  noted_self : (d : Option Place) → IsThere x d → IsTrue (is_noted (noted x d) d)
+  pub noted_self : (d : Option Place) → IsThere x d → IsTrue (is_noted (noted x d) d)
   noted_self None there = refl
   noted_self (Some place) low = marked_if x.marks place low true refl
 
-  noted_kept : (d : Option Place) → IsThere x d → (e : Option Place) → IsTrue (is_noted x e) → IsTrue (is_noted (noted x d) e)
+  pub noted_kept : (d : Option Place) → IsThere x d → (e : Option Place) → IsTrue (is_noted x e) → IsTrue (is_noted (noted x d) e)
   noted_kept None there None on = refl
   noted_kept None there (Some place) on = on
   noted_kept (Some place) low None on = on
   noted_kept (Some place) low (Some other) on = kept_if x.marks place low true other on
 
-  noted_only : (d : Option Place) → IsThere x d → (e : Option Place) → IsTrue (is_noted (noted x d) e) → IsTrue (is_noted x e) ⊎ (e ≡ d)
+  pub noted_only : (d : Option Place) → IsThere x d → (e : Option Place) → IsTrue (is_noted (noted x d) e) → IsTrue (is_noted x e) ⊎ (e ≡ d)
   noted_only None there None on = inr refl
   noted_only None there (Some place) on = inl on
   noted_only (Some place) low None on = inl on
@@ -40,11 +40,11 @@ module _ (x : Deciding) where
     | inr same ↦ inr (ap (λ (q : Place). Some q) same.0)
   ]
 
-  same_rules : (d : Option Place) → (noted x d).rules ≡ x.rules
+  pub same_rules : (d : Option Place) → (noted x d).rules ≡ x.rules
   same_rules None = refl
   same_rules (Some place) = refl
 
-  same_passing : (d : Option Place) → (noted x d).passing ≡ x.passing
+  pub same_passing : (d : Option Place) → (noted x d).passing ≡ x.passing
   same_passing None = refl
   same_passing (Some place) = refl
 
@@ -76,12 +76,12 @@ module _ (x : Deciding) where
 
 -- ---- boxes
 
-in_whole : (boxes : List PacketBox) (i : ℕ) (d : PacketBox) (p : Packet) → i < length boxes → IsIn (get_or boxes i d) p → IsInOne boxes p
+pub in_whole : (boxes : List PacketBox) (i : ℕ) (d : PacketBox) (p : Packet) → i < length boxes → IsIn (get_or boxes i d) p → IsInOne boxes p
 in_whole [] i d p low inside = absurd (omega (arith, low))
 in_whole (x ∷ boxes) zero d p low inside = inl inside
 in_whole (x ∷ boxes) (suc i) d p low inside = inr (in_whole boxes i d p (omega (arith, low)) inside)
 
-in_more : (boxes : List PacketBox) (i : ℕ) (d : PacketBox) (p : Packet) → i < length boxes → IsInOne (take (i + 1) boxes) p
+pub in_more : (boxes : List PacketBox) (i : ℕ) (d : PacketBox) (p : Packet) → i < length boxes → IsInOne (take (i + 1) boxes) p
     → IsInOne (take i boxes) p ⊎ IsIn (get_or boxes i d) p
 in_more boxes i d p low inside =
     in_either (take i boxes) (get_or boxes i d) p (subst (λ (bs : List PacketBox). IsInOne bs p) (take_more boxes i d low) inside)

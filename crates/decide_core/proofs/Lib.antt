@@ -3,5 +3,6 @@ mod DeadLemmas
 mod DecidingLemmas
 mod FlowLemmas
 mod MarkedLemmas
+mod PairSetLemmas
 mod RemovalLaws
 mod ServiceLemmas

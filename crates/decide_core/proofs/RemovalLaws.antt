@@ -1,6 +1,5 @@
 -- Dead entries of a flow table are removable: without them each IPv4 packet has the same verdict.
-use Rattle.std.proofs.Common.{◌≡◌, ◌⊎◌, inl, inr, ℕ, zero, suc, ◌+◌, ◌<◌, ◌≤◌, ◌∙◌, Bool, true, false, ◌==◌, ◌&&◌, ◌||◌, ◌≢◌, if◌then◌else◌, IsTrue, List, [], ◌∷◌, Option, Some, None, length, map, slice_get, refl, sym, ap, subst, arith, add-zero}
-use Rattle.std.specs.Prelude.{◌↔◌}
+use Rattle.std.proofs.Common.{◌≡◌, ◌⊎◌, inl, inr, ℕ, zero, suc, ◌+◌, ◌<◌, ◌≤◌, ◌∙◌, Bool, true, false, ◌==◌, ◌&&◌, ◌||◌, ◌≢◌, if◌then◌else◌, IsTrue, List, [], ◌∷◌, Option, Some, None, map, slice_get, refl, sym, ap, arith, add-zero}
 use Rattle.std.specs.List.{Contains}
 use Rattle.std.proofs.lemmas.Bool.{false_from_ne_true}
 use Rattle.std.proofs.lemmas.Bool.Decides.{nat_tests}

@@ -1,6 +1,6 @@
 //! The rules that decide packets, marked box by box.
 
-ghost use Rattle.std.specs.Prelude.{◌≡◌, ◌↔◌, ◌<◌, length, Bool, false, IsTrue, IfOk, IfSome, Option};
+ghost use Rattle.std.specs.Prelude.{◌≡◌, ◌↔◌, ◌<◌, length, Bool, false, IsTrue, IfOk, IfSome, None, Option, Some};
 ghost use Rattle.std.specs.List.{All};
 ghost use Rattle.host_net.specs.declared.packet.Packet.{Packet};
 ghost use Rattle.header_space.specs.Boxes.{IsBox, IsIn, Narrows};
@@ -8,8 +8,10 @@ ghost use Rattle.ipt_rules.specs.declared.marks.Place.{Place};
 ghost use Rattle.ipt_rules.specs.Marks.{marks_of};
 ghost use Rattle.rules_space.specs.RulesView.{rules_of};
 ghost use Rattle.decide_core.specs.Deciders.{IsDecider, IsInOne};
+ghost use Rattle.decide_core.specs.inner.Classifying.{HasRule};
 ghost use Rattle.decide_core.specs.inner.Deciding.{Counts, HasNoted, IsKnown, NotesMoreIn, is_noted, noted};
 ghost use Rattle.decide_core.specs.inner.Marked.{AreMarked, unmarked_below};
+ghost use Rattle.decide_core.specs.inner.PairSets.{AddsNotes};
 
 use crate::classifier::Classifier;
 use crate::marked::{marked_places, unmarked_entries};
@@ -131,6 +133,23 @@ impl<'a> Deciding<'a> {
         let decider = self.classifier.decider_within(within);
         self.note(decider);
         decider
+    }
+
+    /// Marks the rule at a place.
+    pub(crate) fn note_place(&mut self, place: Place)
+        requires { HasRule self.old.rules place }
+        ensures { AddsNotes (λ e. e ≡ Some place) self.old self.new }
+    {
+        // The use of this field makes the invariant known.
+        let _classifier = &self.classifier;
+        self.note(Some(place));
+    }
+
+    /// Marks the default.
+    pub(crate) fn note_default(&mut self)
+        ensures { AddsNotes (λ e. e ≡ None) self.old self.new }
+    {
+        self.note(None);
     }
 
     /// Marks a rule, or the default.

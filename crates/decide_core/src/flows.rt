@@ -1,6 +1,6 @@
 //! The flows that rules let pass: for each pair of owners its services, each with the rules that let it pass.
 
-ghost use Rattle.std.specs.Prelude.{◌≡◌, ◌<◌, IfOk, map};
+ghost use Rattle.std.specs.Prelude.{◌≡◌, ◌<◌, IfOk, IfSome, map};
 ghost use Rattle.std.specs.List.{All};
 ghost use Rattle.header_space.specs.Owners.{IsRange};
 ghost use Rattle.rules_space.specs.RulesView.{rules_of};
@@ -9,9 +9,11 @@ ghost use Rattle.decide_core.specs.Deciders.{AreDeciders};
 ghost use Rattle.decide_core.specs.Flows.{AreFlows, AreFlowsOf, AreFlowsOfEach};
 ghost use Rattle.decide_core.specs.ServiceRanges.{HasServiceBetween};
 ghost use Rattle.decide_core.specs.inner.Flows.{HasServices};
+ghost use Rattle.decide_core.specs.inner.PairSets.{ArePairDeciders};
 
 use crate::between::deciders_between;
 use crate::deciders::Deciders;
+use crate::pair_sets::PairDeciders;
 use header_space::{AddressRange, ranges_of};
 use host_net::Hosts;
 use pass_core::{PairServices, PassingRange, passing_by_pairs};
@@ -99,13 +101,54 @@ fn decide_ranges(
     ensures ranges { IfOk result (λ list. map (λ r. r.range) list.items ≡ ranges.now) }
     ensures deciders { IfOk result (λ list. All (λ r. AreDeciders (rules_of text.now) (HasServiceBetween from.now to.now r.range.low r.range.high) r.deciders) list.items) }
 {
+    let sets = PairDeciders::of(alloc, text, from, to)?;
+    decide_each(alloc, text, from, to, &sets, ranges)
+}
+
+/// Returns the ranges as `decide_ranges` does, by the sets of packets that meet rules, if there are sets.
+fn decide_each(
+    alloc: Global,
+    text: &RulesRef<'_>,
+    from: &[AddressRange],
+    to: &[AddressRange],
+    sets: &Option<PairDeciders>,
+    ranges: &[PassingRange],
+) -> Result<Vec<FlowRange>, AllocError>
+    requires from { All IsRange from.now }
+    requires to { All IsRange to.now }
+    requires sets { IfSome sets.now (ArePairDeciders (rules_of text.now) from.now to.now) }
+    requires services { All (λ r. r.high < service_count) ranges.now }
+    ensures ranges { IfOk result (λ list. map (λ r. r.range) list.items ≡ ranges.now) }
+    ensures deciders { IfOk result (λ list. All (λ r. AreDeciders (rules_of text.now) (HasServiceBetween from.now to.now r.range.low r.range.high) r.deciders) list.items) }
+{
     let mut list = Vec::new(alloc);
     for range in ranges {
-        let deciders = deciders_between(alloc, text, from, to, range.low, range.high)?;
+        let deciders = decide_range(alloc, text, from, to, sets, range)?;
         list.push(FlowRange {
             range: *range,
             deciders,
         })?;
     }
     Ok(list)
+}
+
+/// Returns the rules that let packets of a range pass: by sets of packets, or by a search if there are no sets.
+fn decide_range(
+    alloc: Global,
+    text: &RulesRef<'_>,
+    from: &[AddressRange],
+    to: &[AddressRange],
+    sets: &Option<PairDeciders>,
+    range: &PassingRange,
+) -> Result<Deciders, AllocError>
+    requires from { All IsRange from.now }
+    requires to { All IsRange to.now }
+    requires sets { IfSome sets.now (ArePairDeciders (rules_of text.now) from.now to.now) }
+    requires services { range.now.high < service_count }
+    ensures { IfOk result (AreDeciders (rules_of text.now) (HasServiceBetween from.now to.now range.now.low range.now.high)) }
+{
+    match sets {
+        Some(sets) => sets.deciders(alloc, text, from, to, range.low, range.high),
+        None => deciders_between(alloc, text, from, to, range.low, range.high),
+    }
 }

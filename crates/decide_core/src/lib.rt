@@ -9,6 +9,7 @@ mod deciders;
 mod deciding;
 mod flows;
 mod marked;
+mod pair_sets;
 mod rule_marks;
 mod ruleset_walk;
 mod service_block;

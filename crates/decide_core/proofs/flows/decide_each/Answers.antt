@@ -6,7 +6,7 @@ use Rattle.decide_core.specs.declared.flows.FlowRange.{FlowRange}
 use Rattle.decide_core.specs.Deciders.{AreDeciders}
 use Rattle.decide_core.specs.ServiceRanges.{HasServiceBetween}
 use Rattle.decide_core.proofs.FlowLemmas.{mapped_more}
-use Rattle.decide_core.proofs.flows.decide_ranges.Goals as goal
+use Rattle.decide_core.proofs.flows.decide_each.Goals as goal
 
 pub loop-range-init : goal.loop-range-init
 loop-range-init c =
@@ -16,8 +16,8 @@ loop-range-init c =
       deciders = rw c.new-list.ensures.items (All-nil Known);
     }
 
-pub deciders_between-requires-clause-services : goal.deciders_between-requires-clause-services
-deciders_between-requires-clause-services c = c.requires.services c.loop-range.range-index _ c.loop-range-test.true
+pub decide_range-requires-clause-services : goal.decide_range-requires-clause-services
+decide_range-requires-clause-services c = c.requires.services c.loop-range.range-index _ c.loop-range-test.true
 
 pub loop-range-preserved : goal.loop-range-preserved
 loop-range-preserved c =

@@ -3,7 +3,7 @@ use Rattle.std.specs.List.{All}
 use Rattle.rules_space.specs.RulesView.{rules_of}
 use Rattle.decide_core.specs.Deciders.{AreDeciders}
 use Rattle.decide_core.specs.ServiceRanges.{HasServiceBetween}
-use Rattle.decide_core.proofs.flows.decide_ranges.Given as goal
+use Rattle.decide_core.proofs.flows.decide_each.Given as goal
 
 abbrev pub invariant-loop-range : goal.invariant-loop-range
 invariant-loop-range l = record {
