@@ -1,0 +1,4 @@
+pub mod Alike
+pub mod ChangesJson
+pub mod Weakening
+pub mod inner

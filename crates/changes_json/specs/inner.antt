@@ -1,0 +1,3 @@
+pub mod Denying
+pub mod Fitting
+pub mod Wanting

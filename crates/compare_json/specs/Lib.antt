@@ -1,0 +1,2 @@
+pub mod CompareJson
+pub mod inner

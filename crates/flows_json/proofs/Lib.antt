@@ -1,0 +1,3 @@
+pub mod AlikeDeadLaws
+pub mod AlikeFlowLaws
+pub mod FlowsLaws

@@ -1,0 +1,7 @@
+//! The answer of `topos-query flows` as JSON: the flows that rules let pass, and the dead rules. Its definition is in
+//! `specs/FlowsJson.antt`.
+#![tactic(auto)]
+
+mod flows;
+
+pub use flows::flows_json;

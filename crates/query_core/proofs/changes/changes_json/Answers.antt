@@ -1,8 +1,0 @@
-use Rattle.std.proofs.Common.{◌++◌, ◌∙◌, List, ℕ, ap}
-use Rattle.query_core.specs.ChangesJson.{changes_json}
-use Rattle.query_core.proofs.changes.changes_json.Goals as goal
-
-pub returns : goal.returns
-returns c =
-    c.in_ok-push_changes.ensures
-    ∙ ap (λ (t : List ℕ). t ++ changes_json c.args.new.now c.args.old.now c.args.changes.now c.args.weakening.now) c.new-text.ensures.items

@@ -1,7 +1,0 @@
-use Rattle.std.proofs.Common.{◌++◌, ◌∙◌, List, ℕ, ap}
-use Rattle.rules_space.specs.RulesView.{rules_of}
-use Rattle.query_core.specs.FlowsJson.{flows_json}
-use Rattle.query_core.proofs.flows.flows_json.Goals as goal
-
-pub returns : goal.returns
-returns c = c.in_ok-push_answer.ensures ∙ ap (λ (t : List ℕ). t ++ flows_json (rules_of c.args.rules.now) c.args.hosts.now c.args.flows.now c.args.dead.now) c.new-text.ensures.items

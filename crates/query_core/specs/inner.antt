@@ -1,4 +1,0 @@
-pub mod Denying
-pub mod Fitting
-pub mod FittingChanges
-pub mod Wanting

@@ -1,0 +1,2 @@
+pub mod AlikeRangeLaws
+pub mod OrderLaws

@@ -1,0 +1,4 @@
+pub mod ExplanationLaws
+mod GapLaws
+pub mod OffenceLaws
+pub mod OneAnswerLaws
