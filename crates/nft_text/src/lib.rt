@@ -7,6 +7,8 @@ mod compare;
 mod element;
 mod line;
 mod pieces;
+mod text;
 
 pub use compare::{is_range_text, is_text_of};
 pub use pieces::{PIECE_LIMIT, TextPieces};
+pub use text::text_of;
