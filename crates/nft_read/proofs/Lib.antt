@@ -5,5 +5,5 @@ mod PieceLaws
 mod ShapeLaws
 mod ShapeTests
 mod TableRound
-mod WholeLaws
+pub mod WholeLaws
 mod WordRound

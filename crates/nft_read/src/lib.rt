@@ -5,6 +5,7 @@
 mod fault;
 mod interval;
 mod matches;
+mod ranges;
 mod reader;
 mod rule;
 mod verdict;
@@ -13,4 +14,5 @@ mod words;
 
 pub use fault::{NftFault, NftWhy};
 pub use interval::read_interval;
+pub use ranges::table_ranges;
 pub use whole::{BYTE_LIMIT, read_table};
