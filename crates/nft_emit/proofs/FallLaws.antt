@@ -1,15 +1,12 @@
 -- Rules over the ranges of hosts have the verdict of the owner of an address.
-use Rattle.std.proofs.Common.{◌≡◌, ◌⊎◌, inl, inr, ℕ, ◌+◌, ◌<◌, ◌≤◌, ◌^◌, zero, suc, Bool, false, List, [], ◌∷◌, ◌++◌, Option, Some, None, refl, sym, ap, subst, ◌∙◌, arith}
+use Rattle.std.proofs.Common.{◌≡◌, inl, inr, ℕ, ◌+◌, ◌<◌, ◌≤◌, ◌^◌, zero, suc, Bool, false, List, [], ◌∷◌, ◌++◌, Option, Some, None, refl, sym, ap, subst, ◌∙◌, arith}
 use Rattle.std.specs.Prelude.{slice_get}
 use Rattle.std.specs.List.{flat_map}
 use Rattle.std.specs.declared.vec.Vec.{Vec}
 use Rattle.std.specs.Global.{Global}
-use Rattle.std.proofs.lemmas.Bool.{cases_lt}
 use Rattle.host_net.specs.declared.packet.Packet.{Packet}
 use Rattle.host_net.specs.declared.packet.CtState.{CtState}
 use Rattle.host_net.specs.Host.{Host, owner_of, rest_of}
-use Rattle.header_space.specs.declared.address_range.AddressRange.{AddressRange}
-use Rattle.header_space.specs.Owners.{LiesIn}
 use Rattle.nft_rules.specs.declared.table.Chain.{Chain}
 use Rattle.nft_rules.specs.declared.table.Element.{Element}
 use Rattle.nft_rules.specs.declared.table.End.{End}
@@ -24,65 +21,45 @@ use Rattle.nft_rules.specs.Semantics.Decides.{by_policy}
 use Rattle.nft_emit.specs.declared.cuts.Cut.{Cut}
 use Rattle.nft_emit.specs.inner.Cuts.{AreCuts, AreOwned, IsCut, LieBetween}
 use Rattle.nft_emit.specs.inner.Falls.{Falls, verdict_at, verdict_of, shown, element_if, element_of, map_rules, verdict_rules}
-use Rattle.nft_emit.proofs.EvalLaws.{Ends, Follows, first_decides, decides_first, none_decides}
+use Rattle.nft_rules.proofs.EvalLaws.{Ends, Follows, first_decides, decides_first, none_decides}
+use Rattle.nft_rules.proofs.MapLaws.{leads_some}
 
--- 1. A map leads each address to an element, or nowhere.
-
-lies_or_not : (range : AddressRange) (a : ℕ) → LiesIn range a ⊎ (LiesIn range a → ⊥)
-lies_or_not range a = elim (cases_lt a range.first) [
-  | inl before ↦ inr (λ lies. omega (arith, before, lies.0))
-  | inr later ↦ elim (cases_lt range.last a) [
-    | inl after ↦ inr (λ lies. omega (arith, after, lies.1))
-    | inr within ↦ inl (later, within)
-  ]
-]
-
-more_leads : (e : Element) (es : List Element) (a : ℕ) → LiesIn e.range a ⊎ (LiesIn e.range a → ⊥) → (v : Option Verdict) → Leads es a v
-    → (u : Option Verdict) × Leads (e ∷ es) a u
-more_leads e es a (inl lies) v leads = (Some e.verdict, inl (lies, refl))
-more_leads e es a (inr not_here) None leads = (None, (not_here, leads))
-more_leads e es a (inr not_here) (Some v) leads = (Some v, inr leads)
-
-leads_some : (es : List Element) (a : ℕ) → (v : Option Verdict) × Leads es a v
-leads_some [] a = (None, tt)
-leads_some (e ∷ es) a = let later = leads_some es a in more_leads e es a (lies_or_not e.range a) later.0 later.1
-
--- 2. The verdict of the map, and that of the owner.
+-- 1. The verdict of the map, and that of the owner.
 
 -- The map has the verdict for an address: that of its owner, or none if the rule after the map has the verdict of the owner.
-abbrev IsShown : (behind owned leads : Option Verdict) → Type 0
-IsShown behind owned (Some v) = shown behind owned ≡ Some v
-IsShown behind owned None = owned ≡ behind
+abbrev IsShown : (after owned leads : Option Verdict) → Type 0
+IsShown after owned (Some v) = shown after owned ≡ Some v
+IsShown after owned None = owned ≡ after
 
-none_shown : (behind v : Option Verdict) → shown behind v ≡ None → v ≡ behind
+none_shown : (after v : Option Verdict) → shown after v ≡ None → v ≡ after
 none_shown None None none = refl
 none_shown (Some b) None none = cc
-none_shown behind (Some v) none = cc
+none_shown after (Some v) none = cc
 
-to_owner : (hosts : List Host) (behind : Option Verdict) (verdicts : List (Option Verdict)) (cuts : List Cut) (a : ℕ) (v : Verdict) → AreOwned hosts cuts
-    → LeadsTo (flat_map (element_of behind verdicts) cuts) a v → shown behind (verdict_of verdicts (owner_of hosts a)) ≡ Some v
-to_owner hosts behind verdicts [] a v owned leads = absurd leads
-to_owner hosts behind verdicts (x ∷ xs) a v owned leads =
-    by_verdict (to_owner hosts behind verdicts xs a v owned.1) (shown behind (verdict_at verdicts x.host)) refl leads
+to_owner : (hosts : List Host) (after : Option Verdict) (verdicts : List (Option Verdict)) (cuts : List Cut) (a : ℕ) (v : Verdict) → AreOwned hosts cuts
+    → LeadsTo (flat_map (element_of after verdicts) cuts) a v → shown after (verdict_of verdicts (owner_of hosts a)) ≡ Some v
+to_owner hosts after verdicts [] a v owned leads = absurd leads
+to_owner hosts after verdicts (x ∷ xs) a v owned leads =
+    by_verdict (to_owner hosts after verdicts xs a v owned.1) (shown after (verdict_at verdicts x.host)) refl leads
   where
-    by_verdict : (LeadsTo (flat_map (element_of behind verdicts) xs) a v → shown behind (verdict_of verdicts (owner_of hosts a)) ≡ Some v)
-        → (o : Option Verdict) → shown behind (verdict_at verdicts x.host) ≡ o → LeadsTo (element_if x.range o ++ flat_map (element_of behind verdicts) xs) a v
-        → shown behind (verdict_of verdicts (owner_of hosts a)) ≡ Some v
+    by_verdict : (LeadsTo (flat_map (element_of after verdicts) xs) a v → shown after (verdict_of verdicts (owner_of hosts a)) ≡ Some v)
+        → (o : Option Verdict) → shown after (verdict_at verdicts x.host) ≡ o → LeadsTo (element_if x.range o ++ flat_map (element_of after verdicts) xs) a v
+        → shown after (verdict_of verdicts (owner_of hosts a)) ≡ Some v
     by_verdict more None is leads = more leads
     by_verdict more (Some u) is (inl here) =
-        ap (λ (o : Option ℕ). shown behind (verdict_of verdicts o)) (owned.0 a here.0) ∙ is ∙ ap (λ (w : Verdict). Some w) (sym here.1)
+        ap (λ (o : Option ℕ). shown after (verdict_of verdicts o)) (owned.0 a here.0) ∙ is ∙ ap (λ (w : Verdict). Some w) (sym here.1)
     by_verdict more (Some u) is (inr later) = more later
 
-nowhere_cut : (hosts : List Host) (behind : Option Verdict) (verdicts : List (Option Verdict)) (cuts : List Cut) (a : ℕ) → AreOwned hosts cuts
-    → LeadsNowhere (flat_map (element_of behind verdicts) cuts) a → IsCut cuts a → verdict_of verdicts (owner_of hosts a) ≡ behind
-nowhere_cut hosts behind verdicts [] a owned leads is = absurd is
-nowhere_cut hosts behind verdicts (x ∷ xs) a owned leads is =
-    by_verdict (nowhere_cut hosts behind verdicts xs a owned.1) (shown behind (verdict_at verdicts x.host)) refl leads is
+nowhere_cut : (hosts : List Host) (after : Option Verdict) (verdicts : List (Option Verdict)) (cuts : List Cut) (a : ℕ) → AreOwned hosts cuts
+    → LeadsNowhere (flat_map (element_of after verdicts) cuts) a → IsCut cuts a → verdict_of verdicts (owner_of hosts a) ≡ after
+nowhere_cut hosts after verdicts [] a owned leads is = absurd is
+nowhere_cut hosts after verdicts (x ∷ xs) a owned leads is =
+    by_verdict (nowhere_cut hosts after verdicts xs a owned.1) (shown after (verdict_at verdicts x.host)) refl leads is
   where
-    by_verdict : (LeadsNowhere (flat_map (element_of behind verdicts) xs) a → IsCut xs a → verdict_of verdicts (owner_of hosts a) ≡ behind)
-        → (o : Option Verdict) → shown behind (verdict_at verdicts x.host) ≡ o → LeadsNowhere (element_if x.range o ++ flat_map (element_of behind verdicts) xs) a
-        → IsCut (x ∷ xs) a → verdict_of verdicts (owner_of hosts a) ≡ behind
-    by_verdict more None at leads (inl here) = ap (verdict_of verdicts) (owned.0 a here) ∙ none_shown behind (verdict_at verdicts x.host) at
+    by_verdict : (LeadsNowhere (flat_map (element_of after verdicts) xs) a → IsCut xs a → verdict_of verdicts (owner_of hosts a) ≡ after)
+        → (o : Option Verdict) → shown after (verdict_at verdicts x.host) ≡ o → LeadsNowhere (element_if x.range o ++ flat_map (element_of after verdicts) xs) a
+        → IsCut (x ∷ xs) a → verdict_of verdicts (owner_of hosts a) ≡ after
+    by_verdict more None at leads (inl here) = ap (verdict_of verdicts) (owned.0 a here) ∙ none_shown after (verdict_at verdicts x.host) at
     by_verdict more None at leads (inr later) = more leads later
     by_verdict more (Some u) at leads (inl here) = absurd (leads.0 here)
     by_verdict more (Some u) at leads (inr later) = more leads.1 later
@@ -98,29 +75,29 @@ leads_owner hosts verdicts cuts a (Some v) are low leads = to_owner hosts (verdi
 
 -- 3. The rule after the map.
 
-behind_only : (chains : List Chain) (state : CtState) (packet : Packet) (behind : Option Verdict) (passes : Bool)
-    → Decides chains state packet (verdict_rules behind) passes → Ends chains state packet behind passes
-behind_only chains state packet None passes decides = decides
-behind_only chains state packet (Some v) passes decides =
+after_only : (chains : List Chain) (state : CtState) (packet : Packet) (after : Option Verdict) (passes : Bool)
+    → Decides chains state packet (verdict_rules after) passes → Ends chains state packet after passes
+after_only chains state packet None passes decides = decides
+after_only chains state packet (Some v) passes decides =
     let first = first_decides chains state packet (Match (record { established = false; service = None; verdict = v })) [] passes decides in
     subst (λ (o : Option Verdict). Follows chains state packet [] o passes) first.1 first.2
 
-behind_given : (chains : List Chain) (state : CtState) (packet : Packet) (behind : Option Verdict) (passes : Bool)
-    → Ends chains state packet behind passes → Decides chains state packet (verdict_rules behind) passes
-behind_given chains state packet None passes ends = ends
-behind_given chains state packet (Some v) passes ends =
+after_given : (chains : List Chain) (state : CtState) (packet : Packet) (after : Option Verdict) (passes : Bool)
+    → Ends chains state packet after passes → Decides chains state packet (verdict_rules after) passes
+after_given chains state packet None passes ends = ends
+after_given chains state packet (Some v) passes ends =
     decides_first chains state packet (Match (record { established = false; service = None; verdict = v })) [] passes (Some v) refl ends
 
 -- 4. Both together.
 
-shown_only : (chains : List Chain) (state : CtState) (packet : Packet) (behind owned v : Option Verdict) (passes : Bool) → IsShown behind owned v
-    → Follows chains state packet (verdict_rules behind) v passes → Ends chains state packet owned passes
-shown_only chains state packet behind owned None passes is follows =
-    subst (λ (o : Option Verdict). Ends chains state packet o passes) (sym is) (behind_only chains state packet behind passes follows)
-shown_only chains state packet behind (Some u) (Some v) passes is follows =
+shown_only : (chains : List Chain) (state : CtState) (packet : Packet) (after owned v : Option Verdict) (passes : Bool) → IsShown after owned v
+    → Follows chains state packet (verdict_rules after) v passes → Ends chains state packet owned passes
+shown_only chains state packet after owned None passes is follows =
+    subst (λ (o : Option Verdict). Ends chains state packet o passes) (sym is) (after_only chains state packet after passes follows)
+shown_only chains state packet after (Some u) (Some v) passes is follows =
     let same : u ≡ v = cc in ended (sym same)
   where
-    same_follows : (w : Verdict) → Follows chains state packet (verdict_rules behind) (Some w) passes → Ends chains state packet (Some w) passes
+    same_follows : (w : Verdict) → Follows chains state packet (verdict_rules after) (Some w) passes → Ends chains state packet (Some w) passes
     same_follows Accept f = f
     same_follows Drop f = f
     same_follows (Goto c) f = f
@@ -133,14 +110,14 @@ shown_only chains state packet (Some b) None (Some Drop) passes is follows =
     subst (Decides chains state packet []) (sym follows) by_policy
 shown_only chains state packet (Some b) None (Some (Goto c)) passes is follows = cc
 
-shown_given : (chains : List Chain) (state : CtState) (packet : Packet) (behind owned v : Option Verdict) (passes : Bool) → IsShown behind owned v
-    → Ends chains state packet owned passes → Follows chains state packet (verdict_rules behind) v passes
-shown_given chains state packet behind owned None passes is ends =
-    behind_given chains state packet behind passes (subst (λ (o : Option Verdict). Ends chains state packet o passes) is ends)
-shown_given chains state packet behind (Some u) (Some v) passes is ends =
+shown_given : (chains : List Chain) (state : CtState) (packet : Packet) (after owned v : Option Verdict) (passes : Bool) → IsShown after owned v
+    → Ends chains state packet owned passes → Follows chains state packet (verdict_rules after) v passes
+shown_given chains state packet after owned None passes is ends =
+    after_given chains state packet after passes (subst (λ (o : Option Verdict). Ends chains state packet o passes) is ends)
+shown_given chains state packet after (Some u) (Some v) passes is ends =
     let same : u ≡ v = cc in followed v (subst (λ (w : Verdict). Ends chains state packet (Some w) passes) same ends)
   where
-    followed : (w : Verdict) → Ends chains state packet (Some w) passes → Follows chains state packet (verdict_rules behind) (Some w) passes
+    followed : (w : Verdict) → Ends chains state packet (Some w) passes → Follows chains state packet (verdict_rules after) (Some w) passes
     followed Accept f = f
     followed Drop f = f
     followed (Goto c) f = f
@@ -149,26 +126,26 @@ shown_given chains state packet (Some b) None (Some Accept) passes is ends = cc
 shown_given chains state packet (Some b) None (Some Drop) passes is ends = none_decides chains state packet passes ends
 shown_given chains state packet (Some b) None (Some (Goto c)) passes is ends = cc
 
-map_only : (chains : List Chain) (state : CtState) (packet : Packet) (end : End) (behind owned : Option Verdict) (vec : Vec Element Global) (passes : Bool)
-    → ((v : Option Verdict) → Leads vec.items (address_at end packet) v → IsShown behind owned v) → (es : List Element) → vec.items ≡ es
-    → Decides chains state packet (map_rules (record { end = end; elements = vec }) es ++ verdict_rules behind) passes → Ends chains state packet owned passes
-map_only chains state packet end behind owned vec passes leads [] is decides =
-    shown_only chains state packet behind owned None passes
+map_only : (chains : List Chain) (state : CtState) (packet : Packet) (end : End) (after owned : Option Verdict) (vec : Vec Element Global) (passes : Bool)
+    → ((v : Option Verdict) → Leads vec.items (address_at end packet) v → IsShown after owned v) → (es : List Element) → vec.items ≡ es
+    → Decides chains state packet (map_rules (record { end = end; elements = vec }) es ++ verdict_rules after) passes → Ends chains state packet owned passes
+map_only chains state packet end after owned vec passes leads [] is decides =
+    shown_only chains state packet after owned None passes
     (leads None (subst (λ (xs : List Element). LeadsNowhere xs (address_at end packet)) (sym is) tt)) decides
-map_only chains state packet end behind owned vec passes leads (e ∷ es) is decides =
-    let first = first_decides chains state packet (Map (record { end = end; elements = vec })) (verdict_rules behind) passes decides in
-    shown_only chains state packet behind owned first.0 passes (leads first.0 first.1) first.2
+map_only chains state packet end after owned vec passes leads (e ∷ es) is decides =
+    let first = first_decides chains state packet (Map (record { end = end; elements = vec })) (verdict_rules after) passes decides in
+    shown_only chains state packet after owned first.0 passes (leads first.0 first.1) first.2
 
-map_given : (chains : List Chain) (state : CtState) (packet : Packet) (end : End) (behind owned : Option Verdict) (vec : Vec Element Global) (passes : Bool)
-    → ((v : Option Verdict) → Leads vec.items (address_at end packet) v → IsShown behind owned v) → (es : List Element) → vec.items ≡ es
-    → Ends chains state packet owned passes → Decides chains state packet (map_rules (record { end = end; elements = vec }) es ++ verdict_rules behind) passes
-map_given chains state packet end behind owned vec passes leads [] is ends =
-    shown_given chains state packet behind owned None passes
+map_given : (chains : List Chain) (state : CtState) (packet : Packet) (end : End) (after owned : Option Verdict) (vec : Vec Element Global) (passes : Bool)
+    → ((v : Option Verdict) → Leads vec.items (address_at end packet) v → IsShown after owned v) → (es : List Element) → vec.items ≡ es
+    → Ends chains state packet owned passes → Decides chains state packet (map_rules (record { end = end; elements = vec }) es ++ verdict_rules after) passes
+map_given chains state packet end after owned vec passes leads [] is ends =
+    shown_given chains state packet after owned None passes
     (leads None (subst (λ (xs : List Element). LeadsNowhere xs (address_at end packet)) (sym is) tt)) ends
-map_given chains state packet end behind owned vec passes leads (e ∷ es) is ends =
+map_given chains state packet end after owned vec passes leads (e ∷ es) is ends =
     let found = leads_some vec.items (address_at end packet) in
-    decides_first chains state packet (Map (record { end = end; elements = vec })) (verdict_rules behind) passes found.0 found.1
-    (shown_given chains state packet behind owned found.0 passes (leads found.0 found.1) ends)
+    decides_first chains state packet (Map (record { end = end; elements = vec })) (verdict_rules after) passes found.0 found.1
+    (shown_given chains state packet after owned found.0 passes (leads found.0 found.1) ends)
 
 pub falls_only : (chains : List Chain) (state : CtState) (packet : Packet) (end : End) (hosts : List Host) (cuts : List Cut) (verdicts : List (Option Verdict)) (rules : List Rule) (passes : Bool)
     → AreCuts hosts cuts → address_at end packet < 2 ^ 32 → Falls end cuts verdicts (rest_of hosts) rules
@@ -193,16 +170,16 @@ ascend_less : (less from : ℕ) (es : List Element) → less ≤ from → Ascend
 ascend_less less from [] low ascend = tt
 ascend_less less from (e ∷ es) low ascend = (omega (arith, low, ascend.0), ascend.1, ascend.2)
 
-map_ascends : (behind : Option Verdict) (verdicts : List (Option Verdict)) (from : ℕ) (cuts : List Cut) (end : ℕ) → LieBetween from cuts end
-    → AscendFrom from (flat_map (element_of behind verdicts) cuts)
-map_ascends behind verdicts from [] end between = tt
-map_ascends behind verdicts from (x ∷ xs) end between =
-    by_verdict (map_ascends behind verdicts (x.range.last + 1) xs end between.2) (shown behind (verdict_at verdicts x.host))
+map_ascends : (after : Option Verdict) (verdicts : List (Option Verdict)) (from : ℕ) (cuts : List Cut) (end : ℕ) → LieBetween from cuts end
+    → AscendFrom from (flat_map (element_of after verdicts) cuts)
+map_ascends after verdicts from [] end between = tt
+map_ascends after verdicts from (x ∷ xs) end between =
+    by_verdict (map_ascends after verdicts (x.range.last + 1) xs end between.2) (shown after (verdict_at verdicts x.host))
   where
-    by_verdict : AscendFrom (x.range.last + 1) (flat_map (element_of behind verdicts) xs) → (o : Option Verdict)
-        → AscendFrom from (element_if x.range o ++ flat_map (element_of behind verdicts) xs)
+    by_verdict : AscendFrom (x.range.last + 1) (flat_map (element_of after verdicts) xs) → (o : Option Verdict)
+        → AscendFrom from (element_if x.range o ++ flat_map (element_of after verdicts) xs)
     by_verdict later None =
-        ascend_less from (x.range.last + 1) (flat_map (element_of behind verdicts) xs) (omega (arith, between.0, between.1)) later
+        ascend_less from (x.range.last + 1) (flat_map (element_of after verdicts) xs) (omega (arith, between.0, between.1)) later
     by_verdict later (Some v) = (between.0, between.1, later)
 
 -- A verdict leads to one of the first n chains, if there is a verdict.
@@ -222,37 +199,37 @@ of_below : (n : ℕ) (verdicts : List (Option Verdict)) → AllLeadBelow n verdi
 of_below n verdicts all None = tt
 of_below n verdicts all (Some j) = at_below n verdicts all j
 
-shown_below : (n : ℕ) (behind v : Option Verdict) → MayLeadBelow n v → MayLeadBelow n (shown behind v)
+shown_below : (n : ℕ) (after v : Option Verdict) → MayLeadBelow n v → MayLeadBelow n (shown after v)
 shown_below n None None below = tt
 shown_below n (Some b) None below = tt
-shown_below n behind (Some v) below = below
+shown_below n after (Some v) below = below
 
-elements_below : (n : ℕ) (behind : Option Verdict) (verdicts : List (Option Verdict)) → AllLeadBelow n verdicts → (cuts : List Cut)
-    → LeadBelow n (flat_map (element_of behind verdicts) cuts)
-elements_below n behind verdicts all [] = tt
-elements_below n behind verdicts all (x ∷ xs) =
-    by_verdict (elements_below n behind verdicts all xs) (shown behind (verdict_at verdicts x.host)) (shown_below n behind (verdict_at verdicts x.host) (at_below n verdicts all x.host))
+elements_below : (n : ℕ) (after : Option Verdict) (verdicts : List (Option Verdict)) → AllLeadBelow n verdicts → (cuts : List Cut)
+    → LeadBelow n (flat_map (element_of after verdicts) cuts)
+elements_below n after verdicts all [] = tt
+elements_below n after verdicts all (x ∷ xs) =
+    by_verdict (elements_below n after verdicts all xs) (shown after (verdict_at verdicts x.host)) (shown_below n after (verdict_at verdicts x.host) (at_below n verdicts all x.host))
   where
-    by_verdict : LeadBelow n (flat_map (element_of behind verdicts) xs) → (o : Option Verdict) → MayLeadBelow n o
-        → LeadBelow n (element_if x.range o ++ flat_map (element_of behind verdicts) xs)
+    by_verdict : LeadBelow n (flat_map (element_of after verdicts) xs) → (o : Option Verdict) → MayLeadBelow n o
+        → LeadBelow n (element_if x.range o ++ flat_map (element_of after verdicts) xs)
     by_verdict later None below = later
     by_verdict later (Some v) below = (below, later)
 
-verdict_loads : (n : ℕ) (behind : Option Verdict) → MayLeadBelow n behind → AreRules n (verdict_rules behind)
+verdict_loads : (n : ℕ) (after : Option Verdict) → MayLeadBelow n after → AreRules n (verdict_rules after)
 verdict_loads n None below = tt
 verdict_loads n (Some v) below = ((refl, below), tt)
 
-map_loads : (n : ℕ) (end : End) (behind : Option Verdict) (vec : Vec Element Global) → AscendFrom 0 vec.items → LeadBelow n vec.items
-    → MayLeadBelow n behind → (es : List Element) → vec.items ≡ es → AreRules n (map_rules (record { end = end; elements = vec }) es ++ verdict_rules behind)
-map_loads n end behind vec ascend below also [] is = verdict_loads n behind also
-map_loads n end behind vec ascend below also (e ∷ es) is = (((λ none. let other : e ∷ es ≡ [] = sym is ∙ none in cc), ascend, below), verdict_loads n behind also)
+map_loads : (n : ℕ) (end : End) (after : Option Verdict) (vec : Vec Element Global) → AscendFrom 0 vec.items → LeadBelow n vec.items
+    → MayLeadBelow n after → (es : List Element) → vec.items ≡ es → AreRules n (map_rules (record { end = end; elements = vec }) es ++ verdict_rules after)
+map_loads n end after vec ascend below also [] is = verdict_loads n after also
+map_loads n end after vec ascend below also (e ∷ es) is = (((λ none. let other : e ∷ es ≡ [] = sym is ∙ none in cc), ascend, below), verdict_loads n after also)
 
 pub falls_load : (n : ℕ) (end : End) (hosts : List Host) (cuts : List Cut) (verdicts : List (Option Verdict)) (rest : Option ℕ) (rules : List Rule) → AreCuts hosts cuts
     → AllLeadBelow n verdicts → Falls end cuts verdicts rest rules → AreRules n rules
 falls_load n end hosts cuts verdicts rest rules are all falls =
-    let behind = verdict_of verdicts rest in
+    let after = verdict_of verdicts rest in
     subst (AreRules n) (sym falls.rules_are)
-    (map_loads n end behind falls.elements
-    (subst (AscendFrom 0) (sym falls.items) (map_ascends behind verdicts 0 cuts (2 ^ 32) are.between))
-    (subst (LeadBelow n) (sym falls.items) (elements_below n behind verdicts all cuts))
+    (map_loads n end after falls.elements
+    (subst (AscendFrom 0) (sym falls.items) (map_ascends after verdicts 0 cuts (2 ^ 32) are.between))
+    (subst (LeadBelow n) (sym falls.items) (elements_below n after verdicts all cuts))
     (of_below n verdicts all rest) falls.elements.items refl)

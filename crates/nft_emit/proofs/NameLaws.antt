@@ -72,8 +72,8 @@ digit_named b digit = rw digit refl
 digits_named : (bs : List ℕ) → all_ascii_digits bs ≡ true → list_all is_name_byte bs ≡ true
 digits_named [] digits = refl
 digits_named (b ∷ bs) digits =
-    let (here, behind) = and_parts (is_ascii_digit b) _ digits in
-    rw (digit_named b here) (digits_named bs behind)
+    let (here, after) = and_parts (is_ascii_digit b) _ digits in
+    rw (digit_named b here) (digits_named bs after)
 
 services_other : (xs : List ℕ) → codes "services_" ++ xs ≡ codes "forward" → ⊥
 services_other xs same = let differ : ◌≡◌ {A = ℕ} 115 102 = ap (λ (bs : List ℕ). get_or bs 0 0) same in omega (arith, differ)

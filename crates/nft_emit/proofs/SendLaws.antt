@@ -32,7 +32,8 @@ use Rattle.nft_emit.specs.inner.Falls.{Falls, verdict_at, verdict_of}
 use Rattle.nft_emit.specs.inner.Links.{Accepts, Fits, accepts, may_send}
 use Rattle.nft_emit.specs.inner.Sending.{AreHeads, RowFits, Sends}
 use Rattle.nft_emit.proofs.BuildLaws.{at_end, extends_push, has_rules_more, pushed_at}
-use Rattle.nft_emit.proofs.EvalLaws.{Ends, accepting_given, accepting_only, none_decides}
+use Rattle.nft_rules.proofs.EvalLaws.{Ends, none_decides}
+use Rattle.nft_emit.proofs.EvalLaws.{accepting_given, accepting_only}
 use Rattle.nft_emit.proofs.FallLaws.{AllLeadBelow, MayLeadBelow, falls_given, falls_only}
 use Rattle.nft_emit.proofs.LinkLaws.{both_accept, both_accepting}
 

@@ -29,7 +29,7 @@ use Rattle.nft_emit.specs.inner.Cuts.{AreCuts}
 use Rattle.nft_emit.specs.inner.Falls.{Falls, verdict_at, verdict_of}
 use Rattle.nft_emit.specs.inner.Sending.{AreHeads}
 use Rattle.nft_emit.proofs.BuildLaws.{built_named}
-use Rattle.nft_emit.proofs.EvalLaws.{Ends, none_decides}
+use Rattle.nft_rules.proofs.EvalLaws.{Ends, none_decides}
 use Rattle.nft_emit.proofs.FallLaws.{falls_given, falls_load, falls_only}
 use Rattle.nft_emit.proofs.SendLaws.{heads_below, sends_given, sends_only, verdict_there}
 

@@ -1,4 +1,4 @@
-//! The rules that find a verdict by the host that owns an address: a verdict map, and behind it the
+//! The rules that find a verdict by the host that owns an address: a verdict map, and after it the
 //! verdict on the rest host.
 
 ghost use Rattle.std.specs.Prelude.{◌≡◌, ◌++◌, IfOk, OnOk};
@@ -20,11 +20,11 @@ pub(crate) fn fall_rules(
 ) -> Result<Vec<Rule>, AllocError>
     ensures { IfOk result (λ rules. Falls end cuts.now verdicts.now rest rules.items) }
 {
-    let behind = verdict_of(verdicts, rest);
-    let elements = elements_of(alloc, cuts, verdicts, behind)?;
+    let after = verdict_of(verdicts, rest);
+    let elements = elements_of(alloc, cuts, verdicts, after)?;
     let mut rules = Vec::new(alloc);
     push_map(&mut rules, VerdictMap { end, elements })?;
-    push_verdict(&mut rules, behind)?;
+    push_verdict(&mut rules, after)?;
     Ok(rules)
 }
 
@@ -55,15 +55,15 @@ fn elements_of(
     alloc: Global,
     cuts: &[Cut],
     verdicts: &[Option<Verdict>],
-    behind: Option<Verdict>,
+    after: Option<Verdict>,
 ) -> Result<Vec<Element>, AllocError>
-    ensures { IfOk result (λ es. es.items ≡ flat_map (element_of behind verdicts.now) cuts.now) }
+    ensures { IfOk result (λ es. es.items ≡ flat_map (element_of after verdicts.now) cuts.now) }
 {
     let mut elements = Vec::new(alloc);
     for cut in cuts {
         push_element(
             &mut elements,
-            shown(behind, verdict_at(verdicts, cut.host)),
+            shown(after, verdict_at(verdicts, cut.host)),
             *cut,
         )?;
     }
@@ -88,10 +88,10 @@ fn push_element(
 
 /// Returns the verdict of an element. A host without a verdict needs an element that drops only if
 /// the rule after the map has a verdict.
-fn shown(behind: Option<Verdict>, verdict: Option<Verdict>) -> Option<Verdict>
-    ensures { result ≡ shown behind verdict }
+fn shown(after: Option<Verdict>, verdict: Option<Verdict>) -> Option<Verdict>
+    ensures { result ≡ shown after verdict }
 {
-    match (verdict, behind) {
+    match (verdict, after) {
         (None, Some(_)) => Some(Verdict::Drop),
         _ => verdict,
     }

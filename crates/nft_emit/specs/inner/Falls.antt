@@ -22,9 +22,9 @@ verdict_at verdicts j = option_and_then (λ v. v) (slice_get verdicts j)
 abbrev pub verdict_of : List (Option Verdict) → Option ℕ → Option Verdict
 verdict_of verdicts owner = option_and_then (verdict_at verdicts) owner
 
--- The verdict of an element, if the rule after the map has the verdict `behind`.
-abbrev pub shown : (behind verdict : Option Verdict) → Option Verdict
-shown behind (Some v) = Some v
+-- The verdict of an element, if the rule after the map has the verdict `after`.
+abbrev pub shown : (after verdict : Option Verdict) → Option Verdict
+shown after (Some v) = Some v
 shown None None = None
 shown (Some b) None = Some Drop
 
@@ -33,7 +33,7 @@ element_if range None = []
 element_if range (Some v) = record { range = range; verdict = v } ∷ []
 
 abbrev pub element_of : Option Verdict → List (Option Verdict) → Cut → List Element
-element_of behind verdicts x = element_if x.range (shown behind (verdict_at verdicts x.host))
+element_of after verdicts x = element_if x.range (shown after (verdict_at verdicts x.host))
 
 -- The rule that maps the elements, if there are any.
 abbrev pub map_rules : VerdictMap → List Element → List Rule
@@ -45,7 +45,7 @@ abbrev pub verdict_rules : Option Verdict → List Rule
 verdict_rules None = []
 verdict_rules (Some v) = Match (record { established = false; service = None; verdict = v }) ∷ []
 
--- A verdict map over the ranges of hosts, and the verdict of the rest host behind it.
+-- A verdict map over the ranges of hosts, and the verdict of the rest host after it.
 pub record Falls (end : End) (cuts : List Cut) (verdicts : List (Option Verdict)) (rest : Option ℕ) (rules : List Rule) : Type 0 where
   pub elements : Vec Element Global
   pub items : elements.items ≡ flat_map (element_of (verdict_of verdicts rest) verdicts) cuts

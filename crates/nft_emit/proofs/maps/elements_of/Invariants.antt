@@ -5,4 +5,4 @@ use Rattle.nft_emit.proofs.maps.elements_of.Given as goal
 
 abbrev pub invariant-loop-cut : goal.invariant-loop-cut
 invariant-loop-cut l =
-    l.elements.items ++ flat_map (element_of l.behind l.verdicts) (drop l.cut-index l.cuts) ≡ flat_map (element_of l.behind l.verdicts) l.cuts
+    l.elements.items ++ flat_map (element_of l.after l.verdicts) (drop l.cut-index l.cuts) ≡ flat_map (element_of l.after l.verdicts) l.cuts

@@ -10,6 +10,6 @@ returns c =
     let map_is = c.in_ok-push_map.ensures ∙ (λ k. c.new-rules.ensures.items k ++ map_rules map map.elements.items) in
     record {
       elements = c.in_ok-elements.elements;
-      items = c.in_ok-elements.ensures ∙ (λ k. flat_map (element_of (c.verdict_of-behind.ensures k) c.args.verdicts.now) c.args.cuts.now);
-      rules_are = c.in_ok-push_verdict.ensures ∙ (λ k. map_is k ++ verdict_rules (c.verdict_of-behind.ensures k));
+      items = c.in_ok-elements.ensures ∙ (λ k. flat_map (element_of (c.verdict_of-after.ensures k) c.args.verdicts.now) c.args.cuts.now);
+      rules_are = c.in_ok-push_verdict.ensures ∙ (λ k. map_is k ++ verdict_rules (c.verdict_of-after.ensures k));
     }
