@@ -7,28 +7,30 @@ use Rattle.host_net.specs.Host.{Host}
 use Rattle.net_core.proofs.PolicyLaws.{policy_is_one}
 use Rattle.net_core.specs.Network.{Network as Described}
 use Rattle.net_core.specs.Policies.{Policy}
-use Rattle.query_core.proofs.AlikeChangeLaws.{changes_are_alike}
-use Rattle.query_core.proofs.AlikeDeadLaws.{dead_are_one}
-use Rattle.query_core.proofs.AlikeFlowLaws.{flows_are_alike}
-use Rattle.query_core.proofs.AlikeWeakeningLaws.{gaps_are_one, weaker_are_alike}
-use Rattle.query_core.specs.Alike.{AreAlikeChanges, AreAlikeFlows}
-use Rattle.query_core.specs.FlowsJson.{flows_json}
-use Rattle.query_core.specs.Weakening.{IsWeakening}
+use Rattle.changes_json.proofs.AlikeChangeLaws.{changes_are_alike}
+use Rattle.flows_json.proofs.AlikeDeadLaws.{dead_are_one}
+use Rattle.flows_json.proofs.AlikeFlowLaws.{flows_are_alike}
+use Rattle.changes_json.proofs.AlikeWeakeningLaws.{gaps_are_one, weaker_are_alike}
+use Rattle.changes_json.specs.Alike.{AreAlikeChanges}
+use Rattle.flows_json.specs.Alike.{AreAlikeFlows}
+use Rattle.flows_json.specs.FlowsJson.{flows_json}
+use Rattle.changes_json.specs.Weakening.{IsWeakening}
 use Rattle.report_core.specs.FlowPolicies.{flow_policy_of}
 use Rattle.rules_space.specs.Rules.{AnyRules}
 use Rattle.run_core.specs.Dialects.{rule_dialect_of}
 use Rattle.run_core.specs.Outcomes.{Answers, stream_of}
 use Rattle.run_core.specs.Replies.{Replies, RepliesTo, observable_shelf}
 use Rattle.run_core.specs.Reply.{Reply}
-use Rattle.run_core.proofs.CommandPlanLaws.{AreRelated, HoldsAtEnds, told_once, told_related}
+use Rattle.run_core.proofs.CommandPlanLaws.{AreRelated, HoldsAtEnds, RefusesOnceOr, StopsRelated, holds_at_formats, stops_related, told_alike, told_related}
 use Rattle.run_core.proofs.FormatLaws.{description_laws}
+use Rattle.run_core.proofs.OutcomesLaws.{AreAlike as AreAlikeOr}
 use Rattle.query_top.proofs.PlainLaws.{plain_laws}
 use Rattle.query_top.specs.Changes.{IsChangesAnswer, changes_outcomes}
 use Rattle.query_top.specs.Command.{Changes, Command, Compare, Flows, Network, Why}
 use Rattle.query_top.specs.Commands.{plan_of, topos_query}
 use Rattle.query_top.specs.Flows.{IsFlowsAnswer, flows_outcomes}
-use Rattle.query_top.specs.Promises.{AreAlike, AreAlikeFor}
-use Rattle.query_top.proofs.CommandLaws.{HasOneAnswer, settled, weaken_or_not}
+use Rattle.query_top.specs.Promises.{AreAlike, AreAlikeFor, LeavesOpen}
+use Rattle.query_top.proofs.CommandLaws.{HasOneAnswer, one_text, rejects_once, weaken_or_not}
 use Rattle.query_top.proofs.ParseLaws.{one_ask}
 
 -- ---- answers to `flows`
@@ -86,10 +88,10 @@ changes_related : (file other : List ℕ) (old new : Described) (r s : Reply) �
     → Answers true (changes_outcomes old new) s → AreAlike (Changes file other) r s
 changes_related file other old new r s (on, inl p) (also, inl q) =
     let status : r.status ≡ s.status = p.0 ∙ sym q.0 in
-    record { status = status; stream = on ∙ ap (stream_of true) status ∙ sym also; texts = inr (changes_texts old new true r.text s.text p.2 q.2) }
+    record { status = status; stream = on ∙ ap (stream_of true) status ∙ sym also; texts = inl (inr (changes_texts old new true r.text s.text p.2 q.2)) }
 changes_related file other old new r s (on, inr (inl p)) (also, inr (inl q)) =
     let status : r.status ≡ s.status = p.0 ∙ sym q.0 in
-    record { status = status; stream = on ∙ ap (stream_of true) status ∙ sym also; texts = inr (changes_texts old new false r.text s.text p.2 q.2) }
+    record { status = status; stream = on ∙ ap (stream_of true) status ∙ sym also; texts = inl (inr (changes_texts old new false r.text s.text p.2 q.2)) }
 changes_related file other old new r s (on, inl p) (also, inr (inl q)) = absurd (weaken_or_not old new r.text s.text p.2 q.2)
 changes_related file other old new r s (on, inr (inl p)) (also, inl q) = absurd (weaken_or_not old new s.text r.text q.2 p.2)
 changes_related file other old new r s (on, inl p) (also, inr (inr q)) = absurd q
@@ -99,25 +101,34 @@ changes_related file other old new r s (on, inr (inr p)) (also, q) = absurd p
 -- ---- replies to a question
 
 itself : (command : Command) (r : Reply) → AreAlike command r r
-itself (Why file from to) r = record { status = refl; stream = refl; texts = refl }
-itself (Network file) r = record { status = refl; stream = refl; texts = refl }
-itself (Flows dialect file rules) r = record { status = refl; stream = refl; texts = inl refl }
-itself (Compare dialect file rules) r = record { status = refl; stream = refl; texts = refl }
-itself (Changes old new) r = record { status = refl; stream = refl; texts = inl refl }
+itself (Why file from to) r = record { status = refl; stream = refl; texts = inl refl }
+itself (Network file) r = record { status = refl; stream = refl; texts = inl refl }
+itself (Flows dialect file rules) r = record { status = refl; stream = refl; texts = inl (inl refl) }
+itself (Compare dialect file rules) r = record { status = refl; stream = refl; texts = inl refl }
+itself (Changes old new) r = record { status = refl; stream = refl; texts = inl (inl refl) }
 
 same_alike : (command : Command) (r s : Reply) → r ≡ s → AreAlike command r s
 same_alike command r s same = subst (AreAlike command r) same (itself command r)
 
+of_alike : (command : Command) (r s : Reply) → AreAlikeOr (LeavesOpen command) r s → AreAlike command r s
+of_alike command r s (inl same) = same_alike command r s (sym same)
+of_alike command r s (inr loose) = record { status = sym loose.1; stream = sym loose.2; texts = inr loose.0 }
+
 -- A question with one answer.
 one_alike : (command : Command) → HasOneAnswer command → (told : Files) (r s : Reply) → Replies true (plan_of command) told r → Replies true (plan_of command) told s
     → AreAlike command r s
-one_alike command any told r s p q = same_alike command r s (told_once true (plan_of command) told r s (settled command any) p q)
+one_alike command any told r s p q =
+    of_alike command r s (told_alike true (LeavesOpen command) (plan_of command) told r s (rejects_once command) (one_text command any) p q)
 
 -- A question of whose answers any two are alike.
 each_alike : (command : Command) → HoldsAtEnds (AreRelated true (AreAlike command)) (plan_of command) → (told : Files) (r s : Reply)
     → Replies true (plan_of command) told r → Replies true (plan_of command) told s → AreAlike command r s
 each_alike command related told r s p q =
-    told_related true (AreAlike command) (same_alike command) (plan_of command) (observable_shelf told) (observable_shelf told) told r s related refl refl p q
+    told_related true (AreAlike command) (plan_of command) (observable_shelf told) (observable_shelf told) told r s
+    (holds_at_formats (RefusesOnceOr (LeavesOpen command)) (StopsRelated (AreAlike command))
+    (λ format once file saw a b one other. of_alike command a b (stops_related (LeavesOpen command) format once file saw a b one other))
+    (plan_of command) (rejects_once command))
+    related refl refl p q
 
 replies_alike : (command : Command) (told : Files) (r s : Reply) → Replies true (plan_of command) told r → Replies true (plan_of command) told s
     → AreAlike command r s
@@ -133,7 +144,7 @@ replies_alike (Flows dialect file rules) told r s p q =
             (λ text also alike status stream here there. record {
               status = status;
               stream = stream;
-              texts = inr (subst (AreAlikeFlows a.text) there (subst (λ (t : List ℕ). AreAlikeFlows t also) here alike));
+              texts = inl (inr (subst (AreAlikeFlows a.text) there (subst (λ (t : List ℕ). AreAlikeFlows t also) here alike)));
             }) one.0 other.0,
       ),
     ) told r s p q

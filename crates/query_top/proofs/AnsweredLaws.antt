@@ -2,12 +2,13 @@
 use Rattle.std.proofs.Common.{◌≡◌, ◌⊎◌, inl, inr, ℕ, List, Option, None, Some, true, false, refl, sym, subst}
 use Rattle.std.specs.Prelude.{IfSome}
 use Rattle.std.specs.FinMap.{get}
-use Rattle.rules_space.specs.Rules.{AnyRules}
-use Rattle.audit_core.specs.Sides.{AreEquivalent, AreSafe}
+use Rattle.rules_space.specs.Rules.{AnyRules, filter_of}
 use Rattle.edge_io.specs.Observable.{Files}
 use Rattle.host_net.specs.Host.{Host}
 use Rattle.net_core.specs.Network.{Network as Described}
-use Rattle.run_core.specs.OfPolicy.{OfSides}
+use Rattle.run_core.specs.OfPolicy.{ForwardsForNetwork, OfSides}
+use Rattle.pkt_core.specs.Firewall.{Filter}
+use Rattle.run_core.specs.Filters.{AreEquivalentFilters}
 use Rattle.run_core.specs.Dialects.{rule_dialect_of}
 use Rattle.run_core.specs.FileFormats.{FileFormat, description}
 use Rattle.query_top.specs.PlainRules.{plain_rules}
@@ -117,9 +118,9 @@ module _ (s : Status) (shelf : ShelfChange) (out err : SinkChange) (second : Fil
     so = other_read on.said on.after on.took.began.told on.next;
   }
 
-compare_done : (out err : SinkChange) (d : Described) (rules : AnyRules) → HoldsAtOutcome status.Done true out err (compare_outcomes d rules)
-    → OfSides d rules (λ sides. AreEquivalent sides × AreSafe sides) × Appends out equal_json
-compare_done out err d rules at = elim at.1 [
+compare_done : (out err : SinkChange) (d : Described) (filter : Filter) (rules : AnyRules) → HoldsAtOutcome status.Done true out err (compare_outcomes d filter rules)
+    → ForwardsForNetwork d filter × Appends out equal_json
+compare_done out err d filter rules at = elim at.1 [
   | inl differ ↦ let other = differ.0.0 in cc other
   | inr rest ↦ elim rest [
     | inl agree ↦ (agree.1.0, subst (λ (text : List ℕ). Appends out text) agree.1.1 at.2.0)
@@ -127,9 +128,9 @@ compare_done out err d rules at = elim at.1 [
   ]
 ]
 
-compare_differs : (out err : SinkChange) (d : Described) (rules : AnyRules) → HoldsAtOutcome status.Violated true out err (compare_outcomes d rules)
-    → Wrote out (λ text. OfSides d rules (λ sides. ReportsDifferences sides text))
-compare_differs out err d rules at = elim at.1 [
+compare_differs : (out err : SinkChange) (d : Described) (filter : Filter) (rules : AnyRules) → HoldsAtOutcome status.Violated true out err (compare_outcomes d filter rules)
+    → Wrote out (λ text. OfSides d rules (λ sides. ReportsDifferences sides text) × AreEquivalentFilters (filter_of rules) filter)
+compare_differs out err d filter rules at = elim at.1 [
   | inl differ ↦ (at.0, at.2.0, differ.1)
   | inr rest ↦ elim rest [
     | inl agree ↦ let other = agree.0.0 in cc other
@@ -174,9 +175,9 @@ answer_kept shelf out err (Flows dialect file rules) came =
     (λ d said. Wrote out (IsFlowsAnswer d.hosts ((rule_dialect_of dialect).audited said)))
     ((λ e. cc e), (λ e. cc e), (λ e. cc e), (λ e. cc e)) (λ d said. flows_done out err d.hosts ((rule_dialect_of dialect).audited said)) came
 answer_kept shelf out err (Compare dialect file rules) came =
-    both_read status.Done shelf out err (plain_rules dialect) (plain_laws dialect) file rules (λ d said. compare_outcomes d ((rule_dialect_of dialect).audited said))
-    (λ d said. OfSides d ((rule_dialect_of dialect).audited said) (λ sides. AreEquivalent sides × AreSafe sides) × Appends out equal_json)
-    ((λ e. cc e), (λ e. cc e), (λ e. cc e), (λ e. cc e)) (λ d said. compare_done out err d ((rule_dialect_of dialect).audited said)) came
+    both_read status.Done shelf out err (plain_rules dialect) (plain_laws dialect) file rules (λ d said. compare_outcomes d ((rule_dialect_of dialect).filter said) ((rule_dialect_of dialect).audited said))
+    (λ d said. ForwardsForNetwork d ((rule_dialect_of dialect).filter said) × Appends out equal_json)
+    ((λ e. cc e), (λ e. cc e), (λ e. cc e), (λ e. cc e)) (λ d said. compare_done out err d ((rule_dialect_of dialect).filter said) ((rule_dialect_of dialect).audited said)) came
 answer_kept shelf out err (Changes old new) came =
     both_read status.Done shelf out err description description_laws old new changes_outcomes (λ before after. Wrote out (IsChangesAnswer before after false))
     ((λ e. cc e), (λ e. cc e), (λ e. cc e), (λ e. cc e)) (λ before after. changes_done out err before after) came
@@ -253,9 +254,10 @@ differences_kept shelf out err (Why file from to) came = never_violated shelf ou
 differences_kept shelf out err (Network file) came = never_violated shelf out err file network_outcomes network_ends came
 differences_kept shelf out err (Flows dialect file rules) came = absurd (never_violated_by_rules shelf out err dialect file rules came)
 differences_kept shelf out err (Compare dialect file rules) came =
-    both_read status.Violated shelf out err (plain_rules dialect) (plain_laws dialect) file rules (λ d said. compare_outcomes d ((rule_dialect_of dialect).audited said))
-    (λ d said. Wrote out (λ text. OfSides d ((rule_dialect_of dialect).audited said) (λ sides. ReportsDifferences sides text)))
-    ((λ e. cc e), (λ e. cc e), (λ e. cc e), (λ e. cc e)) (λ d said. compare_differs out err d ((rule_dialect_of dialect).audited said)) came
+    both_read status.Violated shelf out err (plain_rules dialect) (plain_laws dialect) file rules (λ d said. compare_outcomes d ((rule_dialect_of dialect).filter said) ((rule_dialect_of dialect).audited said))
+    (λ d said. Wrote out (λ text. OfSides d ((rule_dialect_of dialect).audited said) (λ sides. ReportsDifferences sides text)
+    × AreEquivalentFilters (filter_of ((rule_dialect_of dialect).audited said)) ((rule_dialect_of dialect).filter said)))
+    ((λ e. cc e), (λ e. cc e), (λ e. cc e), (λ e. cc e)) (λ d said. compare_differs out err d ((rule_dialect_of dialect).filter said) ((rule_dialect_of dialect).audited said)) came
 differences_kept shelf out err (Changes old new) came =
     both_read status.Violated shelf out err description description_laws old new changes_outcomes (λ before after. Wrote out (IsChangesAnswer before after true))
     ((λ e. cc e), (λ e. cc e), (λ e. cc e), (λ e. cc e)) (λ before after. changes_weaken out err before after) came

@@ -1,24 +1,27 @@
 -- The outcomes of the questions: each has one text, which has what is promised, and no two are reached at once. The texts of `flows` and
 -- `changes` may be several, and each has what is promised.
-use Rattle.std.proofs.Common.{◌≡◌, ℕ, List, true, false, refl, subst}
+use Rattle.std.proofs.Common.{◌≡◌, inl, ℕ, List, true, false, refl, subst}
 use Rattle.net_core.proofs.PolicyLaws.{policy_is_one}
 use Rattle.net_core.specs.Network.{Network as Described}
 use Rattle.net_core.specs.Policies.{Policy}
-use Rattle.query_core.proofs.OneAnswerLaws.{network_is_one}
-use Rattle.query_core.proofs.WeakeningOnceLaws.{weakens_once}
-use Rattle.query_core.specs.Json.{is_nothing}
-use Rattle.query_core.specs.NetworkText.{IsNetworkText}
-use Rattle.query_core.specs.Weakening.{IsWeakening}
-use Rattle.run_core.proofs.CommandPlanLaws.{HoldsAtEnds, holds_at_ends}
-use Rattle.run_core.proofs.FormatLaws.{description_laws}
-use Rattle.run_core.proofs.OutcomesLaws.{AreKept, IsSettled, settled_kept, settled_writes}
+use Rattle.why_json.proofs.OneAnswerLaws.{network_is_one}
+use Rattle.changes_json.proofs.WeakeningOnceLaws.{weakens_once}
+use Rattle.json_core.specs.Json.{is_nothing}
+use Rattle.why_json.specs.NetworkText.{IsNetworkText}
+use Rattle.changes_json.specs.Weakening.{IsWeakening}
+use Rattle.run_core.proofs.CommandPlanLaws.{HoldsAtEnds, HoldsAtFormats, RefusesOnceOr, holds_at_ends}
+use Rattle.run_core.proofs.FormatLaws.{description_laws, same_refusal}
+use Rattle.run_core.proofs.OutcomesLaws.{AreKept, EachOutcome, IsOneOr, IsSettled, one_each, settled_kept, settled_writes}
 use Rattle.query_top.specs.Command.{Command, Changes, Compare, Flows, Network, Why}
 use Rattle.query_top.specs.Changes.{IsChangesAnswer, changes_outcomes}
 use Rattle.query_top.specs.Commands.{plan_of}
 use Rattle.query_top.specs.Network.{IsNetworkAnswer}
 use Rattle.query_top.proofs.CompareLaws.{settled_comparison}
 use Rattle.run_core.specs.Dialects.{rule_dialect_of}
-use Rattle.query_top.proofs.PlainLaws.{plain_laws}
+use Rattle.run_core.specs.Outcomes.{Outcomes}
+use Rattle.run_core.proofs.DialectLaws.{laws_of}
+use Rattle.query_top.specs.Promises.{LeavesOpen}
+use Rattle.query_top.proofs.PlainLaws.{plain_laws, plain_once}
 use Rattle.query_top.specs.Why.{why_outcomes}
 use Rattle.query_top.proofs.WhyLaws.{no_flow_is_one, no_flow_named, why_text_is_one}
 
@@ -65,8 +68,14 @@ kept_changes before after = record {
 pub settled : (command : Command) → HasOneAnswer command → HoldsAtEnds IsSettled (plan_of command)
 settled (Why file from to) any = (description_laws, λ bytes d read. settled_why d from to)
 settled (Network file) any = (description_laws, λ bytes d read. settled_writes _ _ (network_text_is_one d) (λ text is. is))
-settled (Compare dialect file rules) any =
-    (description_laws, λ bytes d read. (plain_laws dialect, λ other said also. settled_comparison d ((rule_dialect_of dialect).audited said)))
+settled (Compare dialect file rules) any = (
+  description_laws,
+  λ bytes d read. (
+    plain_laws dialect,
+    λ other said also. settled_comparison d ((rule_dialect_of dialect).audited said) ((rule_dialect_of dialect).filter said)
+        ((laws_of dialect).audited_alike other said also.0),
+  ),
+)
 settled (Flows dialect file rules) none = absurd none
 settled (Changes old new) none = absurd none
 
@@ -82,3 +91,18 @@ kept (Flows dialect file rules) = (
   λ bytes d read. (plain_laws dialect, λ other said also. record { each = (record { status = refl; guarantees = λ now text is. is }, tt); apart = (tt, tt) }),
 )
 kept (Changes old new) = (description_laws, λ bytes before read. (description_laws, λ other after also. kept_changes before after))
+
+-- The text of an outcome is unique.
+pub one_text : (command : Command) → HasOneAnswer command → HoldsAtEnds (EachOutcome (IsOneOr (LeavesOpen command))) (plan_of command)
+one_text command any =
+    holds_at_ends IsSettled (EachOutcome (IsOneOr (LeavesOpen command))) (λ (outcomes : Outcomes) settled. one_each (LeavesOpen command) outcomes settled.owed)
+    (plan_of command) (settled command any)
+
+pub rejects_once : (command : Command) → HoldsAtFormats (RefusesOnceOr (LeavesOpen command)) (plan_of command)
+rejects_once (Why file from to) = (inl same_refusal, λ bytes d read. tt)
+rejects_once (Network file) = (inl same_refusal, λ bytes d read. tt)
+rejects_once (Flows dialect file rules) =
+    (inl same_refusal, λ bytes d read. (plain_once (LeavesOpen (Flows dialect file rules)) dialect (λ other. other), λ also said parsed. tt))
+rejects_once (Compare dialect file rules) =
+    (inl same_refusal, λ bytes d read. (plain_once (LeavesOpen (Compare dialect file rules)) dialect (λ other. other), λ also said parsed. tt))
+rejects_once (Changes old new) = (inl same_refusal, λ bytes before read. (inl same_refusal, λ other after also. tt))

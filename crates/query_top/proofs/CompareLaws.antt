@@ -13,11 +13,13 @@ use Rattle.audit_core.specs.declared.difference.Difference.{Difference}
 use Rattle.net_core.proofs.PolicyLaws.{IsSubset-stateful}
 use Rattle.net_core.specs.Network.{Network}
 use Rattle.net_core.specs.Policies.{IsPolicyOf, Policy}
-use Rattle.query_core.proofs.CompareLaws.{equal_text}
-use Rattle.query_core.specs.CompareJson.{compare_json}
+use Rattle.compare_json.proofs.CompareLaws.{equal_text}
+use Rattle.compare_json.specs.CompareJson.{compare_json}
+use Rattle.pkt_core.specs.Firewall.{Filter}
+use Rattle.run_core.specs.Filters.{AreEquivalentFilters}
 use Rattle.query_top.specs.Compare.{ReportsDifferences, compare_outcomes, equal_json}
 use Rattle.query_top.specs.inner.Replies.{differences_reply}
-use Rattle.run_core.proofs.OfPolicyLaws.{safe_where_equal, sides_for, sides_moved}
+use Rattle.run_core.proofs.OfPolicyLaws.{forwards_for, sides_for, sides_moved}
 use Rattle.run_core.proofs.OutcomesLaws.{IsSettled}
 use Rattle.run_core.specs.OfPolicy.{OfSides}
 use Rattle.run_core.specs.Outcomes.{Answers}
@@ -41,11 +43,11 @@ module _ (d : Network) (rules : AnyRules) where
   differ_or_agree differ agree =
       no_difference_where_expected (sides_for d rules agree.policy) agree.so (sides_moved d rules DifferSomewhere AreEquivalent differ agree)
 
-  pub settled_comparison : IsSettled (compare_outcomes d rules)
-  settled_comparison = record {
+  pub settled_comparison : (filter : Filter) → AreEquivalentFilters (filter_of rules) filter → IsSettled (compare_outcomes d filter rules)
+  settled_comparison filter alike = record {
     owed = (
-      record { status = refl; one = text_is_one; guarantees = λ now text is. is },
-      (record { status = refl; one = λ a b p q. p ∙ sym q; guarantees = λ now text is. (safe_where_equal d rules now, is) }, tt),
+      record { status = refl; one = text_is_one; guarantees = λ now text is. (is, alike) },
+      (record { status = refl; one = λ a b p q. p ∙ sym q; guarantees = λ now text is. (forwards_for d rules filter alike now, is) }, tt),
     );
     apart = ((differ_or_agree, tt), (tt, tt));
   }
@@ -54,9 +56,9 @@ module _ (d : Network) (rules : AnyRules) where
 
 module _ (d : Network) (rules : AnyRules) (policy : Policy) (is_policy : IsPolicyOf d policy) (gives : GivesOne (filter_of rules)) where
   ends_equal : (reply : Reply) → (DifferSomewhere (sides_for d rules policy) → ⊥) → reply ≡ reply_on Done Output equal_json
-      → Answers true (compare_outcomes d rules) reply
+      → Answers true (compare_outcomes d (filter_of rules) rules) reply
   ends_equal reply none is =
-      subst (λ (r : Reply). Answers true (compare_outcomes d rules) r) (sym is) (
+      subst (λ (r : Reply). Answers true (compare_outcomes d (filter_of rules) rules) r) (sym is) (
         refl,
         inr (inl (
           refl,
@@ -71,9 +73,9 @@ module _ (d : Network) (rules : AnyRules) (policy : Policy) (is_policy : IsPolic
 
   ends_different : (reply : Reply) (ds : List Difference) → AreDifferences (sides_for d rules policy) ds → IsComplete (sides_for d rules policy) ds
       → (ds ≡ [] → ⊥) → DifferSomewhere (sides_for d rules policy) → reply ≡ reply_on Violated Output (compare_json d.hosts ds)
-      → Answers true (compare_outcomes d rules) reply
+      → Answers true (compare_outcomes d (filter_of rules) rules) reply
   ends_different reply ds are complete some differ is =
-      subst (λ (r : Reply). Answers true (compare_outcomes d rules) r) (sym is) (
+      subst (λ (r : Reply). Answers true (compare_outcomes d (filter_of rules) rules) r) (sym is) (
         refl,
         inl (
           refl,
@@ -98,6 +100,6 @@ module _ (d : Network) (rules : AnyRules) (policy : Policy) (is_policy : IsPolic
 
   pub ends_compared : (reply : Reply) (ds : List Difference) → AreDifferences (sides_for d rules policy) ds → IsComplete (sides_for d rules policy) ds
       → ((ds ≡ []) ↔ (DifferSomewhere (sides_for d rules policy) → ⊥)) → reply ≡ differences_reply d.hosts ds
-      → Answers true (compare_outcomes d rules) reply
+      → Answers true (compare_outcomes d (filter_of rules) rules) reply
   ends_compared reply [] are complete exact is = ends_equal reply (exact.0 refl) (is ∙ ap (reply_on Done Output) (equal_text d.hosts))
   ends_compared reply (x ∷ ds) are complete exact is = ends_different reply (x ∷ ds) are complete (some x ds) (differ_first x ds are) is

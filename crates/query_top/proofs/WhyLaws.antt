@@ -7,8 +7,8 @@ use Rattle.host_net.proofs.NamedLaws.{host_named_within}
 use Rattle.net_core.proofs.PolicyLaws.{policy_is_one}
 use Rattle.net_core.specs.Network.{Network}
 use Rattle.net_core.specs.Policies.{Policy}
-use Rattle.query_core.proofs.OneAnswerLaws.{why_is_one}
-use Rattle.query_core.specs.Explanations.{IsExplanation}
+use Rattle.why_json.proofs.OneAnswerLaws.{why_is_one}
+use Rattle.why_json.specs.Explanations.{IsExplanation}
 use Rattle.query_top.specs.Why.{IsFlowNamed, IsNoFlow, IsWhy, IsWhyOf, NoReceiver, NoSender, SameHost, no_flow_line, why_outcomes}
 use Rattle.run_core.specs.Outcomes.{Answers}
 use Rattle.run_core.specs.Reply.{Reply, error}

@@ -5,10 +5,10 @@ use Rattle.change_core.specs.declared.change.Change.{Change}
 use Rattle.net_core.specs.Network.{Network}
 use Rattle.net_core.specs.Policies.{IsPolicyOf, Policy}
 use Rattle.pkt_core.specs.FlowPolicy.{FlowPolicy}
-use Rattle.query_core.specs.Json.{is_nothing}
-use Rattle.query_core.specs.ChangesJson.{changes_json}
-use Rattle.query_core.specs.Weakening.{IsWeakening}
-use Rattle.query_core.specs.declared.weakening.Weakening.{Weakening}
+use Rattle.json_core.specs.Json.{is_nothing}
+use Rattle.changes_json.specs.ChangesJson.{changes_json}
+use Rattle.changes_json.specs.Weakening.{IsWeakening}
+use Rattle.changes_json.specs.declared.weakening.Weakening.{Weakening}
 use Rattle.report_core.specs.FlowPolicies.{flow_policy_of}
 use Rattle.run_core.specs.Outcomes.{Outcome, Outcomes}
 use Rattle.run_core.specs.declared.status.Status.{Status}

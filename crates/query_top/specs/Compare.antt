@@ -2,12 +2,14 @@
 use Rattle.std.specs.Prelude.{◌≡◌, ℕ, List, [], ◌∷◌, codes}
 use Rattle.audit_core.specs.Findings.{DifferSomewhere}
 use Rattle.audit_core.specs.Pairs.{AreDifferences, IsComplete}
-use Rattle.rules_space.specs.Rules.{AnyRules}
-use Rattle.audit_core.specs.Sides.{AreEquivalent, AreSafe, Sides}
+use Rattle.rules_space.specs.Rules.{AnyRules, filter_of}
+use Rattle.audit_core.specs.Sides.{AreEquivalent, Sides}
 use Rattle.audit_core.specs.declared.difference.Difference.{Difference}
 use Rattle.net_core.specs.Network.{Network}
-use Rattle.query_core.specs.CompareJson.{compare_json}
-use Rattle.run_core.specs.OfPolicy.{OfSides}
+use Rattle.compare_json.specs.CompareJson.{compare_json}
+use Rattle.run_core.specs.OfPolicy.{ForwardsForNetwork, OfSides}
+use Rattle.pkt_core.specs.Firewall.{Filter}
+use Rattle.run_core.specs.Filters.{AreEquivalentFilters}
 use Rattle.run_core.specs.Outcomes.{Outcome, Outcomes}
 use Rattle.run_core.specs.declared.status.Status.TheVariants.{Done, Violated}
 
@@ -24,23 +26,26 @@ pub record ReportsDifferences (sides : Sides) (text : List ℕ) : Type 0 where
   pub some : differences ≡ [] → ⊥
   pub written : text ≡ compare_json sides.policy.site.hosts differences
 
--- The rules and the policy differ on some list of packets and forget events: all differences are reported.
-abbrev pub difference : Network → AnyRules → Outcome
-difference d rules = record {
+-- The rules and the policy differ on some list of packets and forget events: all differences are reported. The filter has the same verdicts as
+-- the rules.
+abbrev pub difference : Network → Filter → AnyRules → Outcome
+difference d filter rules = record {
   status = Violated;
   when = OfSides d rules DifferSomewhere;
   is = λ text. OfSides d rules (λ sides. ReportsDifferences sides text);
-  guarantees = λ text. OfSides d rules (λ sides. ReportsDifferences sides text);
+  guarantees = λ text. OfSides d rules (λ sides. ReportsDifferences sides text) × AreEquivalentFilters (filter_of rules) filter;
 }
 
--- The rules forward what the policy and its answers expect: there is no difference. With any connection tracking they forward only that.
-abbrev pub agreement : Network → AnyRules → Outcome
-agreement d rules = record {
+-- The rules forward what the policy and its answers expect: there is no difference. The filter forwards that, too, and with any connection
+-- tracking only that.
+abbrev pub agreement : Network → Filter → AnyRules → Outcome
+agreement d filter rules = record {
   status = Done;
   when = OfSides d rules AreEquivalent;
   is = λ text. text ≡ equal_json;
-  guarantees = λ text. OfSides d rules (λ sides. AreEquivalent sides × AreSafe sides) × (text ≡ equal_json);
+  guarantees = λ text. ForwardsForNetwork d filter × (text ≡ equal_json);
 }
 
-abbrev pub compare_outcomes : Network → AnyRules → Outcomes
-compare_outcomes d rules = difference d rules ∷ (agreement d rules ∷ [])
+-- The outcomes of a comparison of a filter, whose rules in the form of an audit are these.
+abbrev pub compare_outcomes : Network → Filter → AnyRules → Outcomes
+compare_outcomes d filter rules = difference d filter rules ∷ (agreement d filter rules ∷ [])

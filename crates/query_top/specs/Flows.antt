@@ -11,7 +11,7 @@ use Rattle.host_net.specs.Packet.{IsPacket}
 use Rattle.host_net.specs.declared.packet.Packet.{Packet}
 use Rattle.ipt_rules.specs.declared.marks.Place.{Place}
 use Rattle.pass_core.specs.NewPackets.{LetsPass}
-use Rattle.query_core.specs.FlowsJson.{flows_json}
+use Rattle.flows_json.specs.FlowsJson.{flows_json}
 use Rattle.run_core.specs.Outcomes.{Outcomes, writes}
 
 -- The flows have a packet: one of them is of the owners of its addresses, and has a range with its service.

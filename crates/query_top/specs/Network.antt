@@ -2,8 +2,8 @@
 use Rattle.std.specs.Prelude.{ℕ, List}
 use Rattle.net_core.specs.Network.{Network}
 use Rattle.net_core.specs.Policies.{IsPolicyOf, Policy}
-use Rattle.query_core.specs.Gaps.{GapsArePermitted}
-use Rattle.query_core.specs.NetworkText.{IsNetworkText}
+use Rattle.why_json.specs.Gaps.{GapsArePermitted}
+use Rattle.why_json.specs.NetworkText.{IsNetworkText}
 use Rattle.run_core.specs.Outcomes.{Outcomes, writes}
 
 -- The text is the answer by the policy of the network. If the network requested one of the gaps too, it would permit the gap and all flows

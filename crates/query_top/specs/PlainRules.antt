@@ -5,17 +5,19 @@ use Rattle.run_core.specs.Dialects.{rule_dialect_of}
 use Rattle.run_core.specs.FileFormats.{FileFormat, text}
 use Rattle.run_core.specs.TextFault.{ReportsFault}
 use Rattle.run_core.specs.declared.dialect.Dialect.{Dialect}
-use Rattle.run_core.specs.declared.dialect.Dialect.TheVariants.{Iptables, OpenFlow}
+use Rattle.run_core.specs.declared.dialect.Dialect.TheVariants.{Iptables, Nft, OpenFlow}
 
 -- Other programs read the text in the same way.
 abbrev pub IsPlain : Dialect → (bytes : List ℕ) → Type 0
 IsPlain Iptables bytes = IsPlainChains bytes
 IsPlain OpenFlow bytes = Unit {0}
+IsPlain Nft bytes = Unit {0}
 
 -- The line reports the first line of the text that they may read otherwise.
 abbrev pub IsOtherwise : Dialect → (bytes line : List ℕ) → Type 0
 IsOtherwise Iptables bytes line = ReportsFault (codes "rules") name HasPlainFault bytes line
 IsOtherwise OpenFlow bytes line = ⊥
+IsOtherwise Nft bytes line = ⊥
 
 -- Rules of a dialect, from a text that other programs read in the same way.
 abbrev pub plain_rules : Dialect → FileFormat

@@ -1,8 +1,9 @@
 -- What an operator may rely on: the promises that all programs have (`run_core: Promises`), and those of answers. All of them follow from
 -- the one reply of a run.
 use Rattle.std.specs.Prelude.{◌≡◌, ℕ, ◌⊎◌, List, true, false}
-use Rattle.audit_core.specs.Sides.{AreEquivalent, AreSafe}
-use Rattle.run_core.specs.OfPolicy.{OfSides}
+use Rattle.rules_space.specs.Rules.{filter_of}
+use Rattle.run_core.specs.OfPolicy.{ForwardsForNetwork, OfSides}
+use Rattle.run_core.specs.Filters.{AreEquivalentFilters}
 use Rattle.run_core.specs.Dialects.{rule_dialect_of}
 use Rattle.run_core.specs.Promises.{IsCompleteUpTo, WasRead, Wrote}
 use Rattle.run_core.specs.Promises as run
@@ -12,7 +13,9 @@ use Rattle.run_core.specs.SinkChanges.{SinkChange, Appends}
 use Rattle.run_core.specs.FileFormats.{description}
 use Rattle.query_top.specs.PlainRules.{plain_rules}
 use Rattle.run_core.specs.declared.status.Status.{Status}
-use Rattle.query_core.specs.Alike.{AreAlikeChanges, AreAlikeFlows}
+use Rattle.changes_json.specs.Alike.{AreAlikeChanges}
+use Rattle.flows_json.specs.Alike.{AreAlikeFlows}
+use Rattle.run_core.specs.declared.status.Status.TheVariants.{BadText}
 use Rattle.query_top.specs.Command.{Command, ParseAs, ParseAsNothing, Changes, Compare, Flows, Network, Why}
 use Rattle.query_top.specs.Changes.{IsChangesAnswer}
 use Rattle.query_top.specs.Commands.{topos_query}
@@ -38,14 +41,15 @@ AnswersQuestion (Network file) shelf out = WasRead shelf description file (λ d.
 AnswersQuestion (Flows dialect file rules) shelf out = WasRead shelf description file
     (λ d. WasRead shelf (plain_rules dialect) rules (λ said. Wrote out (IsFlowsAnswer d.hosts ((rule_dialect_of dialect).audited said))))
 AnswersQuestion (Compare dialect file rules) shelf out = WasRead shelf description file
-    (λ d. WasRead shelf (plain_rules dialect) rules (λ said. OfSides d ((rule_dialect_of dialect).audited said) (λ sides. AreEquivalent sides × AreSafe sides) × Appends out equal_json))
+    (λ d. WasRead shelf (plain_rules dialect) rules (λ said. ForwardsForNetwork d ((rule_dialect_of dialect).filter said) × Appends out equal_json))
 AnswersQuestion (Changes old new) shelf out = WasRead shelf description old (λ before. WasRead shelf description new (λ after. Wrote out (IsChangesAnswer before after false)))
 
 -- The question is a comparison with differences, or one on changes that weaken a flow, and the answer is on the output: the files, as the run
 -- saw them, describe a network and have rules, or describe two networks, and the answer has all differences, or all changes and weaker flows.
 abbrev pub OutputsDifferences : Command → ShelfChange → (out : SinkChange) → Type 0
 OutputsDifferences (Compare dialect file rules) shelf out = WasRead shelf description file
-    (λ d. WasRead shelf (plain_rules dialect) rules (λ said. Wrote out (λ text. OfSides d ((rule_dialect_of dialect).audited said) (λ sides. ReportsDifferences sides text))))
+    (λ d. WasRead shelf (plain_rules dialect) rules (λ said. Wrote out (λ text. OfSides d ((rule_dialect_of dialect).audited said) (λ sides. ReportsDifferences sides text)
+    × AreEquivalentFilters (filter_of ((rule_dialect_of dialect).audited said)) ((rule_dialect_of dialect).filter said))))
 OutputsDifferences (Changes old new) shelf out = WasRead shelf description old (λ before. WasRead shelf description new (λ after. Wrote out (IsChangesAnswer before after true)))
 OutputsDifferences _ shelf out = ⊥
 
@@ -62,11 +66,18 @@ AreAlikeTexts (Flows dialect file rules) text other = (text ≡ other) ⊎ AreAl
 AreAlikeTexts (Changes old new) text other = (text ≡ other) ⊎ AreAlikeChanges text other
 AreAlikeTexts _ text other = text ≡ other
 
--- Two replies to a question have the same status and the same stream, and texts that are alike.
+-- The text of a reply to the question with this status is not determined: the dialect is not exact, and the text is that of one of the
+-- reasons to reject the rules.
+abbrev pub LeavesOpen : Command → Status → Type 0
+LeavesOpen (Flows dialect file rules) BadText = (rule_dialect_of dialect).IsExact → ⊥
+LeavesOpen (Compare dialect file rules) BadText = (rule_dialect_of dialect).IsExact → ⊥
+LeavesOpen _ _ = ⊥
+
+-- Two replies to a question have the same status and the same stream, and texts that are alike or not determined.
 pub record AreAlike (command : Command) (given other : Reply) : Type 0 where
   pub status : given.status ≡ other.status
   pub stream : given.stream ≡ other.stream
-  pub texts : AreAlikeTexts command given.text other.text
+  pub texts : AreAlikeTexts command given.text other.text ⊎ LeavesOpen command given.status
 
 -- Two replies to words are equal if the words are no question, and otherwise alike for the question.
 abbrev pub AreAlikeFor : List (List ℕ) → (given other : Reply) → Type 0

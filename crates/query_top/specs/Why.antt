@@ -4,9 +4,9 @@ use Rattle.flow_set.specs.declared.flow.Flow.{Flow}
 use Rattle.host_net.specs.Host.{Host, host_named}
 use Rattle.net_core.specs.Network.{Network}
 use Rattle.net_core.specs.Policies.{IsPolicyOf, Policy}
-use Rattle.query_core.specs.Explanations.{HasReasons, IsExplanation, ReasonsHaveFlow}
-use Rattle.query_core.specs.Json.{why_json}
-use Rattle.query_core.specs.declared.explanation.Explanation.{Explanation}
+use Rattle.why_json.specs.Explanations.{HasReasons, IsExplanation, ReasonsHaveFlow}
+use Rattle.why_json.specs.WhyJson.{why_json}
+use Rattle.why_json.specs.declared.explanation.Explanation.{Explanation}
 use Rattle.run_core.specs.Outcomes.{Outcomes, says_why}
 use Rattle.run_core.specs.Reply.{no_host_line, not_emittable}
 use Rattle.run_core.specs.declared.status.Status.TheVariants.{NotEmittable, Done}

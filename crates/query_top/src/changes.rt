@@ -2,8 +2,8 @@
 
 ghost use Rattle.std.specs.Prelude.{◌≡◌, Bool, IfOk, length, not, true, if◌then◌else◌};
 ghost use Rattle.net_core.specs.Policies.{IsPolicyOf};
-ghost use Rattle.query_core.specs.Json.{is_nothing};
-ghost use Rattle.query_core.specs.Weakening.{IsWeakening};
+ghost use Rattle.json_core.specs.Json.{is_nothing};
+ghost use Rattle.changes_json.specs.Weakening.{IsWeakening};
 ghost use Rattle.run_core.specs.CommandPlan.{reads, ends};
 ghost use Rattle.run_core.specs.Outcomes.{Answers};
 ghost use Rattle.run_core.specs.Replies.{IsPossibleReply};
@@ -17,10 +17,10 @@ ghost use Rattle.query_top.specs.Changes.{IsChangesAnswer, changes_outcomes};
 ghost use Rattle.query_top.specs.Commands.{plan_of};
 
 use change_core::changes_between;
+use changes_json::{Weakening, changes_json, weakening_of};
 use desc_core::Description;
 use edge_io::Shelf;
 use net_core::{Policy, policy_of};
-use query_core::{Weakening, changes_json, weakening_of};
 use run_core::{Answer, Text, policy_between, read_description};
 use std::alloc::{AllocError, Global};
 

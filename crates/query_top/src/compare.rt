@@ -1,7 +1,8 @@
 //! `compare DIALECT FILE RULES`: whether rules do what the policy of a network says, for each pair of owners.
 
 ghost use Rattle.std.specs.Prelude.{◌≡◌, All, IfOk, true};
-ghost use Rattle.query_core.specs.inner.Fitting.{FitsDifference};
+ghost use Rattle.compare_json.specs.inner.Fitting.{FitsDifference};
+ghost use Rattle.rules_space.specs.Rules.{filter_of};
 ghost use Rattle.run_core.specs.Dialects.{rule_dialect_of};
 ghost use Rattle.run_core.specs.CommandPlan.{reads, ends};
 ghost use Rattle.run_core.specs.Outcomes.{Answers};
@@ -16,11 +17,11 @@ ghost use Rattle.query_top.specs.inner.Replies.{differences_reply};
 
 use crate::plain_rules::read_plain_rules;
 use audit_core::{Difference, compare_pairs};
+use compare_json::compare_json;
 use desc_core::Description;
 use edge_io::Shelf;
 use host_net::Hosts;
 use net_core::policy_of;
-use query_core::compare_json;
 use run_core::{Answer, Dialect, Rules, Text, policy_between, read_description};
 use std::alloc::{AllocError, Global};
 
@@ -47,7 +48,7 @@ fn reply_for<'a, H: Shelf>(
     rules: &'a str,
     shelf: &mut H,
 ) -> Result<Answer<'a>, Answer<'a>>
-    ensures { IsPossibleReply true (reads (plain_rules dialect) rules.now (λ said. ends (compare_outcomes description.now ((rule_dialect_of dialect).audited said))))
+    ensures { IsPossibleReply true (reads (plain_rules dialect) rules.now (λ said. ends (compare_outcomes description.now ((rule_dialect_of dialect).filter said) ((rule_dialect_of dialect).audited said))))
         (shelf_change H.Shelf shelf.old shelf.new) (reply_in result) }
 {
     let rules = read_plain_rules(alloc, dialect, rules, shelf)?;
@@ -60,7 +61,7 @@ fn answer<'a>(
     description: &Description,
     rules: &Rules,
 ) -> Result<Answer<'a>, AllocError>
-    ensures { IfOk result (λ answer. Answers true (compare_outcomes description.now (rules_view rules.now)) (reply_view answer)) }
+    ensures { IfOk result (λ answer. Answers true (compare_outcomes description.now (filter_of (rules_view rules.now)) (rules_view rules.now)) (reply_view answer)) }
 {
     let rules = rules.audited();
     // The call establishes that the rules have one verdict for each packet in each state.

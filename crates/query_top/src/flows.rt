@@ -15,8 +15,8 @@ ghost use Rattle.query_top.specs.Flows.{flows_outcomes};
 use crate::plain_rules::read_plain_rules;
 use decide_core::{dead_places, flows_by_pairs};
 use edge_io::Shelf;
+use flows_json::flows_json;
 use host_net::Hosts;
-use query_core::flows_json;
 use run_core::{Answer, Dialect, Rules, Text, read_description};
 use std::alloc::{AllocError, Global};
 

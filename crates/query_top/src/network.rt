@@ -12,9 +12,9 @@ ghost use Rattle.query_top.specs.Network.{IsNetworkAnswer, network_outcomes};
 use desc_core::Description;
 use edge_io::Shelf;
 use net_core::policy_of;
-use query_core::network_json;
 use run_core::{Answer, Text, read_description};
 use std::alloc::{AllocError, Global};
+use why_json::network_json;
 
 /// Returns the answer for the network that the file describes.
 pub fn reply<'a, H: Shelf>(

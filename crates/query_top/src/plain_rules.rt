@@ -2,7 +2,7 @@
 
 ghost use Rattle.std.specs.Prelude.{Ok};
 ghost use Rattle.run_core.specs.Shelf.{shelf_change};
-ghost use Rattle.run_core.specs.declared.dialect.Dialect.TheVariants.{Iptables, OpenFlow};
+ghost use Rattle.run_core.specs.declared.dialect.Dialect.TheVariants.{Iptables, Nft, OpenFlow};
 ghost use Rattle.run_core.specs.inner.DialectCalls.{IsRead};
 ghost use Rattle.run_core.specs.inner.Views.{rules_outcome};
 ghost use Rattle.query_top.specs.inner.Reads.{IsReadPlainly, MayReadPlainRules};
@@ -56,6 +56,7 @@ fn read_plain(dialect: Dialect, alloc: Global, bytes: &[u8]) -> Result<Rules, Ru
     match dialect {
         Dialect::Iptables => read_chains(alloc, bytes),
         Dialect::OpenFlow => read_flows(alloc, bytes),
+        Dialect::Nft => read_table(alloc, bytes),
     }
 }
 
@@ -74,6 +75,16 @@ fn read_flows(alloc: Global, bytes: &[u8]) -> Result<Rules, RulesFault>
     ensures { IsReadPlainly OpenFlow bytes.now result }
 {
     match Dialect::OpenFlow.read(alloc, bytes) {
+        Ok(rules) => Ok(rules),
+        Err(fault) => Err(fault),
+    }
+}
+
+/// Parses a table of nftables. nft reads a text that it prints in the same way.
+fn read_table(alloc: Global, bytes: &[u8]) -> Result<Rules, RulesFault>
+    ensures { IsReadPlainly Nft bytes.now result }
+{
+    match Dialect::Nft.read(alloc, bytes) {
         Ok(rules) => Ok(rules),
         Err(fault) => Err(fault),
     }

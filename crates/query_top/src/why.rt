@@ -14,9 +14,9 @@ use desc_core::Description;
 use edge_io::Shelf;
 use flow_set::Flow;
 use net_core::policy_of;
-use query_core::{explain, why_json};
 use run_core::{Answer, Text, no_host_line, read_description};
 use std::alloc::{AllocError, Global};
+use why_json::{explain, why_json};
 
 /// Returns the answer for the flow between the hosts of these names, in the network that the file describes.
 pub fn reply<'a, H: Shelf>(

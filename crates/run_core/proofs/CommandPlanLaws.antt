@@ -1,5 +1,5 @@
 -- Properties along a plan: one lemma for a file, one for the outcomes.
-use Rattle.std.proofs.Common.{◌≡◌, ◌≤◌, ◌⊎◌, inl, inr, ℕ, ◌+◌, ◌^◌, ◌-◌, min, arith, List, Option, None, Some, Bool, Ok, Err, refl, sym, subst, ◌∙◌}
+use Rattle.std.proofs.Common.{◌≡◌, ◌≤◌, ◌⊎◌, ap, inl, inr, ℕ, ◌+◌, ◌^◌, ◌-◌, min, arith, List, Option, None, Some, Bool, Ok, Err, refl, sym, subst, ◌∙◌}
 use Rattle.std.specs.Prelude.{IfOk, IfSome, Result}
 use Rattle.std.specs.FinMap.{get}
 use Rattle.std.specs.declared.alloc.AllocError.{AllocError}
@@ -15,8 +15,9 @@ use Rattle.run_core.specs.inner.OutcomesReplies.{outcomes_reply}
 use Rattle.run_core.specs.inner.Views.{reply_view}
 use Rattle.run_core.specs.declared.answer.Answer.{Answer}
 use Rattle.run_core.specs.FileFormats.{FileFormat}
-use Rattle.run_core.proofs.OutcomesLaws.{AreApart, IsSettled, answers_first, answers_once}
-use Rattle.run_core.proofs.FormatLaws.{IsLawfulFormat}
+use Rattle.run_core.specs.declared.status.Status.{Status}
+use Rattle.run_core.proofs.OutcomesLaws.{AreAlike, AreApart, EachOutcome, IsOneOr, answers_alike, answers_first}
+use Rattle.run_core.proofs.FormatLaws.{IsLawfulFormat, RefusesOnce}
 
 -- ---- the steps of the code
 
@@ -166,11 +167,18 @@ given_as_told only on (ends outcomes) before after other files given owed told a
 given_as_told only on (ends outcomes) before after other files given owed told also no_fault (same, inr answers) =
     inr (answers, answers_first outcomes owed given answers.1)
 
--- A file that stops a run has exactly one reply, and is not accepted.
-pub stops_once : (format : FileFormat) → IsLawfulFormat format → (file : List ℕ) (saw : Option (List ℕ)) (r s : Reply) → Stops format file saw r → Stops format file saw s → r ≡ s
-stops_once format laws file None r s p q = p ∙ sym q
-stops_once format laws file (Some bytes) r s p q =
-    let same = laws.refuses_once bytes p.line q.line p.refuses q.refuses in
+-- Any two replies to a file that stops a run have the same status and the same stream, and if one line rejects bytes, they are equal. Such a
+-- file is not accepted.
+pub stops_alike : (format : FileFormat) (file : List ℕ) (saw : Option (List ℕ)) (r s : Reply) → Stops format file saw r → Stops format file saw s
+    → (r.status ≡ s.status) × (r.stream ≡ s.stream)
+stops_alike format file None r s p q = let same = p ∙ sym q in (ap (λ (x : Reply). x.status) same, ap (λ (x : Reply). x.stream) same)
+stops_alike format file (Some bytes) r s p q =
+    (ap (λ (x : Reply). x.status) p.replied ∙ sym (ap (λ (x : Reply). x.status) q.replied), ap (λ (x : Reply). x.stream) p.replied ∙ sym (ap (λ (x : Reply). x.stream) q.replied))
+
+pub stops_once : (format : FileFormat) → RefusesOnce format → (file : List ℕ) (saw : Option (List ℕ)) (r s : Reply) → Stops format file saw r → Stops format file saw s → r ≡ s
+stops_once format once file None r s p q = p ∙ sym q
+stops_once format once file (Some bytes) r s p q =
+    let same = once bytes p.line q.line p.refuses q.refuses in
     let a = p.replied in
     let b = q.replied in
     cc (same, a, b)
@@ -190,25 +198,55 @@ IsTold on plan shelf files r =
 abbrev pub AreRelated : Bool → (Reply → Reply → Type 0) → Outcomes → Type 0
 AreRelated on R outcomes = (r s : Reply) → Answers on outcomes r × AnswersFirst outcomes r → Answers on outcomes s × AnswersFirst outcomes s → R r s
 
--- Any two replies of the observable files along a plan are related if those of its outcomes are.
-pub told_related : (on : Bool) (R : Reply → Reply → Type 0) → ((r s : Reply) → r ≡ s → R r s) → (plan : CommandPlan) (shelf other : Shelf) (files : Files) (r s : Reply)
-    → HoldsAtEnds (AreRelated on R) plan → shelf.told ≡ Some files → other.told ≡ Some files → IsTold on plan shelf files r → IsTold on plan other files s → R r s
-told_related on R same (reads format file next) shelf other files r s related told also (inl p) (inl q) = same r s (stops_once format related.0 file (get files file) r s p q)
-told_related on R same (reads format file next) shelf other files r s related told also (inl p) (inr q) =
+-- The formats of the files of a plan have a property.
+abbrev pub HoldsAtFormats : (FileFormat → Type 0) → CommandPlan → Type 0
+HoldsAtFormats Holds (reads format file next) =
+    Holds format × ((bytes : List ℕ) (said : format.Said) → format.Reads bytes said → HoldsAtFormats Holds (next said))
+HoldsAtFormats Holds (ends outcomes) = Unit {0}
+
+pub holds_at_formats : (Holds Other : FileFormat → Type 0) → ((format : FileFormat) → Holds format → Other format) → (plan : CommandPlan)
+    → HoldsAtFormats Holds plan → HoldsAtFormats Other plan
+holds_at_formats Holds Other implied (reads format file next) hold =
+    (implied format hold.0, λ bytes said read. holds_at_formats Holds Other implied (next said) (hold.1 bytes said read))
+holds_at_formats Holds Other implied (ends outcomes) hold = tt
+
+-- Any two replies to a file that stops a run are related.
+abbrev pub StopsRelated : (Reply → Reply → Type 0) → FileFormat → Type 0
+StopsRelated R format = (file : List ℕ) (saw : Option (List ℕ)) (r s : Reply) → Stops format file saw r → Stops format file saw s → R r s
+
+-- Any two replies of the observable files along a plan are related if those of its files and of its outcomes are.
+pub told_related : (on : Bool) (R : Reply → Reply → Type 0) (plan : CommandPlan) (shelf other : Shelf) (files : Files) (r s : Reply)
+    → HoldsAtFormats (StopsRelated R) plan → HoldsAtEnds (AreRelated on R) plan → shelf.told ≡ Some files → other.told ≡ Some files
+    → IsTold on plan shelf files r → IsTold on plan other files s → R r s
+told_related on R (reads format file next) shelf other files r s stops related told also (inl p) (inl q) = stops.0 file (get files file) r s p q
+told_related on R (reads format file next) shelf other files r s stops related told also (inl p) (inr q) =
     stops_or_read format related.0 file q.bytes (get files file) r q.said (subst (λ (t : Option Files). IfSome t (λ fs. get fs file ≡ Some q.bytes)) also q.held) p q.read
-told_related on R same (reads format file next) shelf other files r s related told also (inr p) (inl q) =
+told_related on R (reads format file next) shelf other files r s stops related told also (inr p) (inl q) =
     stops_or_read format related.0 file p.bytes (get files file) s p.said (subst (λ (t : Option Files). IfSome t (λ fs. get fs file ≡ Some p.bytes)) told p.held) q p.read
-told_related on R same (reads format file next) shelf other files r s related told also (inr p) (inr q) =
+told_related on R (reads format file next) shelf other files r s stops related told also (inr p) (inr q) =
     let a : get files file ≡ Some p.bytes = subst (λ (t : Option Files). IfSome t (λ fs. get fs file ≡ Some p.bytes)) told p.held in
     let b : get files file ≡ Some q.bytes = subst (λ (t : Option Files). IfSome t (λ fs. get fs file ≡ Some q.bytes)) also q.held in
     let bytes : q.bytes ≡ p.bytes = cc (a, b) in
     let said : q.said ≡ p.said = related.0.reads_once p.bytes q.said p.said (subst (λ (bs : List ℕ). format.Reads bs q.said) bytes q.read) p.read in
-    told_related on R same (next p.said) p.after q.after files r s (related.1 p.bytes p.said p.read) (p.took.began.told ∙ told)
+    told_related on R (next p.said) p.after q.after files r s (stops.1 p.bytes p.said p.read) (related.1 p.bytes p.said p.read) (p.took.began.told ∙ told)
     (q.took.began.told ∙ also) p.next (subst (λ (x : format.Said). IsTold on (next x) q.after files s) said q.next)
-told_related on R same (ends outcomes) shelf other files r s related told also p q = related r s p q
+told_related on R (ends outcomes) shelf other files r s stops related told also p q = related r s p q
 
--- The observable files have one reply along a plan whose outcomes have one text each.
-pub told_once : (on : Bool) (plan : CommandPlan) (files : Files) (r s : Reply) → HoldsAtEnds IsSettled plan → Replies on plan files r → Replies on plan files s → r ≡ s
-told_once on plan files r s settled p q =
-    told_related on (λ (a b : Reply). a ≡ b) (λ (a b : Reply) same. same) plan (observable_shelf files) (observable_shelf files) files r s
-    (holds_at_ends IsSettled (AreRelated on (λ (a b : Reply). a ≡ b)) (λ (outcomes : Outcomes) owed. answers_once on outcomes owed) plan settled) refl refl p q
+-- One line rejects bytes, or the line is left open.
+abbrev pub RefusesOnceOr : (Open : Status → Type 0) → FileFormat → Type 0
+RefusesOnceOr Open format = RefusesOnce format ⊎ Open format.refused_as
+
+pub stops_related : (Open : Status → Type 0) (format : FileFormat) → RefusesOnceOr Open format → StopsRelated (AreAlike Open) format
+stops_related Open format (inl once) file saw r s p q = inl (stops_once format once file saw s r q p)
+stops_related Open format (inr loose) file None r s p q = inl (q ∙ sym p)
+stops_related Open format (inr loose) file (Some bytes) r s p q =
+    let same = stops_alike format file (Some bytes) s r q p in
+    inr (subst Open (sym (ap (λ (x : Reply). x.status) p.replied)) loose, same.0, same.1)
+
+-- The observable files have one reply along a plan whose outcomes have one text each, and whose files are rejected by one line, but for texts
+-- that are left open.
+pub told_alike : (on : Bool) (Open : Status → Type 0) (plan : CommandPlan) (files : Files) (r s : Reply) → HoldsAtFormats (RefusesOnceOr Open) plan
+    → HoldsAtEnds (EachOutcome (IsOneOr Open)) plan → Replies on plan files r → Replies on plan files s → AreAlike Open r s
+told_alike on Open plan files r s once one p q =
+    told_related on (AreAlike Open) plan (observable_shelf files) (observable_shelf files) files r s (holds_at_formats (RefusesOnceOr Open) (StopsRelated (AreAlike Open)) (stops_related Open) plan once)
+    (holds_at_ends (EachOutcome (IsOneOr Open)) (AreRelated on (AreAlike Open)) (λ (outcomes : Outcomes) each. answers_alike on Open outcomes each) plan one) refl refl p q

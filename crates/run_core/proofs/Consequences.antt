@@ -16,7 +16,7 @@ use Rattle.run_core.specs.Shelf.{Shelf, ShelfChange, since}
 use Rattle.run_core.specs.SinkChanges.{SinkChange, IsWrittenTo, IsDelivered}
 use Rattle.run_core.specs.declared.status.Status.{Status}
 use Rattle.run_core.specs.declared.status.Status.TheVariants as status
-use Rattle.run_core.proofs.CommandPlanLaws.{HoldsAtEnds, began_at, between, stops_once, stops_or_read}
+use Rattle.run_core.proofs.CommandPlanLaws.{HoldsAtEnds, began_at, between, stops_alike, stops_or_read}
 use Rattle.run_core.proofs.OutcomesLaws.{AreKept}
 
 -- ---- streams without errors
@@ -59,7 +59,7 @@ ends_once (end ∷ outcomes) s t (inr p) (inr q) = ends_once outcomes s t p.1 q.
 pub ends_by_once : (told : Files) (plan : CommandPlan) (s t : Status) → HoldsAtEnds AreKept plan → EndsByFiles told plan s → EndsByFiles told plan t → s ≡ t
 ends_by_once told (ends outcomes) s t kept p q = ends_once outcomes s t p q
 ends_by_once told (reads format file next) s t kept (inl p) (inl q) =
-    p.2 ∙ ap (λ (r : Reply). r.status) (stops_once format kept.0 file (get told file) p.0 q.0 p.1 q.1) ∙ sym q.2
+    p.2 ∙ (stops_alike format file (get told file) p.0 q.0 p.1 q.1).0 ∙ sym q.2
 ends_by_once told (reads format file next) s t kept (inl p) (inr q) = stops_or_read format kept.0 file q.bytes (get told file) p.0 q.said q.held p.1 q.read
 ends_by_once told (reads format file next) s t kept (inr p) (inl q) = stops_or_read format kept.0 file p.bytes (get told file) q.0 p.said p.held q.1 p.read
 ends_by_once told (reads format file next) s t kept (inr p) (inr q) =

@@ -1,4 +1,5 @@
--- The laws of a format: bytes have one parse result or one line that rejects them, and a rejection ends the run with one of two statuses.
+-- The laws of a format: bytes have one parse result or are rejected, and a rejection ends the run with one of two statuses. The line that
+-- rejects bytes is unique for most formats.
 use Rattle.std.proofs.Common.{◌≡◌, ◌<◌, ◌⊎◌, inl, inr, ℕ, List, length, Ok, refl, ap, sym, subst, ◌∙◌}
 use Rattle.desc_core.specs.Conditions.{byte_limit}
 use Rattle.desc_core.specs.Description.{described}
@@ -17,8 +18,11 @@ use Rattle.run_core.specs.declared.status.Status.TheVariants.{BadDescription, Ba
 pub record IsLawfulFormat (format : FileFormat) : Type 0 where
   pub reads_once : (bytes : List ℕ) (a b : format.Said) → format.Reads bytes a → format.Reads bytes b → a ≡ b
   pub reads_or_refuses : (bytes line : List ℕ) (said : format.Said) → format.Reads bytes said → format.Refuses bytes line → ⊥
-  pub refuses_once : (bytes a b : List ℕ) → format.Refuses bytes a → format.Refuses bytes b → a ≡ b
   pub refused_as : (format.refused_as ≡ BadDescription) ⊎ (format.refused_as ≡ BadText)
+
+-- One line rejects bytes.
+abbrev pub RefusesOnce : FileFormat → Type 0
+RefusesOnce format = (bytes a b : List ℕ) → format.Refuses bytes a → format.Refuses bytes b → a ≡ b
 
 -- A property of both statuses of rejected files is a property of that of a lawful format.
 pub of_refused : (P : Status → Type 0) → P BadDescription → P BadText → (format : FileFormat) → IsLawfulFormat format → P format.refused_as
@@ -29,7 +33,7 @@ of_refused P bad_description bad_text format laws = elim laws.refused_as [
 
 -- ---- descriptions
 
-same_refusal : (bytes l m : List ℕ) → IsNoDescription bytes l → IsNoDescription bytes m → l ≡ m
+pub same_refusal : (bytes l m : List ℕ) → IsNoDescription bytes l → IsNoDescription bytes m → l ≡ m
 same_refusal bytes l m p q =
     let a = p.1 in
     let b = q.1 in
@@ -39,7 +43,7 @@ same_refusal bytes l m p q =
 pub lawful_description : (Said : Type 0) (Reads : List ℕ → Said → Type 0) → ((bytes : List ℕ) (a b : Said) → Reads bytes a → Reads bytes b → a ≡ b)
     → ((bytes line : List ℕ) (said : Said) → Reads bytes said → IsNoDescription bytes line → ⊥) → IsLawfulFormat (description_as Said Reads)
 lawful_description Said Reads once never =
-    record { reads_once = once; reads_or_refuses = never; refuses_once = same_refusal; refused_as = inl refl }
+    record { reads_once = once; reads_or_refuses = never; refused_as = inl refl }
 
 same_network : (bytes : List ℕ) (d e : Network) → described bytes ≡ Ok d → described bytes ≡ Ok e → d ≡ e
 same_network bytes d e p q = cc (p, q)
@@ -63,10 +67,8 @@ long_description bytes long = long_is_refused Network (λ bytes d. described byt
 
 pub lawful_text : (Said : Type 0) (most : ℕ) (Reads : List ℕ → Said → Type 0) (Refuses : (bytes line : List ℕ) → Type 0)
     → ((bytes : List ℕ) (a b : Said) → Reads bytes a → Reads bytes b → a ≡ b)
-    → ((bytes line : List ℕ) (said : Said) → Reads bytes said → Refuses bytes line → ⊥)
-    → ((bytes a b : List ℕ) → Refuses bytes a → Refuses bytes b → a ≡ b) → IsLawfulFormat (text Said most Reads Refuses)
-lawful_text Said most Reads Refuses once never refuses =
-    record { reads_once = once; reads_or_refuses = never; refuses_once = refuses; refused_as = inr refl }
+    → ((bytes line : List ℕ) (said : Said) → Reads bytes said → Refuses bytes line → ⊥) → IsLawfulFormat (text Said most Reads Refuses)
+lawful_text Said most Reads Refuses once never = record { reads_once = once; reads_or_refuses = never; refused_as = inr refl }
 
 -- A reason to reject the whole file has its line.
 pub long_text : {Why : Type 0} (text : List ℕ) (reason_of : Why → List ℕ) (HasFault : List ℕ → ℕ → Why → Type 0) (bytes : List ℕ) (why : Why) → HasFault bytes 0 why

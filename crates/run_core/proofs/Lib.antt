@@ -1,6 +1,9 @@
 pub mod TextFaultLaws
+mod TableVerdictLaws
+pub mod TableLaws
 pub mod DialectLaws
 pub mod FormatLaws
+pub mod EquivalentLaws
 pub mod OfPolicyLaws
 pub mod OutcomesLaws
 pub mod FormLaws

@@ -1,5 +1,5 @@
 -- Outcomes give one reply, although policy and reports are characterized by properties, and its text has the guarantee.
-use Rattle.std.proofs.Common.{◌≡◌, inl, inr, ℕ, List, [], ◌∷◌, Bool, true, false, refl, ap, sym, ◌∙◌}
+use Rattle.std.proofs.Common.{◌≡◌, ◌⊎◌, inl, inr, ℕ, List, [], ◌∷◌, Bool, true, false, refl, ap, subst, sym, ◌∙◌}
 use Rattle.run_core.specs.Outcomes.{Outcome, Outcomes, AnyOutcome, EndsIn, EndsWithGuarantee, Answers, AnswersFirst, stream_of}
 use Rattle.run_core.specs.Reply.{Reply}
 use Rattle.run_core.specs.declared.status.Status.{Status}
@@ -89,17 +89,37 @@ answers_first (end ∷ outcomes) apart reply (inr later) = inr (
   answers_first outcomes apart.1 reply later,
 )
 
--- ---- the reply is unique
+-- ---- the reply is unique but for texts that are left open
 
-first_once : (outcomes : Outcomes) → EachOutcome IsOwed outcomes → (r s : Reply) → AnswersFirst outcomes r → AnswersFirst outcomes s → (r.status ≡ s.status) × (r.text ≡ s.text)
-first_once [] owed r s p q = absurd p
-first_once (end ∷ outcomes) owed r s (inl p) (inl q) = (p.0 ∙ sym q.0, owed.0.one r.text s.text p.2 q.2)
-first_once (end ∷ outcomes) owed r s (inl p) (inr q) = absurd (q.0 p.1)
-first_once (end ∷ outcomes) owed r s (inr p) (inl q) = absurd (p.0 q.1)
-first_once (end ∷ outcomes) owed r s (inr p) (inr q) = first_once outcomes owed.1 r s p.1 q.1
+-- Another reply is equal, or texts with this status are left open, and status and stream are equal.
+abbrev pub AreAlike : (Open : Status → Type 0) → (given other : Reply) → Type 0
+AreAlike Open given other = (other ≡ given) ⊎ (Open given.status × (other.status ≡ given.status) × (other.stream ≡ given.stream))
 
-pub answers_once : (on : Bool) (outcomes : Outcomes) → IsSettled outcomes → (r s : Reply) → Answers on outcomes r × AnswersFirst outcomes r → Answers on outcomes s × AnswersFirst outcomes s → r ≡ s
-answers_once on outcomes settled r s p q =
-    let same = first_once outcomes settled.owed r s p.1 q.1 in
-    let stream = p.0.0 ∙ ap (stream_of on) same.0 ∙ sym q.0.0 in
-    λ i. record { status = same.0 i; stream = stream i; text = same.1 i }
+-- The text of the outcome is unique, or left open.
+abbrev pub IsOneOr : (Open : Status → Type 0) → Outcome → Type 0
+IsOneOr Open end = ((a b : List ℕ) → end.is a → end.is b → a ≡ b) ⊎ Open end.status
+
+pub one_each : (Open : Status → Type 0) (outcomes : Outcomes) → EachOutcome IsOwed outcomes → EachOutcome (IsOneOr Open) outcomes
+one_each Open [] owed = tt
+one_each Open (end ∷ outcomes) owed = (inl owed.0.one, one_each Open outcomes owed.1)
+
+first_alike : (Open : Status → Type 0) (outcomes : Outcomes) → EachOutcome (IsOneOr Open) outcomes → (r s : Reply) → AnswersFirst outcomes r → AnswersFirst outcomes s
+    → (s.status ≡ r.status) × ((s.text ≡ r.text) ⊎ Open r.status)
+first_alike Open [] each r s p q = absurd p
+first_alike Open (end ∷ outcomes) each r s (inl p) (inl q) = (
+  q.0 ∙ sym p.0,
+  elim each.0 [ inl one ↦ inl (one s.text r.text q.2 p.2) | inr loose ↦ inr (subst Open (sym p.0) loose) ],
+)
+first_alike Open (end ∷ outcomes) each r s (inl p) (inr q) = absurd (q.0 p.1)
+first_alike Open (end ∷ outcomes) each r s (inr p) (inl q) = absurd (p.0 q.1)
+first_alike Open (end ∷ outcomes) each r s (inr p) (inr q) = first_alike Open outcomes each.1 r s p.1 q.1
+
+pub answers_alike : (on : Bool) (Open : Status → Type 0) (outcomes : Outcomes) → EachOutcome (IsOneOr Open) outcomes → (r s : Reply)
+    → Answers on outcomes r × AnswersFirst outcomes r → Answers on outcomes s × AnswersFirst outcomes s → AreAlike Open r s
+answers_alike on Open outcomes each r s p q =
+    let same = first_alike Open outcomes each r s p.1 q.1 in
+    let stream = q.0.0 ∙ ap (stream_of on) same.0 ∙ sym p.0.0 in
+    elim same.1 [
+      | inl text ↦ inl (λ i. record { status = same.0 i; stream = stream i; text = text i })
+      | inr loose ↦ inr (loose, same.0, stream)
+    ]

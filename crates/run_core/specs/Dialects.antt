@@ -14,6 +14,7 @@ use Rattle.ipt_rules.specs.Chain.{Chain}
 use Rattle.ipt_rules.specs.ChainTable.{rule_count}
 use Rattle.ipt_rules.specs.Semantics.{PassesChains}
 use Rattle.ipt_rules.specs.Text.{text as chains_text}
+use Rattle.nft_read.specs.Reading.{byte_limit as table_limit}
 use Rattle.ofp_read.specs.TextLines.{IsReadingOfFlows, HasFaultInFlows, flows_text, flows_reason}
 use Rattle.ofp_rules.specs.Ambiguity.{most_entries}
 use Rattle.ofp_rules.specs.Semantics.{PassesEntries}
@@ -23,14 +24,16 @@ use Rattle.pkt_core.specs.Firewall.{Filter}
 use Rattle.pkt_core.specs.FlowPolicy.{FlowPolicy}
 use Rattle.report_core.specs.Names.{flow_text}
 use Rattle.run_core.specs.Reply.{not_emittable}
+use Rattle.run_core.specs.Tables.{AreFew, IsLayoutTable, IsReadingOfTable, RejectsTable, TableRules, passes_text}
 use Rattle.run_core.specs.TextFault.{ReportsFault}
 use Rattle.run_core.specs.declared.dialect.Dialect.{Dialect}
-use Rattle.run_core.specs.declared.dialect.Dialect.TheVariants.{Iptables, OpenFlow}
+use Rattle.run_core.specs.declared.dialect.Dialect.TheVariants.{Iptables, Nft, OpenFlow}
 
 -- A dialect: its name on the command line, the type of its rules, their text, the size limit of the parser, the rules that a text parses
 -- to, and the reasons to reject a text; the packets that rules forward in each state, the rules in the form of an audit, the treatment of
--- other frames, and of states besides NEW and ESTABLISHED; and, for a policy, its rules, if they can be emitted, and the line that gives
--- the reason otherwise (docs/TEXTS.md).
+-- other frames, and of states besides NEW and ESTABLISHED; and, for a policy, which rules are its layout, if they can be emitted, and the
+-- line that gives the reason otherwise (docs/TEXTS.md). `IsParsed` states that the rules are within the limits of the parser. `IsExact`
+-- states that a policy has one layout, and a rejected text one reason.
 pub record RuleDialect : Type 1 where
   pub word : List ℕ
   pub Rules : Type 0
@@ -42,9 +45,15 @@ pub record RuleDialect : Type 1 where
   pub audited : Rules → AnyRules
   pub OtherFrames : Rules → Type 0
   pub OtherStates : Rules → Type 0
-  pub layout : FlowPolicy → Rules
+  pub IsLayout : FlowPolicy → Rules → Type 0
+  pub IsParsed : Rules → Type 0
+  pub IsExact : Type 0
   pub CanWrite : FlowPolicy → Type 0
   pub CannotEmit : (line : List ℕ) → FlowPolicy → Type 0
+
+-- The text is that of a layout of the policy.
+abbrev pub IsLayoutText : (language : RuleDialect) → FlowPolicy → (text : List ℕ) → Type 0
+IsLayoutText language policy text = (rules : language.Rules) × language.IsLayout policy rules × (text ≡ language.text rules)
 
 -- The chains have too many rules, and the line reports their number.
 abbrev pub CannotEmitChains : (line : List ℕ) → FlowPolicy → Type 0
@@ -64,7 +73,9 @@ iptables = record {
   audited = Chains;
   OtherFrames = λ chains. Unit {0};
   OtherStates = HaveNoOtherState;
-  layout = layout;
+  IsLayout = λ policy chains. chains ≡ layout policy;
+  IsParsed = λ chains. Unit {0};
+  IsExact = Unit {0};
   CanWrite = λ policy. rule_count (layout policy) ≤ rule_limit;
   CannotEmit = CannotEmitChains;
 }
@@ -92,16 +103,40 @@ openflow = record {
   audited = Entries;
   OtherFrames = ForwardsArpAlone;
   OtherStates = λ entries. Unit {0};
-  layout = λ policy. flow_entries policy.site policy.permitted;
+  IsLayout = λ policy entries. entries ≡ flow_entries policy.site policy.permitted;
+  IsParsed = λ entries. Unit {0};
+  IsExact = Unit {0};
   CanWrite = λ policy. AnswersAreCovered policy × HasNoRange policy.site.services policy.permitted × (length (flow_entries policy.site policy.permitted) ≤ most_entries);
   CannotEmit = CannotEmitTable;
+}
+
+-- A table of nftables, which processes only IPv4 packets and matches only on ESTABLISHED. It can always be emitted. A policy may have several
+-- tables, and a rejected text several reasons. A table may be too large to be parsed.
+abbrev pub nft : RuleDialect
+nft = record {
+  word = codes "nft";
+  Rules = TableRules;
+  text = λ rules. rules.text;
+  byte_limit = table_limit;
+  IsReading = IsReadingOfTable;
+  Refuses = RejectsTable;
+  filter = λ rules. passes_text rules.text;
+  audited = λ rules. Chains rules.chains;
+  OtherFrames = λ rules. Unit {0};
+  OtherStates = λ rules. Unit {0};
+  IsLayout = IsLayoutTable;
+  IsParsed = λ rules. (length rules.text ≤ table_limit) × AreFew rules.chains;
+  IsExact = ⊥;
+  CanWrite = λ policy. Unit {0};
+  CannotEmit = λ line policy. ⊥;
 }
 
 -- The definition of each dialect.
 abbrev pub rule_dialect_of : Dialect → RuleDialect
 rule_dialect_of Iptables = iptables
 rule_dialect_of OpenFlow = openflow
+rule_dialect_of Nft = nft
 
 -- All dialects.
 abbrev pub dialects : List Dialect
-dialects = Iptables ∷ OpenFlow ∷ []
+dialects = Iptables ∷ OpenFlow ∷ Nft ∷ []

@@ -1,6 +1,8 @@
 pub mod TextFault
 pub mod Reply
+pub mod Tables
 pub mod Dialects
+pub mod Filters
 pub mod FileFormats
 pub mod Outcomes
 pub mod Shelf

@@ -1,18 +1,20 @@
-//! The dialects of rules. All code that differs between them is here, in `chains` and `flows`, and
-//! in the usage text.
+//! The dialects of rules. All code that differs between them is here, in `chains`, `flows` and
+//! `tables`, and in the usage text.
 
 ghost use Rattle.std.specs.Prelude.{◌≡◌, ◌<◌, ◌≤◌, ◌^◌, IfOk, Some, length, slice_get, take};
 ghost use Rattle.rules_space.specs.Rules.{filter_of};
 ghost use Rattle.rules_space.specs.RulesView.{rules_of};
 ghost use Rattle.report_core.specs.Trace.{IsTrace};
 ghost use Rattle.run_core.specs.Dialects.{rule_dialect_of};
-ghost use Rattle.run_core.specs.inner.DialectCalls.{IsLayout, IsRead};
+ghost use Rattle.run_core.specs.inner.DialectCalls.{IsRead, IsWritten};
 ghost use Rattle.run_core.specs.inner.Forms.{dialect_named};
 ghost use Rattle.run_core.specs.inner.Views.{rules_lines, rules_view};
 
 mod chains;
 mod flows;
+mod tables;
 
+use crate::text::Text;
 use ipt_rules::Ruleset;
 use ofp_rules::Table;
 use pkt_core::{Event, FlowPolicy};
@@ -27,6 +29,8 @@ pub enum Dialect {
     Iptables,
     /// Flow tables, as `ovs-ofctl` adds them.
     OpenFlow,
+    /// Tables of nftables, as `nft -f` loads them.
+    Nft,
 }
 
 impl Dialect {
@@ -37,6 +41,7 @@ impl Dialect {
         match word {
             "iptables" => Some(Dialect::Iptables),
             "openflow" => Some(Dialect::OpenFlow),
+            "nft" => Some(Dialect::Nft),
             _ => None,
         }
     }
@@ -49,6 +54,7 @@ impl Dialect {
         match self {
             Dialect::Iptables => ipt_read::BYTE_LIMIT,
             Dialect::OpenFlow => ofp_read::BYTE_LIMIT,
+            Dialect::Nft => nft_read::BYTE_LIMIT,
         }
     }
 
@@ -59,20 +65,23 @@ impl Dialect {
         match self {
             Dialect::Iptables => chains::read(alloc, bytes),
             Dialect::OpenFlow => flows::read(alloc, bytes),
+            Dialect::Nft => tables::read(alloc, bytes),
         }
     }
 
-    /// Returns the rules of a policy, or the line with the reason why they cannot be emitted.
-    pub fn layout(
+    /// Returns the text of the rules of a policy, or the line with the reason why they cannot be
+    /// emitted.
+    pub fn layout<'a>(
         self,
         alloc: Global,
         policy: &FlowPolicy<'_>,
-    ) -> Result<Result<Rules, Vec<u8>>, AllocError>
-        ensures { IfOk result (IsLayout self policy.now) }
+    ) -> Result<Result<Text<'a>, Vec<u8>>, AllocError>
+        ensures { IfOk result (IsWritten self policy.now) }
     {
         match self {
             Dialect::Iptables => chains::layout(alloc, policy),
             Dialect::OpenFlow => flows::layout(alloc, policy),
+            Dialect::Nft => tables::layout(alloc, policy),
         }
     }
 }
@@ -80,7 +89,7 @@ impl Dialect {
 /// Parsed rules of a dialect.
 #[derive(Drop)]
 pub enum Rules {
-    /// Chains of iptables.
+    /// Chains of iptables, or those with the verdicts of a table of nftables.
     Chains(Ruleset),
     /// A flow table of OpenFlow.
     Table(Table),

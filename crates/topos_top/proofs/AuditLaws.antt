@@ -13,7 +13,7 @@ use Rattle.audit_core.specs.Lists.{front_of}
 use Rattle.audit_core.specs.Places.{representatives_of}
 use Rattle.rules_space.specs.Rules.{AnyRules, filter_of}
 use Rattle.rules_space.specs.Verdicts.{GivesOne}
-use Rattle.audit_core.specs.Sides.{AreSafe, AreEquivalent, Sides}
+use Rattle.audit_core.specs.Sides.{AreEquivalent, Sides}
 use Rattle.audit_core.specs.declared.finding.Finding.{Finding}
 use Rattle.audit_core.specs.declared.finding.Finding.TheVariants.{Equal, Differ as Differing}
 use Rattle.audit_core.specs.declared.finding.Trace.{Trace}
@@ -28,7 +28,8 @@ use Rattle.pkt_core.specs.Filter.{ArePackets, ForwardsAsExpected}
 use Rattle.pkt_core.specs.Firewall.{Filter}
 use Rattle.report_core.specs.FlowPolicies.{flow_policy_of}
 use Rattle.topos_top.specs.Audit.{FewClasses, HasManyClasses, ReportsDifference, audit_outcomes}
-use Rattle.run_core.specs.OfPolicy.{OfSides}
+use Rattle.run_core.specs.Filters.{AreEquivalentFilters}
+use Rattle.run_core.specs.OfPolicy.{ForwardsForNetwork, OfSides}
 use Rattle.run_core.specs.Dialects.{rule_dialect_of}
 use Rattle.run_core.specs.Outcomes.{Answers}
 use Rattle.run_core.specs.Reply.{Reply}
@@ -40,7 +41,8 @@ use Rattle.run_core.specs.declared.dialect.Dialect.{Dialect}
 use Rattle.run_core.specs.declared.status.Status.TheVariants.{Violated, Done}
 use Rattle.run_core.specs.declared.status.Stream.TheVariants.{Output}
 use Rattle.run_core.proofs.DialectLaws.{laws_of}
-use Rattle.run_core.proofs.OfPolicyLaws.{safe_where_equal, sides_for, sides_moved}
+use Rattle.run_core.proofs.EquivalentLaws.{forwards_alike, other_way}
+use Rattle.run_core.proofs.OfPolicyLaws.{forwards_for, sides_for, sides_moved}
 use Rattle.topos_top.proofs.RulesLaws.{rules_keep}
 
 few_not_many : (sides : Sides) (line : List ℕ) → FewClasses sides → HasManyClasses sides line → ⊥
@@ -86,9 +88,9 @@ module _ (d : Network) (rules : AnyRules) where
   pub agreement_tells : OfSides d rules (λ sides. FewClasses sides × AreEquivalent sides) → OfSides d rules AreEquivalent
   agreement_tells agree = record { policy = agree.policy; is_policy = agree.is_policy; so = agree.so.1 }
 
-  -- Rules that forward alike are safe with any connection tracking.
-  pub agreement_keeps : OfSides d rules (λ sides. FewClasses sides × AreEquivalent sides) → OfSides d rules (λ sides. AreEquivalent sides × AreSafe sides)
-  agreement_keeps agree = safe_where_equal d rules (agreement_tells agree)
+  -- A filter with the same verdicts forwards alike.
+  pub agreement_keeps : (filter : Filter) → AreEquivalentFilters (filter_of rules) filter → OfSides d rules (λ sides. FewClasses sides × AreEquivalent sides) → ForwardsForNetwork d filter
+  agreement_keeps filter alike agree = forwards_for d rules filter alike (agreement_tells agree)
 
   pub many_or_few : (Holds : Sides → Type 0) (line : List ℕ) → OfSides d rules (λ sides. HasManyClasses sides line) → OfSides d rules (λ sides. FewClasses sides × Holds sides) → ⊥
   many_or_few Holds line many few =
@@ -102,9 +104,9 @@ module _ (d : Network) (rules : AnyRules) where
 -- ---- both directions
 
 -- If the number of classes is within the limit, `equal` is written if and only if they forward alike.
-pub equal_exactly : (d : Network) (rules : AnyRules) (reply : Reply) → Answers true (audit_outcomes d rules) reply → OfSides d rules FewClasses
+pub equal_exactly : (d : Network) (filter : Filter) (rules : AnyRules) (reply : Reply) → Answers true (audit_outcomes d filter rules) reply → OfSides d rules FewClasses
     → (reply.status ≡ Done) ↔ OfSides d rules AreEquivalent
-equal_exactly d rules reply answers few = (alike_where_done, done_where_alike)
+equal_exactly d filter rules reply answers few = (alike_where_done, done_where_alike)
   where
     alike_where_done : reply.status ≡ Done → OfSides d rules AreEquivalent
     alike_where_done done = elim answers.1 [
@@ -135,20 +137,22 @@ pub written_alike : (dialect : Dialect) (d : Network) (text : List ℕ) (said : 
 unfolding rules_keep
 written_alike dialect d text said network can is reading =
     let keep = rules_keep (rule_dialect_of dialect) (laws_of dialect) d text network can is in
-    let filter = ap (rule_dialect_of dialect).filter (sym (keep.only_reading said reading)) ∙ sym ((laws_of dialect).audited_filter said) in
+    let language = rule_dialect_of dialect in
+    let alike = other_way (filter_of (language.audited said)) (language.filter said) ((laws_of dialect).audited_alike text said reading) in
     record {
       policy = keep.policy;
       is_policy = keep.invariants.is_policy;
-      so = subst (λ (f : Filter). ForwardsAsExpected f (flow_policy_of d keep.policy)) filter keep.expected;
+      so = forwards_alike (language.filter said) (filter_of (language.audited said)) alike (flow_policy_of d keep.policy)
+          (subst (λ (rules : language.Rules). ForwardsAsExpected (language.filter rules) (flow_policy_of d keep.policy)) (sym (keep.only_reading said reading)) keep.expected);
     }
 
 -- ---- the result of the code
 
 module _ (d : Network) (rules : AnyRules) (policy : Policy) (is_policy : IsPolicyOf d policy) where
   ends_different : (reply : Reply) (t : Trace) → FewClasses (sides_for d rules policy) → IsFinding (sides_for d rules policy) (Differing t)
-      → reply ≡ reply_on Violated Output (finding_text (Differing t)) → Answers true (audit_outcomes d rules) reply
+      → reply ≡ reply_on Violated Output (finding_text (Differing t)) → Answers true (audit_outcomes d (filter_of rules) rules) reply
   ends_different reply t few found is =
-      subst (λ (r : Reply). Answers true (audit_outcomes d rules) r) (sym is) (
+      subst (λ (r : Reply). Answers true (audit_outcomes d (filter_of rules) rules) r) (sym is) (
         refl,
         inr (inl (
           refl,
@@ -158,9 +162,9 @@ module _ (d : Network) (rules : AnyRules) (policy : Policy) (is_policy : IsPolic
       )
 
   ends_equal : (reply : Reply) → GivesOne (filter_of rules) → FewClasses (sides_for d rules policy) → IsFinding (sides_for d rules policy) Equal
-      → reply ≡ reply_on Done Output (finding_text Equal) → Answers true (audit_outcomes d rules) reply
+      → reply ≡ reply_on Done Output (finding_text Equal) → Answers true (audit_outcomes d (filter_of rules) rules) reply
   ends_equal reply gives few found is =
-      subst (λ (r : Reply). Answers true (audit_outcomes d rules) r) (sym is) (
+      subst (λ (r : Reply). Answers true (audit_outcomes d (filter_of rules) rules) r) (sym is) (
         refl,
         inr (inr (inl (
           refl,
@@ -170,6 +174,6 @@ module _ (d : Network) (rules : AnyRules) (policy : Policy) (is_policy : IsPolic
       )
 
   pub ends_found : (reply : Reply) (finding : Finding) → GivesOne (filter_of rules) → FewClasses (sides_for d rules policy) → IsFinding (sides_for d rules policy) finding
-      → reply ≡ finding_reply finding → Answers true (audit_outcomes d rules) reply
+      → reply ≡ finding_reply finding → Answers true (audit_outcomes d (filter_of rules) rules) reply
   ends_found reply Equal gives few found is = ends_equal reply gives few found is
   ends_found reply (Differing t) gives few found is = ends_different reply t few found is

@@ -26,7 +26,7 @@ use Rattle.run_core.specs.TextFault.{ReportsFault, fault_line}
 use Rattle.run_core.specs.declared.dialect.Dialect.{Dialect}
 use Rattle.run_core.specs.declared.status.Status.TheVariants.{BadDescription, BadText}
 use Rattle.run_core.proofs.DialectLaws.{laws_of}
-use Rattle.run_core.proofs.FormatLaws.{IsLawfulFormat, lawful_description, lawful_text, long_is_refused, long_text}
+use Rattle.run_core.proofs.FormatLaws.{IsLawfulFormat, RefusesOnce, lawful_description, lawful_text, long_is_refused, long_text}
 use Rattle.run_core.proofs.TextFaultLaws.{same_line}
 use Rattle.topos_top.specs.FileFormats.{rules, events, document, edited, edits}
 use Rattle.topos_top.specs.TextFault.{list_reason}
@@ -34,21 +34,25 @@ use Rattle.topos_top.specs.TextFault.{list_reason}
 pub rules_laws : (dialect : Dialect) → IsLawfulFormat (rules dialect)
 rules_laws dialect =
     lawful_text (rule_dialect_of dialect).Rules (rule_dialect_of dialect).byte_limit (rule_dialect_of dialect).IsReading (rule_dialect_of dialect).Refuses
-    (laws_of dialect).one_reading (laws_of dialect).reads_or_refuses (laws_of dialect).refuses_once
+    (laws_of dialect).one_reading (laws_of dialect).reads_or_refuses
 
 pub events_laws : IsLawfulFormat events
 events_laws =
     lawful_text (List Event) events_text.byte_limit IsReadingOfEvents (ReportsFault (codes "events") list_reason IsRefusedInEvents)
     (λ bytes a b p q. one_reading (by_lines events_text) events_settled bytes a b p q)
     (λ bytes line said p q. no_reading_with_fault (by_lines events_text) events_settled bytes said q.number q.why q.fault p)
-    (λ bytes a b p q. same_line (codes "events") list_reason IsRefusedInEvents bytes (one_fault (by_lines events_text) events_settled bytes) a b p q)
+
+pub events_once : RefusesOnce events
+events_once bytes a b p q = same_line (codes "events") list_reason IsRefusedInEvents bytes (one_fault (by_lines events_text) events_settled bytes) a b p q
 
 pub edits_laws : IsLawfulFormat edits
 edits_laws =
     lawful_text (List Edit) edits_text.byte_limit IsReadingOfEdits (ReportsFault (codes "edits") list_reason IsRefusedInEdits)
     (λ bytes a b p q. one_reading (by_lines edits_text) edits_settled bytes a b p q)
     (λ bytes line said p q. no_reading_with_fault (by_lines edits_text) edits_settled bytes said q.number q.why q.fault p)
-    (λ bytes a b p q. same_line (codes "edits") list_reason IsRefusedInEdits bytes (one_fault (by_lines edits_text) edits_settled bytes) a b p q)
+
+pub edits_once : RefusesOnce edits
+edits_once bytes a b p q = same_line (codes "edits") list_reason IsRefusedInEdits bytes (one_fault (by_lines edits_text) edits_settled bytes) a b p q
 
 pub document_laws : IsLawfulFormat document
 document_laws =

@@ -1,13 +1,13 @@
 -- The headline, from the results of the commands that write rules and descriptions, and of the command that compares rules.
 use Rattle.std.proofs.Common.{◌≡◌, inl, inr, ℕ, List, Option, Some, subst}
 use Rattle.rules_space.specs.Rules.{AnyRules}
-use Rattle.audit_core.specs.Sides.{AreEquivalent, AreSafe}
 use Rattle.edge_io.specs.Observable.{Files}
 use Rattle.net_core.specs.Network.{Network}
+use Rattle.pkt_core.specs.Firewall.{Filter}
 use Rattle.std.specs.FinMap.{get}
 use Rattle.std.specs.Prelude.{IfSome, codes}
 use Rattle.topos_top.specs.Command.{Command, Check, Policy, Rules, Repair, Trace, Sample, Migrate, Audit, Edit, Local, ParseAs}
-use Rattle.run_core.specs.OfPolicy.{OfSides}
+use Rattle.run_core.specs.OfPolicy.{ForwardsForNetwork}
 use Rattle.topos_top.specs.Audit.{audit_outcomes}
 use Rattle.topos_top.specs.Commands.{plan_of}
 use Rattle.run_core.specs.CommandPlan.{HoldsAtStop}
@@ -49,11 +49,12 @@ by_local d host text (inr (inl barred)) = let other = barred.0.0 in cc other
 by_local d host text (inr (inr (inl written))) = (written.0.1.0, written.1)
 by_local d host text (inr (inr (inr none))) = absurd none
 
-by_audit : (d : Network) (rules : AnyRules) (text : List ℕ) → AnyOutcome (EndsWithGuarantee Done text) (audit_outcomes d rules) → (text ≡ codes "equal\n") × OfSides d rules (λ sides. AreEquivalent sides × AreSafe sides)
-by_audit d rules text (inl many) = let other = many.0.0 in cc other
-by_audit d rules text (inr (inl differ)) = let other = differ.0.0 in cc other
-by_audit d rules text (inr (inr (inl equal))) = (equal.0.2, equal.1)
-by_audit d rules text (inr (inr (inr none))) = absurd none
+by_audit : (d : Network) (filter : Filter) (rules : AnyRules) (text : List ℕ) → AnyOutcome (EndsWithGuarantee Done text) (audit_outcomes d filter rules)
+    → (text ≡ codes "equal\n") × ForwardsForNetwork d filter
+by_audit d filter rules text (inl many) = let other = many.0.0 in cc other
+by_audit d filter rules text (inr (inl differ)) = let other = differ.0.0 in cc other
+by_audit d filter rules text (inr (inr (inl equal))) = (equal.0.2, equal.1)
+by_audit d filter rules text (inr (inr (inr none))) = absurd none
 
 meets : (command : Command) (shelf : ShelfChange) (out : SinkChange)
     → HoldsAtStop shelf.only_failures (plan_of command) shelf.before (λ format file at. ⊥) (λ outcomes at. (shelf.after ≡ at) × ((text : List ℕ) × AnyOutcome (EndsWithGuarantee Done text) outcomes × Appends out text))
@@ -78,7 +79,7 @@ meets (Audit dialect file rules) shelf out (inl stopped) = absurd stopped
 meets (Audit dialect file rules) shelf out (inr on) = elim on.next [
   | inl stopped ↦ absurd stopped
   | inr second ↦
-      let end = by_audit on.said ((rule_dialect_of dialect).audited second.said) second.next.1.0 second.next.1.1 in
+      let end = by_audit on.said ((rule_dialect_of dialect).filter second.said) ((rule_dialect_of dialect).audited second.said) second.next.1.0 second.next.1.1 in
       record {
         bytes = on.bytes;
         held = on.held;

@@ -5,7 +5,7 @@ pub mod AuditLaws
 pub mod EditLaws
 pub mod ParseLaws
 pub mod CommandLaws
-pub mod OneReplyLaw
+pub mod AlikeLaw
 pub mod HeadlineLaw
 pub mod SampleLaw
 pub mod Growing

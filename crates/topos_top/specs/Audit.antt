@@ -6,16 +6,18 @@ use Rattle.audit_core.specs.Cuts.{cuts_between}
 use Rattle.audit_core.specs.Findings.{DifferSomewhere, IsFirstTrace, events_of}
 use Rattle.audit_core.specs.FindingText.{classes_line, trace_text}
 use Rattle.audit_core.specs.Places.{class_count, representatives_of, most_classes}
-use Rattle.rules_space.specs.Rules.{AnyRules}
-use Rattle.audit_core.specs.Sides.{AreSafe, DifferThen, AreEquivalent, Sides}
+use Rattle.rules_space.specs.Rules.{AnyRules, filter_of}
+use Rattle.audit_core.specs.Sides.{DifferThen, AreEquivalent, Sides}
 use Rattle.audit_core.specs.declared.finding.Trace.{Trace}
 use Rattle.host_net.specs.declared.packet.Packet.{Packet}
 use Rattle.net_core.specs.Network.{Network}
 use Rattle.pkt_core.specs.declared.event.Event.{Event}
 use Rattle.pkt_core.specs.declared.event.Event.TheVariants.{Seen}
 use Rattle.pkt_core.specs.Filter.{ArePackets}
+use Rattle.pkt_core.specs.Firewall.{Filter}
+use Rattle.run_core.specs.Filters.{AreEquivalentFilters}
 use Rattle.run_core.specs.Outcomes.{Outcome, Outcomes, says_why}
-use Rattle.run_core.specs.OfPolicy.{OfSides}
+use Rattle.run_core.specs.OfPolicy.{ForwardsForNetwork, OfSides}
 use Rattle.run_core.specs.declared.status.Status.TheVariants.{Violated, NotEmittable, Done}
 
 -- The number of packet classes is within the limit.
@@ -38,26 +40,27 @@ pub record ReportsDifference (sides : Sides) (text : List ℕ) : Type 0 where
 abbrev pub HasManyClasses : Sides → (line : List ℕ) → Type 0
 HasManyClasses sides line = (most_classes < class_count sides) × (line ≡ classes_line (class_count sides))
 
--- The rules and the policy differ on some list of events: the first short one is reported.
-abbrev pub difference : Network → AnyRules → Outcome
-difference d rules = record {
+-- The rules and the policy differ on some list of events: the first short one is reported. The filter has the same verdicts as the rules.
+abbrev pub difference : Network → Filter → AnyRules → Outcome
+difference d filter rules = record {
   status = Violated;
   when = OfSides d rules (λ sides. FewClasses sides × DifferSomewhere sides);
   is = λ text. OfSides d rules (λ sides. ReportsDifference sides text);
-  guarantees = λ text. OfSides d rules (λ sides. ReportsDifference sides text);
+  guarantees = λ text. OfSides d rules (λ sides. ReportsDifference sides text) × AreEquivalentFilters (filter_of rules) filter;
 }
 
 -- The rules and the policy forward alike: `equal` is written only in this case, and always in this case if the number
--- of classes is within the limit.
-abbrev pub agreement : Network → AnyRules → Outcome
-agreement d rules = record {
+-- of classes is within the limit. The filter forwards alike, too.
+abbrev pub agreement : Network → Filter → AnyRules → Outcome
+agreement d filter rules = record {
   status = Done;
   when = OfSides d rules (λ sides. FewClasses sides × AreEquivalent sides);
   is = λ text. text ≡ codes "equal\n";
-  guarantees = λ text. OfSides d rules (λ sides. AreEquivalent sides × AreSafe sides);
+  guarantees = λ text. ForwardsForNetwork d filter;
 }
 
--- The outcomes of an audit: too many packet classes, a difference, or agreement.
-abbrev pub audit_outcomes : Network → AnyRules → Outcomes
-audit_outcomes d rules =
-    says_why NotEmittable (Unit {0}) (λ line. OfSides d rules (λ sides. HasManyClasses sides line)) ∷ (difference d rules ∷ (agreement d rules ∷ []))
+-- The outcomes of an audit of a filter, whose rules in the form of an audit are these: too many packet classes, a difference, or agreement.
+abbrev pub audit_outcomes : Network → Filter → AnyRules → Outcomes
+audit_outcomes d filter rules =
+    says_why NotEmittable (Unit {0}) (λ line. OfSides d rules (λ sides. HasManyClasses sides line))
+    ∷ (difference d filter rules ∷ (agreement d filter rules ∷ []))

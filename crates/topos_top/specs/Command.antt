@@ -56,7 +56,11 @@ usage_text =
     ++ (codes "       topos migrate FILE\n"
     ++ (codes "       topos audit iptables|openflow FILE RULES\n"
     ++ (codes "       topos edit FILE EDITS\n"
-    ++ codes "       topos local FILE HOST\n"))))))))
+    ++ (codes "       topos local FILE HOST\n"
+    ++ (codes "       topos rules nft FILE\n"
+    ++ (codes "       topos repair nft FILE\n"
+    ++ (codes "       topos trace nft RULES EVENTS\n"
+    ++ codes "       topos audit nft FILE RULES\n"))))))))))))
 
 -- The command reports violations on the output. All other commands report them on the error stream.
 abbrev pub reports_on_output : Command → Bool

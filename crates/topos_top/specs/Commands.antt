@@ -27,7 +27,8 @@ plan_of (Repair dialect file) = reads description file (λ d. ends (repair_outco
 plan_of (Trace dialect rules events) = reads (format.rules dialect) rules (λ said. reads format.events events (λ es. ends (trace_outcomes ((rule_dialect_of dialect).filter said) es)))
 plan_of (Sample hosts) = ends (sample_outcomes hosts)
 plan_of (Migrate file) = reads format.document file (λ text. ends (migrate_outcomes text))
-plan_of (Audit dialect file rules) = reads description file (λ d. reads (format.rules dialect) rules (λ said. ends (audit_outcomes d ((rule_dialect_of dialect).audited said))))
+plan_of (Audit dialect file rules) =
+    reads description file (λ d. reads (format.rules dialect) rules (λ said. ends (audit_outcomes d ((rule_dialect_of dialect).filter said) ((rule_dialect_of dialect).audited said))))
 plan_of (Edit file edits) = reads format.edited file (λ table. reads format.edits edits (λ es. ends (edit_outcomes table es)))
 plan_of (Local file host) = reads description file (λ d. ends (local_outcomes d host))
 

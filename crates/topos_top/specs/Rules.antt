@@ -9,7 +9,7 @@ use Rattle.pkt_core.specs.AnyTracking.{ForwardsInAnyState}
 use Rattle.pkt_core.specs.Filter.{Enforces, ForwardsAsExpected}
 use Rattle.report_core.specs.FlowPolicies.{flow_policy_of}
 use Rattle.topos_top.specs.Check.{AskedHolds, offences_when}
-use Rattle.run_core.specs.Dialects.{RuleDialect, rule_dialect_of}
+use Rattle.run_core.specs.Dialects.{IsLayoutText, RuleDialect, rule_dialect_of}
 use Rattle.run_core.specs.OfPolicy.{OfPolicy}
 use Rattle.run_core.specs.Outcomes.{Outcomes, says_why}
 use Rattle.run_core.specs.declared.dialect.Dialect.{Dialect}
@@ -20,8 +20,8 @@ abbrev pub ListedHolds : Network → Type 0
 ListedHolds d = IsTrue d.given → AskedHolds d
 
 -- The text is the rules of the policy of the network: its permitted flows pass, and the answers of its stateful flows.
-abbrev pub IsRules : RuleDialect → Network → (rules : List ℕ) → Type 0
-IsRules language d rules = OfPolicy d (λ policy. rules ≡ language.text (language.layout policy))
+abbrev pub IsRules : RuleDialect → Network → (text : List ℕ) → Type 0
+IsRules language d text = OfPolicy d (λ policy. IsLayoutText language policy text)
 
 -- The properties of a policy of a network, regardless of what is emitted for it. The permitted flows are the first subset of the requested
 -- flows that satisfies every invariant, and the greatest if all of them are edge-wise. Each requested flow that is omitted violates an
@@ -35,26 +35,25 @@ pub record PolicyMeetsInvariants (d : Network) (policy : Policy) : Type 0 where
   pub unchanged : AskedHolds d → policy.permitted.flows ≡ d.asked.flows
   pub complies : CompliesWithAll d policy
 
--- The rules of a policy of the network.
-abbrev pub rules_for : (language : RuleDialect) → Network → Policy → language.Rules
-rules_for language d policy = language.layout (flow_policy_of d policy)
-
--- The guarantee of the rules of a network. The policy has the properties above. The text parses to exactly these rules. From an empty
--- connection table, for every list of events with valid packets, they forward exactly the packets of a permitted flow and those that answer
--- a stateful flow. For a single packet in either connection state they have exactly the verdict of the policy. With any connection tracking,
--- they forward only expected packets in sound states, and all permitted packets in all states. They treat frames of other kinds, and
--- packets in other states, as the dialect specifies.
-pub record EnforcesPolicyText (language : RuleDialect) (d : Network) (rules : List ℕ) : Type 0 where
+-- The guarantee of the text of the rules of a network. The policy has the properties above. The text is that of a layout of the policy, and
+-- parses to exactly these rules; if they exceed the limits of the parser, it parses to nothing. From an empty connection table, for every
+-- list of events with valid packets, the rules forward exactly the packets of a permitted flow and those that answer a stateful flow. For a
+-- single packet in either connection state they have exactly the verdict of the policy. With any connection tracking, they forward only
+-- expected packets in sound states, and all permitted packets in all states. They treat frames of other kinds, and packets in other states,
+-- as the dialect specifies.
+pub record EnforcesPolicyText (language : RuleDialect) (d : Network) (text : List ℕ) : Type 0 where
   pub policy : Policy
   pub invariants : PolicyMeetsInvariants d policy
-  pub written : rules ≡ language.text (rules_for language d policy)
-  pub read : language.IsReading rules (rules_for language d policy)
-  pub only_reading : (others : language.Rules) → language.IsReading rules others → others ≡ rules_for language d policy
-  pub expected : ForwardsAsExpected (language.filter (rules_for language d policy)) (flow_policy_of d policy)
-  pub enforces : Enforces (language.filter (rules_for language d policy)) (flow_policy_of d policy)
-  pub in_any_state : ForwardsInAnyState (language.filter (rules_for language d policy)) (flow_policy_of d policy)
-  pub other_frames : language.OtherFrames (rules_for language d policy)
-  pub other_states : language.OtherStates (rules_for language d policy)
+  pub rules : language.Rules
+  pub layout : language.IsLayout (flow_policy_of d policy) rules
+  pub written : text ≡ language.text rules
+  pub read : language.IsParsed rules → language.IsReading text rules
+  pub only_reading : (others : language.Rules) → language.IsReading text others → others ≡ rules
+  pub expected : ForwardsAsExpected (language.filter rules) (flow_policy_of d policy)
+  pub enforces : Enforces (language.filter rules) (flow_policy_of d policy)
+  pub in_any_state : ForwardsInAnyState (language.filter rules) (flow_policy_of d policy)
+  pub other_frames : language.OtherFrames rules
+  pub other_states : language.OtherStates rules
 
 -- The rules, if the condition holds and they can be emitted; with higher precedence the line with the reason, if the condition holds and
 -- they cannot.

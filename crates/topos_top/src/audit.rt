@@ -2,6 +2,7 @@
 //! expects.
 
 ghost use Rattle.std.specs.Prelude.{◌≡◌, IfOk, true};
+ghost use Rattle.rules_space.specs.Rules.{filter_of};
 ghost use Rattle.topos_top.specs.FileFormats as format;
 ghost use Rattle.topos_top.specs.Command.{Audit};
 ghost use Rattle.topos_top.specs.Audit.{audit_outcomes};
@@ -45,7 +46,7 @@ fn reply_for<'a, H: Shelf>(
     rules: &'a str,
     shelf: &mut H,
 ) -> Result<Answer<'a>, Answer<'a>>
-    ensures { IsPossibleReply true (reads (format.rules dialect) rules.now (λ said. ends (audit_outcomes description.now ((rule_dialect_of dialect).audited said))))
+    ensures { IsPossibleReply true (reads (format.rules dialect) rules.now (λ said. ends (audit_outcomes description.now ((rule_dialect_of dialect).filter said) ((rule_dialect_of dialect).audited said))))
         (shelf_change H.Shelf shelf.old shelf.new) (reply_in result) }
 {
     let rules = read_rules(alloc, dialect, rules, shelf)?;
@@ -58,7 +59,7 @@ fn answer<'a>(
     description: &Description,
     rules: &Rules,
 ) -> Result<Answer<'a>, AllocError>
-    ensures { IfOk result (λ answer. Answers true (audit_outcomes description.now (rules_view rules.now)) (reply_view answer)) }
+    ensures { IfOk result (λ answer. Answers true (audit_outcomes description.now (filter_of (rules_view rules.now)) (rules_view rules.now)) (reply_view answer)) }
 {
     let rules = rules.audited();
     // The call establishes that the rules have one verdict for each packet in each state.

@@ -51,7 +51,11 @@ pub fn usage() -> &'static [u8]
     \x20      topos migrate FILE\n\
     \x20      topos audit iptables|openflow FILE RULES\n\
     \x20      topos edit FILE EDITS\n\
-    \x20      topos local FILE HOST\n"
+    \x20      topos local FILE HOST\n\
+    \x20      topos rules nft FILE\n\
+    \x20      topos repair nft FILE\n\
+    \x20      topos trace nft RULES EVENTS\n\
+    \x20      topos audit nft FILE RULES\n"
 }
 
 /// Parses a command, if the arguments form one.

@@ -57,7 +57,7 @@ pub fn policy_rules<'a>(
     let policy = policy_of(alloc, description)?;
     let layout = dialect.layout(alloc, &policy_between(description, &policy))?;
     match layout {
-        Ok(rules) => Ok(Answer::done(Text::Rules(rules))),
+        Ok(text) => Ok(Answer::done(text)),
         Err(line) => Ok(Answer::not_emittable(line)),
     }
 }

@@ -6,10 +6,12 @@ ghost use Rattle.topos_top.specs.FileFormats as format;
 ghost use Rattle.topos_top.specs.Command.{Trace};
 ghost use Rattle.topos_top.specs.Commands.{plan_of};
 ghost use Rattle.run_core.specs.CommandPlan.{reads, ends};
+ghost use Rattle.run_core.specs.Dialects.{rule_dialect_of};
 ghost use Rattle.run_core.specs.Outcomes.{Answers};
 ghost use Rattle.run_core.specs.Replies.{IsPossibleReply};
 ghost use Rattle.run_core.specs.Shelf.{shelf_change};
 ghost use Rattle.topos_top.specs.Trace.{trace_outcomes};
+ghost use Rattle.topos_top.specs.inner.Reads.{ParsesTo};
 ghost use Rattle.run_core.specs.inner.Views.{reply_in, reply_view, rules_view};
 
 use crate::reading::{read_events, read_rules};
@@ -30,17 +32,19 @@ pub fn reply<'a, H: Shelf>(
         (shelf_change H.Shelf shelf.old shelf.new) (reply_in result) }
 {
     let rules = read_rules(alloc, dialect, rules, shelf)?;
-    reply_for(alloc, &rules, events, shelf)
+    reply_for(alloc, dialect, &rules, events, shelf)
 }
 
-/// Returns the reply for parsed rules and the file of events.
+/// Returns the reply for parsed rules of the dialect and the file of events.
 fn reply_for<'a, H: Shelf>(
     alloc: Global,
+    dialect: Dialect,
     rules: &Rules,
     events: &'a str,
     shelf: &mut H,
 ) -> Result<Answer<'a>, Answer<'a>>
-    ensures { IsPossibleReply false (reads format.events events.now (λ es. ends (trace_outcomes (filter_of (rules_view rules.now)) es)))
+    ensures { (said : (rule_dialect_of dialect).Rules) → ParsesTo dialect (rules_view rules.now) said
+        → IsPossibleReply false (reads format.events events.now (λ es. ends (trace_outcomes ((rule_dialect_of dialect).filter said) es)))
         (shelf_change H.Shelf shelf.old shelf.new) (reply_in result) }
 {
     let events = read_events(alloc, events, shelf)?;

@@ -2,7 +2,7 @@
 use Rattle.std.specs.Prelude.{List, [], ◌∷◌}
 use Rattle.audit_core.specs.declared.difference.Difference.{Difference}
 use Rattle.host_net.specs.Host.{Host}
-use Rattle.query_core.specs.CompareJson.{compare_json}
+use Rattle.compare_json.specs.CompareJson.{compare_json}
 use Rattle.run_core.specs.Reply.{Reply}
 use Rattle.run_core.specs.declared.status.Status.TheVariants.{Done, Violated}
 use Rattle.run_core.specs.declared.status.Stream.TheVariants.{Output}

@@ -2,10 +2,11 @@
 
 ghost use Rattle.std.specs.Prelude.{IfOk};
 ghost use Rattle.run_core.specs.declared.dialect.Dialect.TheVariants.{OpenFlow};
-ghost use Rattle.run_core.specs.inner.DialectCalls.{IsLayout, IsRead};
+ghost use Rattle.run_core.specs.inner.DialectCalls.{IsRead, IsWritten};
 
 use crate::dialect::{Rules, RulesFault};
 use crate::hindrance::{count_line, flow_line};
+use crate::text::Text;
 use emit_core::{NoTable, flow_table_layout, needs_state};
 use ofp_read::OfpFault;
 use pkt_core::FlowPolicy;
@@ -24,8 +25,11 @@ pub fn read(alloc: Global, bytes: &[u8]) -> Result<Rules, RulesFault>
 
 /// Returns the flow table of a policy, or the line with the reason why there is none: a table is
 /// stateless, matches one port at a time, and has an entry limit.
-pub fn layout(alloc: Global, policy: &FlowPolicy<'_>) -> Result<Result<Rules, Vec<u8>>, AllocError>
-    ensures { IfOk result (IsLayout OpenFlow policy.now) }
+pub fn layout<'a>(
+    alloc: Global,
+    policy: &FlowPolicy<'_>,
+) -> Result<Result<Text<'a>, Vec<u8>>, AllocError>
+    ensures { IfOk result (IsWritten OpenFlow policy.now) }
 {
     let hosts = policy.hosts();
     if let Some(flow) = needs_state(policy) {
@@ -33,7 +37,7 @@ pub fn layout(alloc: Global, policy: &FlowPolicy<'_>) -> Result<Result<Rules, Ve
         return Ok(Err(line));
     }
     match flow_table_layout(alloc, policy) {
-        Ok(table) => Ok(Ok(Rules::Table(table))),
+        Ok(table) => Ok(Ok(Text::Rules(Rules::Table(table)))),
         Err(NoTable::RangeOfPorts { flow }) => {
             // The call establishes that the ends of each permitted flow are hosts.
             let _hosts = policy.permitted().size();

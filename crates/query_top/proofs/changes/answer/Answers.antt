@@ -2,7 +2,7 @@ use Rattle.std.proofs.Common.{◌≡◌, ◌==◌, ℕ, Bool, true, false, not, 
 use Rattle.std.proofs.lemmas.Bool.{eqb-true}
 use Rattle.std.specs.Prelude.{if◌then◌else◌}
 use Rattle.net_core.specs.Network.{Network}
-use Rattle.query_core.specs.Json.{is_nothing}
+use Rattle.json_core.specs.Json.{is_nothing}
 use Rattle.query_top.specs.Changes.{IsChangesAnswer, changes_outcomes}
 use Rattle.run_core.specs.Outcomes.{Answers}
 use Rattle.run_core.specs.Reply.{Reply}

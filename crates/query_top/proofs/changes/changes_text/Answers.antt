@@ -1,6 +1,6 @@
 use Rattle.std.proofs.lemmas.Result.{IfOk-weaker}
-use Rattle.query_core.proofs.ChangesLaws.{changes_fit}
-use Rattle.query_core.proofs.WeakeningLaws.{weakening_fits}
+use Rattle.changes_json.proofs.ChangesLaws.{changes_fit}
+use Rattle.changes_json.proofs.WeakeningLaws.{weakening_fits}
 use Rattle.report_core.specs.FlowPolicies.{flow_policy_of}
 use Rattle.query_top.proofs.changes.changes_text.Goals as goal
 

@@ -1,5 +1,5 @@
 use Rattle.std.proofs.lemmas.Result.{IfOk-weaker}
-use Rattle.query_core.proofs.CompareLaws.{differences_fit}
+use Rattle.compare_json.proofs.CompareLaws.{differences_fit}
 use Rattle.run_core.specs.inner.Views.{reply_view, rules_view}
 use Rattle.run_core.proofs.OfPolicyLaws.{sides_for}
 use Rattle.query_top.proofs.CompareLaws.{ends_compared}

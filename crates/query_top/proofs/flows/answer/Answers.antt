@@ -1,7 +1,7 @@
 use Rattle.std.proofs.Common.{◌≡◌, ℕ, List, inl, refl, subst, sym, true}
 use Rattle.rules_space.specs.Rules.{AnyRules}
 use Rattle.host_net.specs.Host.{Host}
-use Rattle.query_core.proofs.FlowsLaws.{flows_fit}
+use Rattle.flows_json.proofs.FlowsLaws.{flows_fit}
 use Rattle.query_top.proofs.FlowsLaws.{are_complete}
 use Rattle.query_top.specs.Flows.{IsFlowsAnswer, flows_outcomes}
 use Rattle.run_core.specs.Outcomes.{Answers}

@@ -16,5 +16,5 @@ returns-in_err-description g c =
 
 pub returns : goal.returns
 returns g c =
-    went_on true description c.args.file.now (λ x. reads (rules c.args.dialect) c.args.rules.now (λ said. ends (audit_outcomes x ((rule_dialect_of c.args.dialect).audited said)))) _ _ _
+    went_on true description c.args.file.now (λ x. reads (rules c.args.dialect) c.args.rules.now (λ said. ends (audit_outcomes x ((rule_dialect_of c.args.dialect).filter said) ((rule_dialect_of c.args.dialect).audited said)))) _ _ _
     c.in_ok-description.description (reply_in c.reply_for.result) c.in_ok-description.ensures c.reply_for.ensures

@@ -1,7 +1,7 @@
 use Rattle.std.proofs.Common.{inl, subst, true}
 use Rattle.std.proofs.lemmas.Result.{err_from_is_err_and}
 use Rattle.std.specs.Prelude.{IfOk}
-use Rattle.rules_space.specs.Rules.{AnyRules}
+use Rattle.rules_space.specs.Rules.{AnyRules, filter_of}
 use Rattle.topos_top.specs.Audit.{audit_outcomes}
 use Rattle.run_core.specs.Dialects.{rule_dialect_of}
 use Rattle.run_core.specs.Outcomes.{Answers}
@@ -19,5 +19,5 @@ pub returns : goal.returns
 returns g c =
     let d = c.args.description.now in
     let read = c.in_ok-rules.ensures in
-    went_to_outcomes true (rules c.args.dialect) c.args.rules.now (λ said. audit_outcomes d ((rule_dialect_of c.args.dialect).audited said)) _ _ read.said c.answer.result (reply_in c.of_outcomes.result) read.read
-    (subst (λ (audited : AnyRules). IfOk c.answer.result (λ answer. Answers true (audit_outcomes d audited) (reply_view answer))) read.told c.answer.ensures) c.of_outcomes.ensures
+    went_to_outcomes true (rules c.args.dialect) c.args.rules.now (λ said. audit_outcomes d ((rule_dialect_of c.args.dialect).filter said) ((rule_dialect_of c.args.dialect).audited said)) _ _ read.said c.answer.result (reply_in c.of_outcomes.result) read.read
+    (subst (λ (audited : AnyRules). IfOk c.answer.result (λ answer. Answers true (audit_outcomes d (filter_of audited) audited) (reply_view answer))) read.told c.answer.ensures) c.of_outcomes.ensures

@@ -1,4 +1,4 @@
-use Rattle.std.proofs.Common.{ℕ, ◌++◌, ◌∙◌, ap, codes, decimal}
+use Rattle.std.proofs.Common.{ℕ, ◌++◌, ◌∙◌, ap, codes, decimal, refl}
 use Rattle.emit_core.specs.inner.EmitRefusals.{HasNoTable}
 use Rattle.emit_core.specs.declared.refusal.NoTable.TheVariants as refusal
 use Rattle.run_core.specs.Dialects.{NeedsState, RangeOfPorts, TooManyFlows}
@@ -22,3 +22,7 @@ returns-in_ok-count_line-in-Err-TooManyEntries c =
     rw c.in-Err-TooManyEntries.field-0-is at c.in-Err-TooManyEntries.ensures.refused in
     TooManyFlows c.in_default.ensures.barred many.0 many.1
     (c.in_ok-count_line-in-Err-TooManyEntries.ensures ∙ ap (λ (n : ℕ). not_emittable (decimal n ++ codes " flows exceed 8192\n")) many.2)
+
+pub returns-in-Ok : goal.returns-in-Ok
+returns-in-Ok c =
+    ((c.in_default.ensures.barred, c.in-Ok.ensures.ports, c.in-Ok.ensures.few), (c.in-Ok.table, c.in-Ok.ensures.layout, refl))
