@@ -121,8 +121,7 @@ compare_rules() {
       some_lines <"$folder/pairs"
       say "verdict: these rules do not implement ${option[file]}: $(number_of_pairs "$folder/pairs")" ;;
     *)
-      cat "$folder/refused"
-      refused_line "$folder/refused" "$folder/compared"
+      tell_refused "$folder/refused" "$folder/compared"
       say "verdict: cannot determine whether these rules implement ${option[file]}" ;;
   esac
 }
@@ -157,6 +156,14 @@ differences_of() {
         packet = $4; sub(/.*"packet /, "", packet); sub(/"$/, "", packet)
         print ($1 ? $1 : "no host") " -> " ($2 ? $2 : "no host") ": " says[$3] ", such as " packet
       }'
+}
+
+# Prints the rule of the second file that topos-query rejects, with the reason, as the first file says; else the first file.
+tell_refused() {
+  local rule
+  rule=$(refused_line "$1" "$2")
+  if [ -z "$rule" ]; then cat "$1"; return; fi
+  echo "topos-query does not read this rule of ${run[save]} ($(sed -n 's/^topos: rules: line [0-9]*: //p' "$1")): $rule"
 }
 
 # Prints the line of the second file that topos rejects, as the first one says.

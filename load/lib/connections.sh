@@ -146,11 +146,17 @@ drop_revoked() {
 # Whether this process makes a change that is rolled back meanwhile: then it deletes no more connections.
 is_undone() { [ -n "${run[changing]}" ] && is_decided; }
 
-# Creates a folder for judging, for this process alone. It is not in /run, where other daemons need the space.
+# Creates a folder for judging, for this process alone. It is not in /run, where other daemons need the space. The name of the
+# link to it has the number of the process, so that clear_state can remove the folder of a killed process.
 begin_judging() {
-  run[judging]=$(mktemp -d -p /var/tmp topos-load.XXXXXX 2>/dev/null) ||
-    run[judging]=$(mktemp -d -p "${run[state]}" judging.XXXXXX)
+  if run[judging]=$(mktemp -d -p /var/tmp topos-load.XXXXXX 2>/dev/null); then
+    ln -sfn "${run[judging]}" "${run[state]}/judging.$$" || true # judging does not need the link
+  else run[judging]=$(mktemp -d -p "${run[state]}" "judging.$$.XXXXXX")
+  fi
 }
+
+# Removes this folder.
+end_judging() { rm -rf "${run[judging]}" "${run[state]}/judging.$$"; }
 
 # Prints the connections of a list by flows, the most frequent first: a line `SENDER -> RECEIVER SERVICE: NUMBER` each.
 by_flows() {
@@ -193,7 +199,7 @@ drop_connections() {
     rm -f "${run[state]}/staying"
   else note "$stay: conntrack -F failed"
   fi
-  if [ -n "${run[judging]}" ]; then rm -rf "${run[judging]}"; fi
+  if [ -n "${run[judging]}" ]; then end_judging; fi
 }
 
 # Begins a question about connections, of which those in a file of numbers stay.
@@ -242,7 +248,7 @@ drop_begun() {
     run[reason]="$(number_of_older) connections from before the load remain, ${run[reason]}"
   else run[reason]="$stay: conntrack cannot list them"
   fi
-  if [ -n "${run[judging]}" ]; then rm -rf "${run[judging]}"; fi
+  if [ -n "${run[judging]}" ]; then end_judging; fi
 }
 
 # Prints how many of the tracked connections are in run[older].
@@ -273,9 +279,9 @@ tell_dry_run() {
   if begin_judging && drop_revoked "$(cat "${run[state]}/rules")" unknown; then
     say "a load would delete ${run[count]} connections; $(($(wc -l <"${run[judging]}/all") - run[count])) remain"
     if [ -s "${run[judging]}/dropped" ]; then by_flows_briefly <"${run[judging]}/dropped" | sed 's/^ */would be deleted: /'; fi
-    rm -rf "${run[judging]}"
+    end_judging
   else
-    rm -rf "${run[judging]}"
+    end_judging
     refuse "cannot determine which connections a load would delete"
   fi
   clear_state

@@ -42,9 +42,20 @@ take_lock() {
 
 # Removes what a load leaves, except saved states.
 clear_state() {
-  rm -rf "${run[state]}"/judging.*
+  clear_judging
   rm -f "${run[state]}"/{decision,armed,asked,made,connections,result,before,rules,rules.others,rules.policy,rules.description}
   rm -f "${run[state]}"/{log,settle,staying,older.before,logging,loaded,local}
+}
+
+# Removes the folders for judging of processes that are gone. Another process of this load may be judging.
+clear_judging() {
+  local each process
+  for each in "${run[state]}"/judging.*; do
+    process=${each##*/judging.}
+    if [ -e "/proc/${process%%.*}" ]; then continue; fi
+    if [ -L "$each" ]; then rm -rf "$(readlink "$each")"; fi
+    rm -rf "$each"
+  done
 }
 
 # Whether a load can change the table, or has changed it, and has not ended.
