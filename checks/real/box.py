@@ -1,4 +1,5 @@
-"""A gateway: a network namespace that forwards from one interface to another one, with tracked connections.
+"""A gateway: a network namespace that forwards from one interface to another one, with tracked connections. Its rules
+are chains of iptables, or a table of nft.
 
 Both are TUN interfaces: packets of any sender can be written to the first, and the packets that are read from the
 second were forwarded. After each packet an IPv6 marker follows, which no rule matches. A packet that has not arrived
@@ -20,6 +21,8 @@ MARKER = bytes.fromhex('600000000000' '3b40' + '20010db8' + '00' * 11 + '01' + '
 NETLINK_NETFILTER, DELETE_CONNECTIONS, REQUEST_AND_ACK = 12, 0x102, 5
 PATIENCE = 5.0
 CLOSED = '*filter\n:FORWARD DROP [0:0]\n-A FORWARD -m conntrack --ctstate ESTABLISHED -j DROP\nCOMMIT\n'
+CLOSED_TABLE = ('table ip topos {\n\tchain forward {\n\t\ttype filter hook forward priority filter; policy drop;\n'
+                '\t\tct state established drop\n\t}\n}\n')
 HOUR = '3600'
 SETTINGS = {
     'ipv4/ip_forward': '1',
@@ -47,7 +50,8 @@ def run(words: list[str], given: str | None = None, also: Sequence[int] = ()) ->
 
 
 class Box:
-    """The process moves into the namespace of the newest gateway."""
+    """A gateway with chains of iptables. The process moves into the namespace of the newest gateway."""
+    dialect = 'iptables'
 
     def __init__(self, back_end: str) -> None:
         self.restore, self.save = f'iptables-{back_end}-restore', f'iptables-{back_end}-save'
@@ -58,7 +62,7 @@ class Box:
             for words in ('link set in up', 'link set out up', 'route add default dev out',
                           '-6 route add default dev out'):
                 run(['ip', *words.split()])
-            run([self.restore], CLOSED)
+            self.close()
             for name, value in SETTINGS.items():
                 with open(f'/proc/sys/net/{name}', 'w', encoding='ascii') as file:
                     file.write(value)
@@ -67,6 +71,10 @@ class Box:
             raise Failed(str(fault)) from fault
         if self.send(b''):
             raise Failed('the gateway sends packets by itself')
+
+    def close(self) -> None:
+        """Loads rules that forward nothing, and track connections."""
+        run([self.restore], CLOSED)
 
     def version(self) -> str:
         return run([self.restore, '--version']).strip()
@@ -93,6 +101,27 @@ class Box:
                 return arrived
             if came[0] >> 4 == 4:
                 arrived.append(came)
+
+
+class TableBox(Box):
+    """A gateway with a table of nft, and no other rules."""
+    dialect = 'nft'
+
+    def __init__(self) -> None:
+        super().__init__('nft')
+
+    def close(self) -> None:
+        run(['nft', '-f', '-'], CLOSED_TABLE)
+
+    def version(self) -> str:
+        return run(['nft', '--version']).strip()
+
+    def load(self, text: str) -> None:
+        run(['nft', '-f', '-'], f'delete table ip topos\n{text}')
+        run(['conntrack', '-F'])
+
+    def saved(self) -> str:
+        return run(['nft', 'list', 'table', 'ip', 'topos'])
 
 
 def forget(event: Event) -> None:

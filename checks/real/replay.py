@@ -10,6 +10,7 @@ from ipaddress import IPv4Network
 
 from packets import BARE, NUMBERS, Event, is_routed
 
+ADDRESS = re.compile(r'\d+\.\d+\.\d+\.\d+(?:/\d+)?')
 FIRST_ROUTED = [int(ipaddress.IPv4Address(address)) for address in ('1.0.0.0', '128.0.0.0')]
 
 
@@ -17,9 +18,9 @@ class Replay:
     """Selects packets by the prefixes of a description and by a rule set."""
 
     def __init__(self, prefixes: Iterable[IPv4Network], text: str) -> None:
-        named = [ipaddress.IPv4Network(found, strict=False) for found in re.findall(r' -[sd] (\S+)', text)]
+        named = [ipaddress.IPv4Network(found, strict=False) for found in ADDRESS.findall(text)]
         self.cuts = {number for prefix in [*prefixes, *named] for number in (int(prefix[0]), int(prefix[-1]) + 1)}
-        self.protocols = {NUMBERS.get(name) or int(name) for name in re.findall(r' -p (\S+)', text)}
+        self.protocols = {NUMBERS.get(name) or int(name) for name in re.findall(r' (?:-p|l4proto) (\S+)', text)}
 
     def events(self, report: str) -> tuple[list[Event], bool]:
         """Returns the packets of the report, and whether the rules forward the last one."""

@@ -70,10 +70,10 @@ class Topos:
             return [ended.stderr.strip()] * len(case.events)
         return [line.split()[1] for line in ended.stdout.splitlines()]
 
-    def audit(self, case: Case, path: str) -> subprocess.CompletedProcess[str] | None:
+    def audit(self, kind: str, case: Case, path: str) -> subprocess.CompletedProcess[str] | None:
         """Returns how the audit of the rules in a file ends; None for a timeout."""
         try:
-            return self.run('audit', 'iptables', case.description, path)
+            return self.run('audit', kind, case.description, path)
         except subprocess.TimeoutExpired:
             return None
 
