@@ -1,0 +1,3 @@
+mod HistoryLaws
+mod LineLaws
+mod WordLaws
