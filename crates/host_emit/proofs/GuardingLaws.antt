@@ -176,7 +176,7 @@ module _ (policy : FlowPolicy) (h : ℕ) (known : IsHosts policy.site.hosts) whe
       internal (passes_on side state packet is)
 
   -- The layout enforces the policy on the machines of its host.
-  pub layout_guards : EnforcesAtHost (local_layout policy h) policy h
+  pub layout_guards : EnforcesAtHost (PassesOn (local_layout policy h)) policy h
   layout_guards = record {
     given = λ side state packet is. at_internal side state packet false is.0 is.1;
     only = λ side state packet passes is has. verdict_if-injective passes _ (verdict_once has (at_internal side state packet false is.0 is.1));

@@ -10,7 +10,6 @@ use Rattle.host_net.specs.Services.{services_of}
 use Rattle.host_net.specs.Site.{Site}
 use Rattle.flow_set.specs.declared.flow.Flow.{Flow}
 use Rattle.flow_set.specs.FlowSet.{has, IsSubset}
-use Rattle.ipt_rules.specs.Chain.{Chain}
 use Rattle.ipt_rules.specs.Semantics.{PassesChains}
 use Rattle.pkt_core.specs.declared.event.Event.{Event}
 use Rattle.host_net.specs.Packet.{swap_of}
@@ -31,7 +30,7 @@ use Rattle.host_emit.proofs.GuardingLaws.{layout_guards, owned_covered}
 use Rattle.host_emit.specs.inner.HostFirewalls.{AreFirewallsFor}
 use Rattle.host_emit.specs.LocalEvents.{AreExternal, AreSpecific, LocalRuns, DeliversAsExpected, PassesSoundly, RunsWith}
 use Rattle.host_emit.specs.LocalLayout.{is_specific, local_layout}
-use Rattle.host_emit.specs.Delivery.{empty_tables, or_unenforced}
+use Rattle.host_emit.specs.Delivery.{Firewalls, empty_tables, or_unenforced}
 use Rattle.host_emit.specs.inner.Passing.{host_on}
 use Rattle.host_emit.proofs.PassingLaws.{all_guarded, goes_permitted, goes_soundly, pass_as_expected, pass_keeps_first, some_pass_run}
 
@@ -68,15 +67,15 @@ own_decides : (hosts : List Host) (side : Direction) (packet : Packet) (f : Flow
 own_decides hosts side packet f is specific b =
     ap (λ (own : Bool). own && b) (owned_covered hosts (other_address (other_direction side) packet) (host_on side f) specific (own_end hosts packet f side is))
 
-module _ (chains : ℕ → List Chain) (policy : FlowPolicy) (subset : IsSubset policy.stateful policy.permitted)
-    (guarded : (h : ℕ) → is_specific policy.site.hosts h ≡ true → EnforcesAtHost (chains h) policy h) where
+module _ (firewalls : Firewalls) (policy : FlowPolicy) (subset : IsSubset policy.stateful policy.permitted)
+    (guarded : (h : ℕ) → is_specific policy.site.hosts h ≡ true → EnforcesAtHost (firewalls h) policy h) where
   -- A host that enforces the policy decides as the policy does at its end of a flow.
   guards_are_firewalls : (enforces : ℕ → Bool) → AreSpecific policy.site.hosts enforces
-      → AreFirewallsFor policy.site.hosts enforces (λ h. PassesOn (chains h)) IsExternal (permits policy) (permits_reply_to policy)
+      → AreFirewallsFor policy.site.hosts enforces firewalls IsExternal (permits policy) (permits_reply_to policy)
   guards_are_firewalls enforces are_specific = record {
     given = λ side state packet f known is enforcing.
         let specific = are_specific (host_on side f) enforcing in
-        subst (PassesOn (chains (host_on side f)) side state packet) (own_decides policy.site.hosts side packet f is specific (lets_pass policy packet state))
+        subst (firewalls (host_on side f) side state packet) (own_decides policy.site.hosts side packet f is specific (lets_pass policy packet state))
         ((guarded (host_on side f) specific).given side state packet known);
     only = λ side state packet f passes known is enforcing has.
         let specific = are_specific (host_on side f) enforcing in
@@ -86,36 +85,36 @@ module _ (chains : ℕ → List Chain) (policy : FlowPolicy) (subset : IsSubset 
   }
 
   partly_expected : (enforces : ℕ → Bool) → AreSpecific policy.site.hosts enforces → (events : List Event) (answers : List (Option Bool)) → AreExternal events
-      → RunsWith enforces chains policy.site.hosts events answers → AreExpected (or_unenforced policy.site.hosts enforces (permits policy)) (permits_reply_to policy) events answers
+      → RunsWith enforces firewalls policy.site.hosts events answers → AreExpected (or_unenforced policy.site.hosts enforces (permits policy)) (permits_reply_to policy) events answers
   partly_expected enforces are_specific events answers known run =
-      pass_as_expected policy.site.hosts enforces (λ h. PassesOn (chains h)) IsExternal (permits policy) (permits_reply_to policy) (guards_are_firewalls enforces are_specific) events known answers run
+      pass_as_expected policy.site.hosts enforces firewalls IsExternal (permits policy) (permits_reply_to policy) (guards_are_firewalls enforces are_specific) events known answers run
 
   partly_soundly : (enforces : ℕ → Bool) → AreSpecific policy.site.hosts enforces → (past : List Event) (packet : Packet) → IsExternal packet
-      → PassesSoundly enforces chains policy.site.hosts past packet → Expected (or_unenforced policy.site.hosts enforces (permits policy)) (permits_reply_to policy) past packet
+      → PassesSoundly enforces firewalls policy.site.hosts past packet → Expected (or_unenforced policy.site.hosts enforces (permits policy)) (permits_reply_to policy) past packet
   partly_soundly enforces are_specific past packet known soundly =
-      goes_soundly policy.site.hosts enforces (λ h. PassesOn (chains h)) IsExternal (permits policy) (permits_reply_to policy) (guards_are_firewalls enforces are_specific)
+      goes_soundly policy.site.hosts enforces firewalls IsExternal (permits policy) (permits_reply_to policy) (guards_are_firewalls enforces are_specific)
       past soundly.tables packet known soundly.sound true soundly.behind soundly.passes refl
 
   all_are_specific : AreSpecific policy.site.hosts (is_specific policy.site.hosts)
   all_are_specific h specific = specific
 
-  all_expected : (events : List Event) (answers : List (Option Bool)) → AreExternal events → LocalRuns chains policy.site.hosts events answers
+  all_expected : (events : List Event) (answers : List (Option Bool)) → AreExternal events → LocalRuns firewalls policy.site.hosts events answers
       → AreExpected (permits policy) (permits_reply_to policy) events answers
   all_expected events answers known run =
       subst (λ (permitted : Packet → Bool). AreExpected permitted (permits_reply_to policy) events answers) (λ i packet. all_guarded policy.site.hosts (permits policy) packet i)
       (partly_expected (is_specific policy.site.hosts) all_are_specific events answers known run)
 
-  firewalls : AreFirewallsFor policy.site.hosts (is_specific policy.site.hosts) (λ h. PassesOn (chains h)) IsExternal (permits policy) (permits_reply_to policy)
-  firewalls = guards_are_firewalls (is_specific policy.site.hosts) all_are_specific
+  all_firewalls : AreFirewallsFor policy.site.hosts (is_specific policy.site.hosts) firewalls IsExternal (permits policy) (permits_reply_to policy)
+  all_firewalls = guards_are_firewalls (is_specific policy.site.hosts) all_are_specific
 
   -- Exactly the expected packets pass.
-  pub guards_expected : DeliversAsExpected chains policy
+  pub guards_expected : DeliversAsExpected firewalls policy
   guards_expected = record {
     expected = all_expected;
     partial_deployment = partly_expected;
     first = λ events answers behind known run.
-        pass_keeps_first policy.site.hosts (is_specific policy.site.hosts) (λ h. PassesOn (chains h)) IsExternal (permits policy) (permits_reply_to policy) firewalls events known answers behind run;
-    some = λ events known. some_pass_run policy.site.hosts (is_specific policy.site.hosts) (λ h. PassesOn (chains h)) IsExternal (permits policy) (permits_reply_to policy) firewalls empty_tables events known;
+        pass_keeps_first policy.site.hosts (is_specific policy.site.hosts) firewalls IsExternal (permits policy) (permits_reply_to policy) all_firewalls events known answers behind run;
+    some = λ events known. some_pass_run policy.site.hosts (is_specific policy.site.hosts) firewalls IsExternal (permits policy) (permits_reply_to policy) all_firewalls empty_tables events known;
     one = λ events answers others known run other.
         expected_once (permits policy) (permits_reply_to policy) events answers others (all_expected events answers known run) (all_expected events others known other);
     only_expected = λ past packet known soundly.
@@ -123,16 +122,16 @@ module _ (chains : ℕ → List Chain) (policy : FlowPolicy) (subset : IsSubset 
         (partly_soundly (is_specific policy.site.hosts) all_are_specific past packet known soundly);
     partial_only_expected = partly_soundly;
     all_permitted = λ enforces are_specific tables behind packet passes known allowed goes.
-        goes_permitted policy.site.hosts enforces (λ h. PassesOn (chains h)) IsExternal (permits policy) (permits_reply_to policy) (guards_are_firewalls enforces are_specific) tables packet known allowed passes behind goes;
+        goes_permitted policy.site.hosts enforces firewalls IsExternal (permits policy) (permits_reply_to policy) (guards_are_firewalls enforces are_specific) tables packet known allowed passes behind goes;
   }
 
 -- With the layouts of all hosts exactly the expected packets pass.
-pub layouts_expected : (policy : FlowPolicy) → IsHosts policy.site.hosts → IsSubset policy.stateful policy.permitted → DeliversAsExpected (local_layout policy) policy
-layouts_expected policy known subset = guards_expected (local_layout policy) policy subset (λ h specific. layout_guards policy h known)
+pub layouts_expected : (policy : FlowPolicy) → IsHosts policy.site.hosts → IsSubset policy.stateful policy.permitted → DeliversAsExpected (λ h. PassesOn (local_layout policy h)) policy
+layouts_expected policy known subset = guards_expected (λ h. PassesOn (local_layout policy h)) policy subset (λ h specific. layout_guards policy h known)
 
 -- A packet passes between the hosts if and only if the chains of a firewall for the whole network forward it.
 pub passes_as_forwarded : (policy : FlowPolicy) → IsHosts policy.site.hosts → IsSubset policy.stateful policy.permitted → (events : List Event) → AreExternal events
-    → (passes forwards : List (Option Bool)) → LocalRuns (local_layout policy) policy.site.hosts events passes
+    → (passes forwards : List (Option Bool)) → LocalRuns (λ h. PassesOn (local_layout policy h)) policy.site.hosts events passes
     → RunsFromNoConnections (PassesChains (layout policy)) events forwards → passes ≡ forwards
 passes_as_forwarded policy known subset events external passes forwards local whole =
     expected_once (permits policy) (permits_reply_to policy) events passes forwards

@@ -113,6 +113,6 @@ abbrev events : List Event
 events = Seen answer ∷ Seen request ∷ Seen answer ∷ Forget answer ∷ Seen answer ∷ []
 
 -- An answer is dropped before its request was seen, passes after it, and is dropped once the connection is forgotten.
-pub row_passes : LocalRuns chains hosts events (Some false ∷ Some true ∷ Some true ∷ None ∷ Some false ∷ [])
+pub row_passes : LocalRuns (λ h. PassesOn (chains h)) hosts events (Some false ∷ Some true ∷ Some true ∷ None ∷ Some false ∷ [])
 row_passes =
     (dropped_again, (dropped, no_answer_goes, (asked, request_goes, (answered, answer_goes, (dropped_again, forgotten_goes, refl)))))

@@ -1,4 +1,4 @@
--- The verdict of the chains of a host's machine on one packet.
+-- The filters of a host's machines that enforce a policy on the host, and the chains of iptables as such filters.
 use Rattle.std.specs.Prelude.{◌≡◌, ℕ, Bool, true, ◌&&◌, IsTrue, IsFalse, List}
 use Rattle.host_net.specs.declared.packet.Packet.{Packet}
 use Rattle.host_net.specs.declared.packet.CtState.{CtState}
@@ -31,11 +31,11 @@ PassesOn chains side state packet passes = HasVerdictIn chains (entry_of side) p
 abbrev pub IsExternal : Packet → Type 0
 IsExternal packet = IsPacket packet × IsFalse (is_internal packet)
 
--- The chains enforce the policy for host h: in either direction they let exactly those packets of host h pass that the policy allows;
--- packets internal to a machine pass.
-pub record EnforcesAtHost (chains : List Chain) (policy : FlowPolicy) (h : ℕ) : Type 0 where
+-- The filters of outbound and of inbound packets enforce the policy for host h: in either direction exactly those packets of host h pass
+-- that the policy allows; packets internal to a machine pass.
+pub record EnforcesAtHost (passes : Direction → Filter) (policy : FlowPolicy) (h : ℕ) : Type 0 where
   pub given : (side : Direction) (state : CtState) (packet : Packet) → IsExternal packet
-      → PassesOn chains side state packet (is_own side policy.site.hosts h packet && lets_pass policy packet state)
-  pub only : (side : Direction) (state : CtState) (packet : Packet) (passes : Bool) → IsExternal packet → PassesOn chains side state packet passes
-      → passes ≡ (is_own side policy.site.hosts h packet && lets_pass policy packet state)
-  pub internal : (side : Direction) (state : CtState) (packet : Packet) → IsPacket packet → IsTrue (is_internal packet) → PassesOn chains side state packet true
+      → passes side state packet (is_own side policy.site.hosts h packet && lets_pass policy packet state)
+  pub only : (side : Direction) (state : CtState) (packet : Packet) (verdict : Bool) → IsExternal packet → passes side state packet verdict
+      → verdict ≡ (is_own side policy.site.hosts h packet && lets_pass policy packet state)
+  pub internal : (side : Direction) (state : CtState) (packet : Packet) → IsPacket packet → IsTrue (is_internal packet) → passes side state packet true

@@ -5,7 +5,7 @@ ghost use Rattle.std.specs.Prelude.{◌≡◌, ◌<◌, length, IfOk, OnOk, IsTr
 ghost use Rattle.host_net.specs.Site.{site_with};
 ghost use Rattle.flow_set.specs.FlowSet.{IsSubset};
 ghost use Rattle.pkt_core.specs.FlowPolicy.{policy_with};
-ghost use Rattle.host_emit.specs.HostEnforcement.{EnforcesAtHost};
+ghost use Rattle.host_emit.specs.HostEnforcement.{EnforcesAtHost, PassesOn};
 ghost use Rattle.host_emit.specs.LocalEvents.{DeliversAsExpected};
 ghost use Rattle.host_emit.specs.LocalLayout.{is_specific, local_layout};
 
@@ -36,12 +36,12 @@ pub fn emit_local(
 
     // In each direction a packet of the host passes if and only if the policy allows it. No other
     // packet passes, except loopback packets.
-    ensures enforces_at_host { IfOk result (λ rules. EnforcesAtHost rules (policy_with (site_with hosts.now services.now) p.now.flows s.now.flows) host) }
+    ensures enforces_at_host { IfOk result (λ rules. EnforcesAtHost (PassesOn rules) (policy_with (site_with hosts.now services.now) p.now.flows s.now.flows) host) }
 
     // If the machines of every specific host have its rules, a packet passes if and only if it is
     // expected to, for every list of events with external packets.
     ensures passes { OnOk result (DeliversAsExpected
-        (local_layout (policy_with (site_with hosts.now services.now) p.now.flows s.now.flows))
+        (λ h. PassesOn (local_layout (policy_with (site_with hosts.now services.now) p.now.flows s.now.flows) h))
         (policy_with (site_with hosts.now services.now) p.now.flows s.now.flows)) }
 {
     local_rules(alloc, &FlowPolicy::new(hosts, services, p, s), host)

@@ -8,6 +8,7 @@ ghost use Rattle.pkt_core.specs.declared.event.Event.{Event};
 ghost use Rattle.pkt_core.specs.Filter.{RunsFromNoConnections};
 ghost use Rattle.pkt_core.specs.FlowPolicy.{FlowPolicy};
 ghost use Rattle.emit_core.specs.Layout.{layout};
+ghost use Rattle.host_emit.specs.HostEnforcement.{PassesOn};
 ghost use Rattle.host_emit.specs.LocalEvents.{AreExternal, LocalRuns};
 ghost use Rattle.host_emit.specs.LocalLayout.{local_layout};
 
@@ -15,6 +16,6 @@ ghost use Rattle.host_emit.specs.LocalLayout.{local_layout};
 /// through one firewall with the layout of the whole network, for every list of events with external packets.
 pub fn firewalls_pass_as_one()
     ensures { (policy : FlowPolicy) → IsHosts policy.site.hosts → IsSubset policy.stateful policy.permitted → (events : List Event) → AreExternal events →
-        (passes forwards : List (Option Bool)) → LocalRuns (local_layout policy) policy.site.hosts events passes →
+        (passes forwards : List (Option Bool)) → LocalRuns (λ h. PassesOn (local_layout policy h)) policy.site.hosts events passes →
         RunsFromNoConnections (PassesChains (layout policy)) events forwards → passes ≡ forwards }
 {}

@@ -3,7 +3,7 @@
 ghost use Rattle.std.specs.Prelude.{◌≡◌, ◌<◌, ◌++◌, [], length, IfOk, OnOk, IsTrue};
 ghost use Rattle.std.specs.List.{flat_map};
 ghost use Rattle.pkt_core.specs.inner.FlowPolicy.{IsFlowPolicy};
-ghost use Rattle.host_emit.specs.HostEnforcement.{EnforcesAtHost};
+ghost use Rattle.host_emit.specs.HostEnforcement.{EnforcesAtHost, PassesOn};
 ghost use Rattle.host_emit.specs.LocalEvents.{DeliversAsExpected};
 ghost use Rattle.host_emit.specs.inner.LocalFilling.{AreChainRules, dropping_chains};
 ghost use Rattle.host_emit.specs.LocalLayout.{chain_for, entry_rules, is_specific, local_layout, loopback, loopback_rule, machine_chains, own_jump};
@@ -26,11 +26,11 @@ pub fn local_rules(alloc: Global, policy: &FlowPolicy<'_>, host: u16) -> Result<
 
     // In each direction a packet of the host passes if and only if the policy allows it. No other
     // packet passes, except loopback packets.
-    ensures enforces_at_host { IfOk result (λ rules. EnforcesAtHost rules policy.now host) }
+    ensures enforces_at_host { IfOk result (λ rules. EnforcesAtHost (PassesOn rules) policy.now host) }
 
     // If the machines of every specific host have its rules, a packet passes if and only if the
     // policy and its answers expect it, for every list of events with external packets.
-    ensures passes { OnOk result (DeliversAsExpected (local_layout policy.now) policy.now) }
+    ensures passes { OnOk result (DeliversAsExpected (λ h. PassesOn (local_layout policy.now h)) policy.now) }
 {
     let chains = local_chains(alloc, policy, host)?;
     build_accepted(alloc, chains)

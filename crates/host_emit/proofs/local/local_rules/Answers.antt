@@ -2,7 +2,7 @@ use Rattle.std.proofs.Common.{◌∙◌, sym, ap, subst}
 use Rattle.std.proofs.lemmas.Result.{IfOk-weaker}
 use Rattle.ipt_rules.specs.inner.Build.{refusal_of}
 use Rattle.ipt_rules.specs.Loops.{IsAcyclic}
-use Rattle.host_emit.specs.HostEnforcement.{EnforcesAtHost}
+use Rattle.host_emit.specs.HostEnforcement.{EnforcesAtHost, PassesOn}
 use Rattle.host_emit.proofs.GuardingLaws.{layout_guards}
 use Rattle.host_emit.proofs.LocalEventsLaws.{layouts_expected}
 use Rattle.host_emit.proofs.LocalLayoutLaws.{local_accepted, local_no_loop}
@@ -21,7 +21,7 @@ pub returns-clause-enforces_at_host : goal.returns-clause-enforces_at_host
 returns-clause-enforces_at_host c =
     let policy = c.args.policy.now in
     IfOk-weaker c.build_accepted.result _ _
-    (λ rules is. subst (λ chains. EnforcesAtHost chains policy c.args.host) (sym (is ∙ c.in_ok-chains.ensures.layout)) (layout_guards policy c.args.host c.in_ok-chains.ensures.policy.site.hosts))
+    (λ rules is. subst (λ chains. EnforcesAtHost (PassesOn chains) policy c.args.host) (sym (is ∙ c.in_ok-chains.ensures.layout)) (layout_guards policy c.args.host c.in_ok-chains.ensures.policy.site.hosts))
     c.build_accepted.ensures
 
 pub returns-clause-passes : goal.returns-clause-passes
