@@ -1,6 +1,7 @@
 -- Chains that are added one after the other.
 use Rattle.std.proofs.Common.{◌≡◌, inl, inr, ℕ, ◌+◌, ◌<◌, ◌≤◌, ◌^◌, zero, suc, List, [], ◌∷◌, ◌++◌, Some, map, length, refl, sym, subst, ◌∙◌, arith}
-use Rattle.std.specs.Prelude.{slice_get}
+use Rattle.std.specs.Prelude.{decimal, slice_get}
+use Rattle.std.specs.Option.{option_map_or}
 use Rattle.std.proofs.lemmas.Option.{slice_get_within}
 use Rattle.host_net.specs.Host.{Host}
 use Rattle.host_net.specs.inner.Hosts.{IsHosts}
@@ -9,6 +10,7 @@ use Rattle.nft_rules.specs.declared.table.MatchRule.{MatchRule}
 use Rattle.nft_rules.specs.declared.table.Rule.{Rule}
 use Rattle.nft_rules.specs.declared.table.Rule.TheVariants.{Match}
 use Rattle.nft_rules.specs.Loadable.{AreDistinct, AreNamed, AreRules, IsChainName, LeadsBelow}
+use Rattle.nft_emit.specs.LayoutNames.{HaveLayoutNames, IsLayoutName}
 use Rattle.nft_emit.specs.inner.Building.{AreAccepting, AreBuilt, Extends, HasName, HasRules, sender_name, services_name}
 use Rattle.nft_emit.proofs.NameLaws.{kinds_differ, sender_named, senders_differ, services_differ, services_named}
 
@@ -45,10 +47,10 @@ has_rules_pushed xs x rules is = record { chain = x; there = at_end xs x; rules_
 -- 2. Another chain.
 
 -- The name is new.
-abbrev IsNew : List Chain → List ℕ → Type 0
+abbrev pub IsNew : List Chain → List ℕ → Type 0
 IsNew xs name = (c : ℕ) (y : Chain) → slice_get xs c ≡ Some y → y.name.items ≡ name → ⊥
 
-distinct_push : (xs : List Chain) (x : Chain) → AreDistinct xs → IsNew xs x.name.items → AreDistinct (xs ++ x ∷ [])
+pub distinct_push : (xs : List Chain) (x : Chain) → AreDistinct xs → IsNew xs x.name.items → AreDistinct (xs ++ x ∷ [])
 distinct_push xs x distinct new = λ c d y z at there same.
     pushed_at (λ i u. (j : ℕ) (w : Chain) → slice_get (xs ++ x ∷ []) j ≡ Some w → u.name.items ≡ w.name.items → i ≡ j) xs x
     (λ i u here. pushed_at (λ j w. u.name.items ≡ w.name.items → i ≡ j) xs x (λ j w later. distinct i j u w here later) (λ equal. absurd (new i u here equal)))
@@ -111,6 +113,13 @@ pub built_named : (hosts : List Host) (xs : List Chain) → IsHosts hosts → le
 built_named hosts xs are few built c x at =
     let below = slice_get_within xs c x at in
     name_valid hosts c x.name.items are (omega (arith, below, few)) (built.named c x at)
+
+layout_name : (hosts : List Host) (from c : ℕ) (name : List ℕ) → HasName hosts from c name → IsLayoutName name
+layout_name hosts from c name (inl is) = inl (decimal c, is)
+layout_name hosts from c name (inr found) = inr (option_map_or (λ h. h.name) (slice_get hosts found.0) [], found.2)
+
+pub built_names : (hosts : List Host) (from : ℕ) (xs : List Chain) → AreBuilt hosts from xs → HaveLayoutNames xs
+built_names hosts from xs built c x at = layout_name hosts from c x.name.items (built.named c x at)
 
 -- 4. Equal rules.
 

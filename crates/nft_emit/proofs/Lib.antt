@@ -1,8 +1,8 @@
-mod BuildLaws
+pub mod BuildLaws
 mod CutLaws
 mod EvalLaws
-mod FallLaws
+pub mod FallLaws
 mod LinkLaws
-mod NameLaws
-mod SendLaws
+pub mod NameLaws
+pub mod SendLaws
 mod TableLaws

@@ -1,1 +1,2 @@
+pub mod LayoutNames
 pub mod inner

@@ -15,7 +15,7 @@ pub struct Cut {
 }
 
 /// Returns the ranges of all hosts other than the rest host, in ascending order.
-pub(crate) fn cuts_of(alloc: Global, hosts: &Hosts) -> Result<Vec<Cut>, AllocError>
+pub fn cuts_of(alloc: Global, hosts: &Hosts) -> Result<Vec<Cut>, AllocError>
     ensures { IfOk result (λ cuts. AreCuts hosts.now cuts.items) }
 {
     let rest = hosts.rest();

@@ -4,6 +4,7 @@ ghost use Rattle.std.specs.Prelude.{◌≡◌, ◌≤◌, [], length, IfOk, OnOk
 ghost use Rattle.pkt_core.specs.Filter.{Enforces, ForwardsAsExpected};
 ghost use Rattle.nft_rules.specs.Loadable.{IsLoadable};
 ghost use Rattle.nft_rules.specs.Semantics.{PassesTable};
+ghost use Rattle.nft_emit.specs.LayoutNames.{HaveLayoutNames, layout_limit};
 ghost use Rattle.nft_emit.specs.inner.Building.{AreBuilt};
 ghost use Rattle.nft_emit.specs.inner.Cuts.{AreCuts};
 ghost use Rattle.nft_emit.specs.inner.Sending.{AreHeads};
@@ -21,6 +22,8 @@ use std::alloc::{AllocError, Global};
 /// chains.
 pub fn nft_layout(alloc: Global, policy: &FlowPolicy<'_>) -> Result<Table, AllocError>
     ensures loadable { IfOk result (λ table. IsLoadable table) }
+    ensures few { IfOk result (λ table. length table.chains.items ≤ layout_limit) }
+    ensures named { IfOk result (λ table. HaveLayoutNames table.chains.items) }
 
     // Each packet has a verdict, and it is forwarded if and only if the policy allows it.
     ensures enforces { IfOk result (λ table. Enforces (PassesTable table) policy.now) }

@@ -15,5 +15,6 @@ mod same;
 mod sender;
 mod served;
 
-pub use cuts::Cut;
+pub use cuts::{Cut, cuts_of};
 pub use emit::nft_layout;
+pub use maps::fall_rules;

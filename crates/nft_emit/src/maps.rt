@@ -11,7 +11,7 @@ use std::alloc::{AllocError, Global};
 
 /// Returns the rules with these verdicts, one for each host. No verdict means that no packet of the
 /// host passes.
-pub(crate) fn fall_rules(
+pub fn fall_rules(
     alloc: Global,
     end: End,
     cuts: &[Cut],
