@@ -1,0 +1,3 @@
+pub mod HostTable
+pub mod MachineText
+pub mod inner
