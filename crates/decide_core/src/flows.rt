@@ -20,6 +20,10 @@ use pass_core::{PairServices, PassingRange, passing_by_pairs};
 use rules_space::RulesRef;
 use std::alloc::{AllocError, Global};
 
+/// The least number of searches, one for each pair of a source range and a destination range and each range of services,
+/// in place of which sets of packets are computed.
+const MANY_SEARCHES: usize = 64;
+
 /// A range of services that pass, wholly or in part, with the rules that let its packets pass.
 #[derive(Drop)]
 pub struct FlowRange {
@@ -101,7 +105,15 @@ fn decide_ranges(
     ensures ranges { IfOk result (λ list. map (λ r. r.range) list.items ≡ ranges.now) }
     ensures deciders { IfOk result (λ list. All (λ r. AreDeciders (rules_of text.now) (HasServiceBetween from.now to.now r.range.low r.range.high) r.deciders) list.items) }
 {
-    let sets = PairDeciders::of(alloc, text, from, to)?;
+    let searches = from
+        .len()
+        .saturating_mul(to.len())
+        .saturating_mul(ranges.len());
+    let sets = if searches < MANY_SEARCHES {
+        None
+    } else {
+        PairDeciders::of(alloc, text, from, to)?
+    };
     decide_each(alloc, text, from, to, &sets, ranges)
 }
 

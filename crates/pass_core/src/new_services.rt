@@ -7,10 +7,11 @@ ghost use Rattle.header_space.specs.Owners.{GoesBetween, HasRanges};
 ghost use Rattle.pass_core.specs.NewPackets.{LetsPass};
 ghost use Rattle.pass_core.specs.Pairs.{AreListed, AreListedByOwners, AreListedFrom, IsListedFor};
 ghost use Rattle.pass_core.specs.Passing.{ArePassing, AreRanges};
-ghost use Rattle.pass_core.specs.inner.Listing.{IsAdded};
+ghost use Rattle.pass_core.specs.inner.Listing.{AreSources, IsAdded};
 
 use crate::pairs::{
-    PairServices, every_address, hull, push_pairs as search_pairs, services_by_pairs,
+    PairServices, every_address, hull, passes_in_hulls, push_pair as search_pair,
+    push_pairs as search_pairs, services_by_pairs, sources_of,
 };
 use crate::passes_new::PassesNew;
 use crate::passing_range::PassingRange;
@@ -25,6 +26,10 @@ const FEW_OWNERS: usize = 8;
 /// The maximum product of the number of owners and the number of rules for the packets of one owner, if there are
 /// more owners. A search passes over the rules that match no packet of a pair, and sets of packets do not.
 const WORK_LIMIT: usize = 1 << 15;
+
+/// The least number of pairs of a source range and a destination range for which sets of packets are computed, if there
+/// are more owners. A search goes through them one by one.
+const MANY_AREAS: usize = 64;
 
 /// Returns the services that the rules accept for new connections from one set of addresses to another,
 /// wholly or in part, as ranges in ascending order.
@@ -108,8 +113,8 @@ fn push_from(
     }
 }
 
-/// Lists the pairs of one source owner with all destination owners: by sets of packets if there are few owners or few
-/// rules, else by a search.
+/// Lists the pairs of one source owner with all destination owners: by sets of packets if there are few owners, by sets
+/// or by a search if there are few rules, else by a search.
 fn push_by_size(
     alloc: Global,
     list: &mut Vec<PairServices>,
@@ -122,10 +127,57 @@ fn push_by_size(
     ensures { OnOk result (IsAdded (AreListedFrom (LetsPass question.now) owned.now from.now) list.old.items list.new.items) }
 {
     let work = owned.len().saturating_mul(question.rule_count());
-    if owned.len() <= FEW_OWNERS || work <= WORK_LIMIT {
+    if owned.len() <= FEW_OWNERS {
         push_pairs(alloc, list, question, from, owned)
+    } else if work <= WORK_LIMIT {
+        push_each(alloc, list, question, from, owned)
     } else {
         search_pairs(alloc, list, question, from, owned)
+    }
+}
+
+/// Lists the pairs of one source owner with all destination owners: each pair by sets of packets if its owners have many
+/// ranges of addresses, else by a search.
+fn push_each(
+    alloc: Global,
+    list: &mut Vec<PairServices>,
+    question: &PassesNew<'_>,
+    from: &Owned,
+    owned: &[Owned],
+) -> Result<(), AllocError>
+    requires from { HasRanges from.now }
+    requires to { All HasRanges owned.now }
+    ensures { OnOk result (IsAdded (AreListedFrom (LetsPass question.now) owned.now from.now) list.old.items list.new.items) }
+{
+    let sources = sources_of(alloc, question, &from.ranges)?;
+    for to in owned {
+        push_chosen(alloc, list, question, from, &sources, to)?;
+    }
+    Ok(())
+}
+
+/// Lists a pair of owners, if some packet of it passes. `sources` contains each source address from which some packet
+/// passes.
+fn push_chosen(
+    alloc: Global,
+    list: &mut Vec<PairServices>,
+    question: &PassesNew<'_>,
+    from: &Owned,
+    sources: &[AddressRange],
+    to: &Owned,
+) -> Result<(), AllocError>
+    requires from { HasRanges from.now }
+    requires sources { AreSources (LetsPass question.now) from.now.ranges.items sources.now }
+    requires to { HasRanges to.now }
+    ensures { OnOk result (IsAdded
+        (IsListedFor (LetsPass question.now) (GoesBetween from.now.ranges.items to.now.ranges.items) from.now.owner to.now.owner)
+        list.old.items list.new.items) }
+{
+    let areas = sources.len().saturating_mul(to.ranges.len());
+    if areas >= MANY_AREAS {
+        push_pair(alloc, list, question, from, to)
+    } else {
+        search_pair(alloc, list, question, from, sources, to)
     }
 }
 
@@ -162,6 +214,10 @@ fn push_pair(
         list.old.items list.new.items) }
 {
     if from.ranges.is_empty() || to.ranges.is_empty() {
+        return Ok(());
+    }
+    let passes = passes_in_hulls(alloc, question, &from.ranges, &to.ranges)?;
+    if !passes {
         return Ok(());
     }
     let ranges = question.services(alloc, &from.ranges, &to.ranges)?;

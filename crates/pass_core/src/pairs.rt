@@ -80,7 +80,7 @@ pub(crate) fn push_pairs<Q: Question>(
 
 /// Lists a pair of owners, if some packet of it passes. `sources` contains each source address from which
 /// some packet passes.
-fn push_pair<Q: Question>(
+pub(crate) fn push_pair<Q: Question>(
     alloc: Global,
     list: &mut Vec<PairServices>,
     question: &Q,
@@ -109,7 +109,7 @@ fn push_pair<Q: Question>(
 }
 
 /// Returns the ranges from which some packet passes.
-fn sources_of<Q: Question>(
+pub(crate) fn sources_of<Q: Question>(
     alloc: Global,
     question: &Q,
     ranges: &[AddressRange],
@@ -161,6 +161,25 @@ fn passes_some<Q: Question>(
         }
     }
     Ok(false)
+}
+
+/// Whether some packet passes from the hull of the sources to the hull of the destinations. If none does, none passes
+/// between the ranges themselves.
+pub(crate) fn passes_in_hulls<Q: Question>(
+    alloc: Global,
+    question: &Q,
+    from: &[AddressRange],
+    to: &[AddressRange],
+) -> Result<bool, AllocError>
+    requires from { All IsRange from.now }
+    requires to { All IsRange to.now }
+    ensures { IfOk result (λ some. PassesSome (Q.holds_of question.now) (GoesBetween from.now to.now) → IsTrue some) }
+{
+    let area = Area {
+        from: hull(from),
+        to: hull(to),
+    };
+    passes_in(alloc, question, area)
 }
 
 /// Whether some packet of the area passes.
