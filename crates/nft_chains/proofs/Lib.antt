@@ -1,8 +1,8 @@
-mod CoverLaws
+pub mod CoverLaws
 mod FillLaws
-mod JumpLaws
-mod MatchLaws
+pub mod JumpLaws
+pub mod MatchLaws
 mod NameLaws
 mod PartLaws
-mod SayLaws
+pub mod SayLaws
 pub mod VerdictLaws

@@ -156,7 +156,7 @@ leads_said chains state p end from (e ∷ es) v o fits ascend (inr later) has =
 
 -- ---- A rule of the table
 
-address_fits : (end : End) (p : Packet) → IsPacket p → address_at end p < 2 ^ 32
+pub address_fits : (end : End) (p : Packet) → IsPacket p → address_at end p < 2 ^ 32
 address_fits Source p is = is.0
 address_fits Destination p is = is.1
 

@@ -8,4 +8,5 @@ mod refusal;
 mod rules;
 
 pub use chains::chains_of_table;
+pub use prefixes::prefixes_of;
 pub use refusal::ChainsRefusal;

@@ -9,7 +9,7 @@ use host_net::Prefix;
 use std::alloc::{AllocError, Global};
 
 /// Returns the prefixes, in ascending order.
-pub(crate) fn prefixes_of(alloc: Global, range: AddressRange) -> Result<Vec<Prefix>, AllocError>
+pub fn prefixes_of(alloc: Global, range: AddressRange) -> Result<Vec<Prefix>, AllocError>
     ensures { IfOk result (λ prefixes. prefixes.items ≡ prefixes_of range) }
 {
     let mut prefixes = Vec::new(alloc);

@@ -1,0 +1,10 @@
+pub mod AlikeLaws
+pub mod FlowLaws
+mod MadeLaws
+mod MetLaws
+mod OrderLaws
+mod ReachLaws
+mod ResultLaws
+mod SearchLaws
+mod SpanLaws
+mod TargetLaws

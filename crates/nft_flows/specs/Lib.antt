@@ -1,0 +1,5 @@
+pub mod Dead
+pub mod Deciders
+pub mod Flows
+pub mod Places
+pub mod inner

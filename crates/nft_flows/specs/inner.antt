@@ -1,0 +1,4 @@
+pub mod Search
+pub mod Selected
+pub mod Solid
+pub mod Spans
