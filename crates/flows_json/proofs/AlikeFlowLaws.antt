@@ -120,7 +120,7 @@ module _ (rules : AnyRules) (Among Others : Packet → Type 0) (into : (p : Pack
       (λ there. other.by_default.1 (also_decides rules Among Others into None (one.by_default.0 there)))
       (λ there. one.by_default.1 (also_decides rules Others Among back None (other.by_default.0 there)))
 
-of_range_too : (hosts : List Host) (from to from' to' : Option ℕ) (r s : PassingRange) → from ≡ from' → to ≡ to' → r.low ≡ s.low → r.high ≡ s.high → (p : Packet)
+pub of_range_too : (hosts : List Host) (from to from' to' : Option ℕ) (r s : PassingRange) → from ≡ from' → to ≡ to' → r.low ≡ s.low → r.high ≡ s.high → (p : Packet)
     → IsOfRange hosts from to r p → IsOfRange hosts from' to' s p
 of_range_too hosts from to from' to' r s sources ends lows highs p is =
     let low = is.low in
@@ -159,7 +159,7 @@ ranges_alike rules hosts from to from' to' sources ends (r ∷ rs) (q ∷ qs) sa
 
 -- ---- the services of all pairs
 
-abbrev service_facts : PairServices → Option ℕ × Option ℕ × List (ℕ × ℕ × Bool)
+abbrev pub service_facts : PairServices → Option ℕ × Option ℕ × List (ℕ × ℕ × Bool)
 service_facts s = (s.from, s.to, map range_facts s.ranges.items)
 
 lists_alike : {X : Type 0} (Listed : X → List PairServices → Type 0)
@@ -197,7 +197,7 @@ module _ (Holds Between : Packet → Type 0) where
   one_alike from to (r ∷ []) (s ∷ t ∷ ts) one other = absurd other
   one_alike from to (r ∷ s ∷ ss) ts one other = absurd one
 
-services_alike : (Holds : Packet → Type 0) (hosts : List Host) (ss ts : List PairServices) → AreListedByOwners Holds hosts ss → AreListedByOwners Holds hosts ts
+pub services_alike : (Holds : Packet → Type 0) (hosts : List Host) (ss ts : List PairServices) → AreListedByOwners Holds hosts ss → AreListedByOwners Holds hosts ts
     → map service_facts ss ≡ map service_facts ts
 services_alike Holds hosts ss ts one other =
     lists_alike (λ from. AreListedFor (λ to. IsListedFor Holds (IsOfPair hosts from to) from to) (owners_of hosts))

@@ -1,3 +1,4 @@
 pub mod AlikeDeadLaws
 pub mod AlikeFlowLaws
+pub mod AlikeTableLaws
 pub mod FlowsLaws

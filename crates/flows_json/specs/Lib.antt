@@ -1,3 +1,4 @@
 pub mod Alike
 pub mod FlowsJson
+pub mod TableFlowsJson
 pub mod inner

@@ -3,5 +3,7 @@
 #![tactic(auto)]
 
 mod flows;
+mod table_flows;
 
 pub use flows::flows_json;
+pub use table_flows::table_flows_json;

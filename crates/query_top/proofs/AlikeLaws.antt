@@ -10,13 +10,25 @@ use Rattle.net_core.specs.Policies.{Policy}
 use Rattle.changes_json.proofs.AlikeChangeLaws.{changes_are_alike}
 use Rattle.flows_json.proofs.AlikeDeadLaws.{dead_are_one}
 use Rattle.flows_json.proofs.AlikeFlowLaws.{flows_are_alike}
+use Rattle.flows_json.proofs.AlikeTableLaws.{dead_are_one as table_dead_are_one, table_flows_are_alike}
 use Rattle.changes_json.proofs.AlikeWeakeningLaws.{gaps_are_one, weaker_are_alike}
 use Rattle.changes_json.specs.Alike.{AreAlikeChanges}
-use Rattle.flows_json.specs.Alike.{AreAlikeFlows}
+use Rattle.flows_json.specs.Alike.{AreAlikeFlows, AreAlikeTableFlows}
 use Rattle.flows_json.specs.FlowsJson.{flows_json}
+use Rattle.flows_json.specs.TableFlowsJson.{ChainNames, name_in, table_flows_json}
 use Rattle.changes_json.specs.Weakening.{IsWeakening}
 use Rattle.report_core.specs.FlowPolicies.{flow_policy_of}
-use Rattle.rules_space.specs.Rules.{AnyRules}
+use Rattle.nft_chains.proofs.VerdictLaws.{same_verdicts}
+use Rattle.nft_flows.proofs.AlikeLaws.{AreSimilar, IsKnown}
+use Rattle.nft_flows.specs.declared.place.TablePlace.{TablePlace}
+use Rattle.nft_read.specs.Reading.{IsTable}
+use Rattle.nft_rules.specs.declared.table.Table.{Table}
+use Rattle.nft_text.specs.Text.{table_text}
+use Rattle.rules_space.specs.Rules.{AnyRules, Chains, Entries}
+use Rattle.run_core.proofs.TableVerdictLaws.{has_verdicts}
+use Rattle.run_core.specs.Tables.{TableRules}
+use Rattle.run_core.specs.declared.dialect.Dialect.{Dialect}
+use Rattle.run_core.specs.declared.dialect.Dialect.TheVariants.{Iptables, Nft, OpenFlow}
 use Rattle.run_core.specs.Dialects.{rule_dialect_of}
 use Rattle.run_core.specs.Outcomes.{Answers, stream_of}
 use Rattle.run_core.specs.Replies.{Replies, RepliesTo, observable_shelf}
@@ -28,8 +40,10 @@ use Rattle.query_top.proofs.PlainLaws.{plain_laws}
 use Rattle.query_top.specs.Changes.{IsChangesAnswer, changes_outcomes}
 use Rattle.query_top.specs.Command.{Changes, Command, Compare, Flows, Network, Why}
 use Rattle.query_top.specs.Commands.{plan_of, topos_query}
-use Rattle.query_top.specs.Flows.{IsFlowsAnswer, flows_outcomes}
-use Rattle.query_top.specs.Promises.{AreAlike, AreAlikeFor, LeavesOpen}
+use Rattle.query_top.specs.Flows.{IsFlowsAnswer, IsFlowsAnswerOf, flows_outcomes}
+use Rattle.query_top.specs.TableFlows.{IsTableFlowsAnswer}
+use Rattle.query_top.proofs.TableShapeLaws.{one_names, one_spans}
+use Rattle.query_top.specs.Promises.{AreAlike, AreAlikeFlowsOf, AreAlikeFor, LeavesOpen}
 use Rattle.query_top.proofs.CommandLaws.{HasOneAnswer, one_text, rejects_once, weaken_or_not}
 use Rattle.query_top.proofs.ParseLaws.{one_ask}
 
@@ -48,14 +62,56 @@ flows_texts hosts rules text other p q = record {
   other_written = q.written ∙ ap (flows_json rules hosts q.flows) (dead_are_one rules q.dead p.dead q.are_dead p.are_dead);
 }
 
-flows_related : (command : Command) (hosts : List Host) (rules : AnyRules) (r s : Reply)
-    → ((text other : List ℕ) → AreAlikeFlows text other → r.status ≡ s.status → r.stream ≡ s.stream → text ≡ r.text → other ≡ s.text → AreAlike command r s)
-    → Answers true (flows_outcomes hosts rules) r → Answers true (flows_outcomes hosts rules) s → AreAlike command r s
-flows_related command hosts rules r s made (on, inl p) (also, inl q) =
+-- A table whose text was read.
+known_table : (table : Table) → IsTable table → IsKnown table
+known_table table is = record {
+  loadable = is.loadable;
+  same = same_verdicts table is.loadable (λ state p any. has_verdicts table is.loadable state p);
+}
+
+table_texts : (hosts : List Host) (rules : TableRules) (text other : List ℕ) → IsTableFlowsAnswer hosts rules text → IsTableFlowsAnswer hosts rules other
+    → AreAlikeTableFlows text other
+table_texts hosts rules text other p q =
+    let a = p.table in
+    let b = q.table in
+    let is = p.has_rules.is_table in
+    let own = q.has_rules.is_table in
+    let same : table_text a ≡ table_text b = sym p.has_rules.text ∙ q.has_rules.text in
+    let similar : AreSimilar a b = record { chains = sym p.has_rules.chains ∙ q.has_rules.chains; spans = one_spans a b is own same } in
+    let one = known_table a is in
+    let two = known_table b own in
+    record {
+      names = name_in a;
+      hosts = hosts;
+      dead = p.dead;
+      flows = p.flows;
+      other_flows = q.flows;
+      alike = table_flows_are_alike a b one two similar hosts p.flows q.flows p.are q.are;
+      written = p.written;
+      other_written =
+          q.written
+          ∙ ap (λ (names : ChainNames). table_flows_json names hosts q.flows q.dead) (sym (one_names a b is own same))
+          ∙ ap (λ (dead : List TablePlace). table_flows_json (name_in a) hosts q.flows dead)
+          (sym (table_dead_are_one a b one two similar p.dead q.dead p.are_dead q.are_dead));
+    }
+
+texts_of : (dialect : Dialect) (hosts : List Host) (said : (rule_dialect_of dialect).Rules) (text other : List ℕ) → IsFlowsAnswerOf dialect hosts said text
+    → IsFlowsAnswerOf dialect hosts said other → AreAlikeFlowsOf dialect text other
+texts_of Iptables hosts said text other p q = flows_texts hosts (Chains said) text other p q
+texts_of OpenFlow hosts said text other p q = flows_texts hosts (Entries said) text other p q
+texts_of Nft hosts said text other p q = table_texts hosts said text other p q
+
+flows_related : (dialect : Dialect) (file rules : List ℕ) (hosts : List Host) (said : (rule_dialect_of dialect).Rules) (r s : Reply)
+    → Answers true (flows_outcomes dialect hosts said) r → Answers true (flows_outcomes dialect hosts said) s → AreAlike (Flows dialect file rules) r s
+flows_related dialect file rules hosts said r s (on, inl p) (also, inl q) =
     let status : r.status ≡ s.status = p.0 ∙ sym q.0 in
-    made r.text s.text (flows_texts hosts rules r.text s.text p.2 q.2) status (on ∙ ap (stream_of true) status ∙ sym also) refl refl
-flows_related command hosts rules r s made (on, inl p) (also, inr q) = absurd q
-flows_related command hosts rules r s made (on, inr p) (also, q) = absurd p
+    record {
+      status = status;
+      stream = on ∙ ap (stream_of true) status ∙ sym also;
+      texts = inl (inr (texts_of dialect hosts said r.text s.text p.2 q.2));
+    }
+flows_related dialect file rules hosts said r s (on, inl p) (also, inr q) = absurd q
+flows_related dialect file rules hosts said r s (on, inr p) (also, q) = absurd p
 
 -- ---- answers to `changes`
 
@@ -140,12 +196,7 @@ replies_alike (Flows dialect file rules) told r s p q =
       description_laws,
       λ bytes d read. (
         plain_laws dialect,
-        λ also said parsed. λ a b one other. flows_related (Flows dialect file rules) d.hosts ((rule_dialect_of dialect).audited said) a b
-            (λ text also alike status stream here there. record {
-              status = status;
-              stream = stream;
-              texts = inl (inr (subst (AreAlikeFlows a.text) there (subst (λ (t : List ℕ). AreAlikeFlows t also) here alike)));
-            }) one.0 other.0,
+        λ also said parsed. λ a b one other. flows_related dialect file rules d.hosts said a b one.0 other.0,
       ),
     ) told r s p q
 replies_alike (Changes old new) told r s p q =

@@ -31,7 +31,7 @@ use Rattle.query_top.specs.Command.{Command, ParseAs, Changes, Compare, Flows, N
 use Rattle.query_top.specs.Changes.{IsChangesAnswer, changes_outcomes}
 use Rattle.query_top.specs.Commands.{plan_of}
 use Rattle.query_top.specs.Compare.{ReportsDifferences, compare_outcomes, equal_json}
-use Rattle.query_top.specs.Flows.{IsFlowsAnswer, flows_outcomes}
+use Rattle.query_top.specs.Flows.{IsFlowsAnswerOf, flows_outcomes}
 use Rattle.query_top.specs.Network.{IsNetworkAnswer, network_outcomes}
 use Rattle.query_top.specs.Promises.{DeliversReply, HasCause, HasRules, AnswersQuestion, OutputsDifferences}
 use Rattle.query_top.specs.Why.{IsWhy, why_outcomes}
@@ -138,8 +138,9 @@ compare_differs out err d filter rules at = elim at.1 [
   ]
 ]
 
-flows_done : (out err : SinkChange) (hosts : List Host) (rules : AnyRules) → HoldsAtOutcome status.Done true out err (flows_outcomes hosts rules) → Wrote out (IsFlowsAnswer hosts rules)
-flows_done out err hosts rules at = elim at.1 [
+flows_done : (out err : SinkChange) (dialect : Dialect) (hosts : List Host) (said : (rule_dialect_of dialect).Rules)
+    → HoldsAtOutcome status.Done true out err (flows_outcomes dialect hosts said) → Wrote out (IsFlowsAnswerOf dialect hosts said)
+flows_done out err dialect hosts said at = elim at.1 [
   | inl answer ↦ (at.0, at.2.0, answer.1)
   | inr none ↦ absurd none
 ]
@@ -171,9 +172,9 @@ answer_kept shelf out err (Why file from to) came =
     wrote shelf out err file (λ d. why_outcomes d from to) (λ d. IsWhy d from to) (λ d. why_done d from to) came
 answer_kept shelf out err (Network file) came = wrote shelf out err file network_outcomes IsNetworkAnswer network_done came
 answer_kept shelf out err (Flows dialect file rules) came =
-    both_read status.Done shelf out err (plain_rules dialect) (plain_laws dialect) file rules (λ d said. flows_outcomes d.hosts ((rule_dialect_of dialect).audited said))
-    (λ d said. Wrote out (IsFlowsAnswer d.hosts ((rule_dialect_of dialect).audited said)))
-    ((λ e. cc e), (λ e. cc e), (λ e. cc e), (λ e. cc e)) (λ d said. flows_done out err d.hosts ((rule_dialect_of dialect).audited said)) came
+    both_read status.Done shelf out err (plain_rules dialect) (plain_laws dialect) file rules (λ d said. flows_outcomes dialect d.hosts said)
+    (λ d said. Wrote out (IsFlowsAnswerOf dialect d.hosts said))
+    ((λ e. cc e), (λ e. cc e), (λ e. cc e), (λ e. cc e)) (λ d said. flows_done out err dialect d.hosts said) came
 answer_kept shelf out err (Compare dialect file rules) came =
     both_read status.Done shelf out err (plain_rules dialect) (plain_laws dialect) file rules (λ d said. compare_outcomes d ((rule_dialect_of dialect).filter said) ((rule_dialect_of dialect).audited said))
     (λ d said. ForwardsForNetwork d ((rule_dialect_of dialect).filter said) × Appends out equal_json)
@@ -236,16 +237,16 @@ never_bad_text_between shelf out err old new (inr on) = elim on.next [
   | inr went ↦ elim (changes_ends on.said went.said status.BadText went.next.1.0 went.next.1.1) [ inl is ↦ cc is | inr is ↦ cc is ]
 ]
 
-flows_ends : (hosts : List Host) (rules : AnyRules) → EndsInTwo (flows_outcomes hosts rules)
-flows_ends hosts rules ended text (inl answer) = inl answer.0.0
-flows_ends hosts rules ended text (inr none) = absurd none
+flows_ends : (dialect : Dialect) (hosts : List Host) (said : (rule_dialect_of dialect).Rules) → EndsInTwo (flows_outcomes dialect hosts said)
+flows_ends dialect hosts said ended text (inl answer) = inl answer.0.0
+flows_ends dialect hosts said ended text (inr none) = absurd none
 
 never_violated_by_rules : (shelf : ShelfChange) (out err : SinkChange) (dialect : Dialect) (file rules : List ℕ) → CameFrom status.Violated shelf out err (plan_of (Flows dialect file rules)) shelf.before → ⊥
 never_violated_by_rules shelf out err dialect file rules (inl stopped) =
     stop_of (since shelf.before shelf) file (λ t. t ≡ status.Violated → ⊥) stopped.0 (λ e. cc e) (λ e. cc e) (λ e. cc e) stopped.1 stopped.2
 never_violated_by_rules shelf out err dialect file rules (inr on) = elim on.next [
   | inl stopped ↦ not_at_file status.Violated shelf err (plain_rules dialect) (plain_laws dialect) rules on.after ((λ e. cc e), (λ e. cc e), (λ e. cc e), (λ e. cc e)) stopped
-  | inr went ↦ elim (flows_ends on.said.hosts ((rule_dialect_of dialect).audited went.said) status.Violated went.next.1.0 went.next.1.1) [ inl is ↦ cc is | inr is ↦ cc is ]
+  | inr went ↦ elim (flows_ends dialect on.said.hosts went.said status.Violated went.next.1.0 went.next.1.1) [ inl is ↦ cc is | inr is ↦ cc is ]
 ]
 
 differences_kept : (shelf : ShelfChange) (out err : SinkChange) (command : Command) → CameFrom status.Violated shelf out err (plan_of command) shelf.before

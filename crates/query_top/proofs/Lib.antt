@@ -6,3 +6,4 @@ pub mod FlowsLaws
 pub mod CommandLaws
 pub mod AnsweredLaws
 pub mod AlikeLaws
+pub mod TableShapeLaws

@@ -1,14 +1,8 @@
 -- The question of a command line (docs/QUERIES.md): a constructor for each form, with all its words.
-use Rattle.std.specs.Prelude.{◌≡◌, ℕ, Bool, true, false, IsTrue, List, [], ◌∷◌, ◌++◌, codes}
+use Rattle.std.specs.Prelude.{◌≡◌, ℕ, List, [], ◌∷◌, ◌++◌, codes}
 use Rattle.run_core.specs.Dialects.{rule_dialect_of}
 use Rattle.run_core.specs.Program.{FormNothing}
 use Rattle.run_core.specs.declared.dialect.Dialect.{Dialect}
-use Rattle.run_core.specs.declared.dialect.Dialect.TheVariants.{Nft}
-
--- The dialects that `flows` has.
-abbrev pub has_flows : Dialect → Bool
-has_flows Nft = false
-has_flows _ = true
 
 pub data Command : Type 0 where
   Why : (file from to : List ℕ) → Command
@@ -25,14 +19,9 @@ arguments_of (Flows dialect file rules) = codes "flows" ∷ (rule_dialect_of dia
 arguments_of (Compare dialect file rules) = codes "compare" ∷ (rule_dialect_of dialect).word ∷ file ∷ rules ∷ []
 arguments_of (Changes old new) = codes "changes" ∷ old ∷ new ∷ []
 
--- `flows` is not asked of tables of nftables.
-abbrev pub IsAsked : Command → Type 0
-IsAsked (Flows dialect file rules) = IsTrue (has_flows dialect)
-IsAsked _ = Unit {0}
-
 -- The arguments form this question.
 abbrev pub ParseAs : List (List ℕ) → Command → Type 0
-ParseAs words command = (words ≡ arguments_of command) × IsAsked command
+ParseAs words command = words ≡ arguments_of command
 
 -- The words are no form of the command line.
 abbrev pub ParseAsNothing : List (List ℕ) → Type 0
@@ -46,4 +35,5 @@ usage_text =
     ++ (codes "       topos-query flows iptables|openflow FILE RULES\n"
     ++ (codes "       topos-query compare iptables|openflow FILE RULES\n"
     ++ (codes "       topos-query changes OLD NEW\n"
-    ++ codes "       topos-query compare nft FILE RULES\n"))))
+    ++ (codes "       topos-query compare nft FILE RULES\n"
+    ++ codes "       topos-query flows nft FILE RULES\n")))))

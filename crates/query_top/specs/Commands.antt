@@ -16,7 +16,7 @@ abbrev pub plan_of : Command → CommandPlan
 plan_of (Why file from to) = reads description file (λ d. ends (why_outcomes d from to))
 plan_of (Network file) = reads description file (λ d. ends (network_outcomes d))
 plan_of (Flows dialect file rules) =
-    reads description file (λ d. reads (plain_rules dialect) rules (λ said. ends (flows_outcomes d.hosts ((rule_dialect_of dialect).audited said))))
+    reads description file (λ d. reads (plain_rules dialect) rules (λ said. ends (flows_outcomes dialect d.hosts said)))
 plan_of (Compare dialect file rules) =
     reads description file (λ d. reads (plain_rules dialect) rules (λ said. ends (compare_outcomes d ((rule_dialect_of dialect).filter said) ((rule_dialect_of dialect).audited said))))
 plan_of (Changes old new) = reads description old (λ before. reads description new (λ after. ends (changes_outcomes before after)))

@@ -1,7 +1,7 @@
 -- `flows DIALECT FILE RULES`: what rules let pass between the hosts of a network.
 use Rattle.std.specs.Prelude.{◌≡◌, ℕ, List}
 use Rattle.std.specs.List.{Contains}
-use Rattle.rules_space.specs.Rules.{AnyRules}
+use Rattle.rules_space.specs.Rules.{AnyRules, Chains, Entries}
 use Rattle.decide_core.specs.DeadPlaces.{AreDeadPlaces, AreRemovablePlaces}
 use Rattle.decide_core.specs.Flows.{AreFlows, IsOfRange}
 use Rattle.decide_core.specs.declared.flows.FlowRange.{FlowRange}
@@ -12,7 +12,11 @@ use Rattle.host_net.specs.declared.packet.Packet.{Packet}
 use Rattle.ipt_rules.specs.declared.marks.Place.{Place}
 use Rattle.pass_core.specs.NewPackets.{LetsPass}
 use Rattle.flows_json.specs.FlowsJson.{flows_json}
+use Rattle.run_core.specs.Dialects.{rule_dialect_of}
 use Rattle.run_core.specs.Outcomes.{Outcomes, writes}
+use Rattle.run_core.specs.declared.dialect.Dialect.{Dialect}
+use Rattle.run_core.specs.declared.dialect.Dialect.TheVariants.{Iptables, Nft, OpenFlow}
+use Rattle.query_top.specs.TableFlows.{IsTableFlowsAnswer}
 
 -- The flows have a packet: one of them is of the owners of its addresses, and has a range with its service.
 pub record HavePacket (hosts : List Host) (flows : List PairFlows) (p : Packet) : Type 0 where
@@ -37,5 +41,11 @@ pub record IsFlowsAnswer (hosts : List Host) (rules : AnyRules) (text : List ℕ
   pub removable : AreRemovablePlaces rules dead
   pub written : text ≡ flows_json rules hosts flows dead
 
-abbrev pub flows_outcomes : List Host → AnyRules → Outcomes
-flows_outcomes hosts rules = writes (IsFlowsAnswer hosts rules) (IsFlowsAnswer hosts rules)
+-- The answer for rules of a dialect.
+abbrev pub IsFlowsAnswerOf : (dialect : Dialect) → List Host → (rule_dialect_of dialect).Rules → List ℕ → Type 0
+IsFlowsAnswerOf Iptables hosts chains = IsFlowsAnswer hosts (Chains chains)
+IsFlowsAnswerOf OpenFlow hosts entries = IsFlowsAnswer hosts (Entries entries)
+IsFlowsAnswerOf Nft hosts rules = IsTableFlowsAnswer hosts rules
+
+abbrev pub flows_outcomes : (dialect : Dialect) → List Host → (rule_dialect_of dialect).Rules → Outcomes
+flows_outcomes dialect hosts said = writes (IsFlowsAnswerOf dialect hosts said) (IsFlowsAnswerOf dialect hosts said)

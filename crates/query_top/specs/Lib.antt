@@ -4,6 +4,7 @@ pub mod Changes
 pub mod Compare
 pub mod Flows
 pub mod Network
+pub mod TableFlows
 pub mod Why
 pub mod Commands
 pub mod Promises

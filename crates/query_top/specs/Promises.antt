@@ -12,15 +12,17 @@ use Rattle.run_core.specs.Shelf.{ShelfChange}
 use Rattle.run_core.specs.SinkChanges.{SinkChange, Appends}
 use Rattle.run_core.specs.FileFormats.{description}
 use Rattle.query_top.specs.PlainRules.{plain_rules}
+use Rattle.run_core.specs.declared.dialect.Dialect.{Dialect}
+use Rattle.run_core.specs.declared.dialect.Dialect.TheVariants.{Nft}
 use Rattle.run_core.specs.declared.status.Status.{Status}
 use Rattle.changes_json.specs.Alike.{AreAlikeChanges}
-use Rattle.flows_json.specs.Alike.{AreAlikeFlows}
+use Rattle.flows_json.specs.Alike.{AreAlikeFlows, AreAlikeTableFlows}
 use Rattle.run_core.specs.declared.status.Status.TheVariants.{BadText}
 use Rattle.query_top.specs.Command.{Command, ParseAs, ParseAsNothing, Changes, Compare, Flows, Network, Why}
 use Rattle.query_top.specs.Changes.{IsChangesAnswer}
 use Rattle.query_top.specs.Commands.{topos_query}
 use Rattle.query_top.specs.Compare.{ReportsDifferences, equal_json}
-use Rattle.query_top.specs.Flows.{IsFlowsAnswer}
+use Rattle.query_top.specs.Flows.{IsFlowsAnswerOf}
 use Rattle.query_top.specs.Network.{IsNetworkAnswer}
 use Rattle.query_top.specs.Why.{IsWhy}
 
@@ -39,7 +41,7 @@ abbrev pub AnswersQuestion : Command → ShelfChange → (out : SinkChange) → 
 AnswersQuestion (Why file from to) shelf out = WasRead shelf description file (λ d. Wrote out (IsWhy d from to))
 AnswersQuestion (Network file) shelf out = WasRead shelf description file (λ d. Wrote out (IsNetworkAnswer d))
 AnswersQuestion (Flows dialect file rules) shelf out = WasRead shelf description file
-    (λ d. WasRead shelf (plain_rules dialect) rules (λ said. Wrote out (IsFlowsAnswer d.hosts ((rule_dialect_of dialect).audited said))))
+    (λ d. WasRead shelf (plain_rules dialect) rules (λ said. Wrote out (IsFlowsAnswerOf dialect d.hosts said)))
 AnswersQuestion (Compare dialect file rules) shelf out = WasRead shelf description file
     (λ d. WasRead shelf (plain_rules dialect) rules (λ said. ForwardsForNetwork d ((rule_dialect_of dialect).filter said) × Appends out equal_json))
 AnswersQuestion (Changes old new) shelf out = WasRead shelf description old (λ before. WasRead shelf description new (λ after. Wrote out (IsChangesAnswer before after false)))
@@ -59,10 +61,15 @@ HasRules (Flows dialect file rules) = Unit {0}
 HasRules (Compare dialect file rules) = Unit {0}
 HasRules _ = ⊥
 
+-- The texts of two answers of `flows` in a dialect are equal but for the examples.
+abbrev pub AreAlikeFlowsOf : Dialect → (text other : List ℕ) → Type 0
+AreAlikeFlowsOf Nft text other = AreAlikeTableFlows text other
+AreAlikeFlowsOf _ text other = AreAlikeFlows text other
+
 -- The texts of two answers to a question are equal. The packets that answers of `flows` and `changes` show are examples: their texts are
 -- equal but for these.
 abbrev pub AreAlikeTexts : Command → (text other : List ℕ) → Type 0
-AreAlikeTexts (Flows dialect file rules) text other = (text ≡ other) ⊎ AreAlikeFlows text other
+AreAlikeTexts (Flows dialect file rules) text other = (text ≡ other) ⊎ AreAlikeFlowsOf dialect text other
 AreAlikeTexts (Changes old new) text other = (text ≡ other) ⊎ AreAlikeChanges text other
 AreAlikeTexts _ text other = text ≡ other
 

@@ -2,7 +2,7 @@
 
 ghost use Rattle.std.specs.Prelude.{◌≡◌, map, string_bytes, option_map};
 ghost use Rattle.run_core.specs.inner.Forms.{among};
-ghost use Rattle.query_top.specs.Command.{has_flows, usage_text};
+ghost use Rattle.query_top.specs.Command.{usage_text};
 ghost use Rattle.query_top.specs.inner.Command.{command_of, command_view, forms};
 
 use run_core::{Dialect, one_word, three_words, two_words};
@@ -32,7 +32,8 @@ pub fn usage() -> &'static [u8]
     \x20      topos-query flows iptables|openflow FILE RULES\n\
     \x20      topos-query compare iptables|openflow FILE RULES\n\
     \x20      topos-query changes OLD NEW\n\
-    \x20      topos-query compare nft FILE RULES\n"
+    \x20      topos-query compare nft FILE RULES\n\
+    \x20      topos-query flows nft FILE RULES\n"
 }
 
 /// Returns the question of the words, or `None` if they are no form.
@@ -58,12 +59,7 @@ fn parse_after_verb<'a>(verb: &str, rest: &'a [String]) -> Option<Command<'a>>
         "network" => Some(Command::Network(one_word(rest)?)),
         "flows" => {
             let (word, file, rules) = three_words(rest)?;
-            let dialect = Dialect::named(word)?;
-            if has_flows(dialect) {
-                Some(Command::Flows(dialect, file, rules))
-            } else {
-                None
-            }
+            Some(Command::Flows(Dialect::named(word)?, file, rules))
         }
         "compare" => {
             let (word, file, rules) = three_words(rest)?;
@@ -74,15 +70,5 @@ fn parse_after_verb<'a>(verb: &str, rest: &'a [String]) -> Option<Command<'a>>
             Some(Command::Changes(old, new))
         }
         _ => None,
-    }
-}
-
-// Whether `flows` is asked of rules of the dialect.
-fn has_flows(dialect: Dialect) -> bool
-    ensures { result ≡ has_flows dialect }
-{
-    match dialect {
-        Dialect::Iptables | Dialect::OpenFlow => true,
-        Dialect::Nft => false,
     }
 }

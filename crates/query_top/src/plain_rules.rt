@@ -4,12 +4,14 @@ ghost use Rattle.std.specs.Prelude.{Ok};
 ghost use Rattle.run_core.specs.Shelf.{shelf_change};
 ghost use Rattle.run_core.specs.declared.dialect.Dialect.TheVariants.{Iptables, Nft, OpenFlow};
 ghost use Rattle.run_core.specs.inner.DialectCalls.{IsRead};
-ghost use Rattle.run_core.specs.inner.Views.{rules_outcome};
-ghost use Rattle.query_top.specs.inner.Reads.{IsReadPlainly, MayReadPlainRules};
+ghost use Rattle.run_core.specs.inner.Views.{outcome_view, rules_outcome};
+ghost use Rattle.query_top.specs.inner.Reads.{IsReadPlainly, MayReadPlainRules, MayReadPlainTable};
 
 use edge_io::Shelf;
 use ipt_plain::plain_fault;
-use run_core::{Answer, Dialect, Format, Rules, RulesFault, take};
+use run_core::{
+    Answer, Dialect, Format, Rules, RulesFault, TableWithChains, read_with_chains, take,
+};
 use std::alloc::Global;
 
 /// The format of a file of such rules.
@@ -44,6 +46,23 @@ pub fn read_plain_rules<'a, H: Shelf>(
     let bytes = take(alloc, &PlainRules { dialect }, name, shelf)?;
     match read_plain(dialect, alloc, &bytes) {
         Ok(rules) => Ok(rules),
+        Err(RulesFault::Refused(line, reason)) => Err(Answer::bad_text(b"rules", line, reason)),
+        Err(RulesFault::Memory) => Err(Answer::no_memory()),
+    }
+}
+
+/// Reads the table of nftables of a file, with its chains.
+pub fn read_plain_table<'a, H: Shelf>(
+    alloc: Global,
+    name: &'a str,
+    shelf: &mut H,
+) -> Result<TableWithChains, Answer<'a>>
+    ensures { MayReadPlainTable name.now (shelf_change H.Shelf shelf.old shelf.new) (outcome_view result) }
+{
+    let dialect = Dialect::Nft;
+    let bytes = take(alloc, &PlainRules { dialect }, name, shelf)?;
+    match read_with_chains(alloc, &bytes) {
+        Ok(read) => Ok(read),
         Err(RulesFault::Refused(line, reason)) => Err(Answer::bad_text(b"rules", line, reason)),
         Err(RulesFault::Memory) => Err(Answer::no_memory()),
     }

@@ -1,5 +1,5 @@
 pub mod TextFaultLaws
-mod TableVerdictLaws
+pub mod TableVerdictLaws
 pub mod TableLaws
 pub mod DialectLaws
 pub mod FormatLaws

@@ -21,6 +21,7 @@ use pkt_core::{Event, FlowPolicy};
 use report_core::{trace_rules, trace_table};
 use rules_space::RulesRef;
 use std::alloc::{AllocError, Global};
+pub use tables::{TableWithChains, read_with_chains};
 
 /// A dialect of rules.
 #[derive(Clone, Copy)]

@@ -16,7 +16,7 @@ mod text;
 mod words;
 
 pub use answer::Answer;
-pub use dialect::{Dialect, Rules, RulesFault};
+pub use dialect::{Dialect, Rules, RulesFault, TableWithChains, read_with_chains};
 pub use ending::deliver;
 pub use flow_policy::policy_between;
 pub use format::{Format, too_long_description};

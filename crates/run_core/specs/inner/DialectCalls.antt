@@ -4,12 +4,15 @@ use Rattle.std.specs.Global.{Global}
 use Rattle.std.specs.declared.vec.Vec.{Vec}
 use Rattle.pkt_core.specs.FlowPolicy.{FlowPolicy}
 use Rattle.run_core.specs.Dialects.{IsLayoutText, rule_dialect_of}
+use Rattle.run_core.specs.Tables.{HasRules, IsReadingOfTable, TableRules}
 use Rattle.run_core.specs.TextFault.{fault_line}
 use Rattle.run_core.specs.inner.Views.{rules_view, text_view}
 use Rattle.run_core.specs.declared.dialect.Dialect.{Dialect}
+use Rattle.run_core.specs.declared.dialect.Dialect.TheVariants.{Nft}
 use Rattle.run_core.specs.declared.dialect.Rules.{Rules}
 use Rattle.run_core.specs.declared.dialect.RulesFault.{RulesFault}
 use Rattle.run_core.specs.declared.dialect.RulesFault.TheVariants.{Refused, Memory}
+use Rattle.run_core.specs.declared.dialect.tables.TableWithChains.{TableWithChains}
 use Rattle.run_core.specs.declared.text.Text.{Text}
 
 -- The line and the reason report a fault of the bytes in a dialect, unless memory ran out.
@@ -26,3 +29,8 @@ IsRead dialect bytes (Err fault) = IsFault dialect bytes fault
 abbrev pub IsWritten : Dialect → FlowPolicy → Result Text (Vec ℕ Global) → Type 0
 IsWritten dialect policy (Ok text) = (rule_dialect_of dialect).CanWrite policy × IsLayoutText (rule_dialect_of dialect) policy (text_view text)
 IsWritten dialect policy (Err line) = (rule_dialect_of dialect).CannotEmit line.items policy
+
+-- The result of parsing bytes to a table: the table with its chains, or a fault.
+abbrev pub IsTableRead : (bytes : List ℕ) → Result TableWithChains RulesFault → Type 0
+IsTableRead bytes (Ok read) = (said : TableRules) × (read.chains ≡ said.chains) × HasRules read.table said × IsReadingOfTable bytes said
+IsTableRead bytes (Err fault) = IsFault Nft bytes fault

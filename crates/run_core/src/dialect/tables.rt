@@ -4,10 +4,11 @@ ghost use Rattle.std.specs.Prelude.{◌≡◌, IfOk};
 ghost use Rattle.nft_read.specs.Reading.{IsReading};
 ghost use Rattle.run_core.specs.Tables.{size_reason};
 ghost use Rattle.run_core.specs.declared.dialect.Dialect.TheVariants.{Nft};
-ghost use Rattle.run_core.specs.inner.DialectCalls.{IsRead, IsWritten};
+ghost use Rattle.run_core.specs.inner.DialectCalls.{IsRead, IsTableRead, IsWritten};
 
 use crate::dialect::{Rules, RulesFault};
 use crate::text::Text;
+use ipt_rules::Ruleset;
 use nft_chains::{ChainsRefusal, chains_of_table};
 use nft_emit::nft_layout;
 use nft_read::{read_table, table_ranges};
@@ -17,25 +18,46 @@ use pkt_core::FlowPolicy;
 use std::alloc::{AllocError, Global};
 use text_core::TextFault;
 
+/// A table of nftables, with the chains of iptables that have its verdicts.
+#[derive(Drop)]
+pub struct TableWithChains {
+    pub table: LoadableTable,
+    pub chains: Ruleset,
+}
+
 /// Parses the text of a table to the chains with its verdicts.
 pub fn read(alloc: Global, bytes: &[u8]) -> Result<Rules, RulesFault>
     ensures { IsRead Nft bytes.now result }
 {
+    match read_with_chains(alloc, bytes) {
+        Ok(read) => Ok(Rules::Chains(read.chains)),
+        Err(fault) => Err(fault),
+    }
+}
+
+/// Parses the text of a table to the table and the chains with its verdicts.
+pub fn read_with_chains(alloc: Global, bytes: &[u8]) -> Result<TableWithChains, RulesFault>
+    ensures { IsTableRead bytes.now result }
+{
     match read_table(alloc, bytes) {
-        Ok(table) => audited(alloc, bytes, &table),
+        Ok(table) => with_chains(alloc, bytes, table),
         Err(TextFault::Refused { line, why }) => Err(RulesFault::Refused(line, why.name())),
         Err(TextFault::Memory) => Err(RulesFault::Memory),
     }
 }
 
-/// Returns the chains with the verdicts of a parsed table.
-fn audited(alloc: Global, bytes: &[u8], table: &LoadableTable) -> Result<Rules, RulesFault>
-    requires { IsReading bytes.now table.now }
-    ensures { IsRead Nft bytes.now result }
+/// Returns a parsed table with the chains with its verdicts.
+fn with_chains(
+    alloc: Global,
+    bytes: &[u8],
+    table: LoadableTable,
+) -> Result<TableWithChains, RulesFault>
+    requires { IsReading bytes.now table }
+    ensures { IsTableRead bytes.now result }
 {
-    table_ranges(table);
-    match chains_of_table(alloc, table) {
-        Ok(Ok(chains)) => Ok(Rules::Chains(chains)),
+    table_ranges(&table);
+    match chains_of_table(alloc, &table) {
+        Ok(Ok(chains)) => Ok(TableWithChains { table, chains }),
         Ok(Err(refusal)) => Err(RulesFault::Refused(0, size_reason(refusal))),
         Err(AllocError) => Err(RulesFault::Memory),
     }

@@ -3,8 +3,8 @@ use Rattle.rules_space.specs.Rules.{AnyRules}
 use Rattle.host_net.specs.Host.{Host}
 use Rattle.flows_json.proofs.FlowsLaws.{flows_fit}
 use Rattle.query_top.proofs.FlowsLaws.{are_complete}
-use Rattle.query_top.specs.Flows.{IsFlowsAnswer, flows_outcomes}
-use Rattle.run_core.specs.Outcomes.{Answers}
+use Rattle.query_top.specs.Flows.{IsFlowsAnswer}
+use Rattle.run_core.specs.Outcomes.{Answers, writes}
 use Rattle.run_core.specs.Reply.{Reply}
 use Rattle.run_core.specs.inner.Views.{reply_on, reply_view, rules_view}
 use Rattle.run_core.specs.declared.status.Status.TheVariants.{Done}
@@ -13,9 +13,9 @@ use Rattle.query_top.proofs.flows.answer.Goals as goal
 
 -- The text with the flows is that of an outcome.
 answers_flows : (hosts : List Host) (rules : AnyRules) (text : List ℕ) (given : Reply) → IsFlowsAnswer hosts rules text → given ≡ reply_on Done Output text
-    → Answers true (flows_outcomes hosts rules) given
+    → Answers true (writes (IsFlowsAnswer hosts rules) (IsFlowsAnswer hosts rules)) given
 answers_flows hosts rules text given answer is =
-    subst (λ (r : Reply). Answers true (flows_outcomes hosts rules) r) (sym is) (refl, inl (refl, tt, answer))
+    subst (λ (r : Reply). Answers true (writes (IsFlowsAnswer hosts rules) (IsFlowsAnswer hosts rules)) r) (sym is) (refl, inl (refl, tt, answer))
 
 pub flows_json-requires : goal.flows_json-requires
 flows_json-requires c =

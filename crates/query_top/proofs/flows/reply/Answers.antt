@@ -1,6 +1,5 @@
 use Rattle.std.proofs.Common.{inl, true}
 use Rattle.std.proofs.lemmas.Result.{err_from_is_err_and}
-use Rattle.run_core.specs.Dialects.{rule_dialect_of}
 use Rattle.query_top.specs.Flows.{flows_outcomes}
 use Rattle.run_core.specs.CommandPlan.{reads, ends}
 use Rattle.run_core.specs.inner.Views.{reply_in}
@@ -16,5 +15,5 @@ returns-in_err-description g c =
 
 pub returns : goal.returns
 returns g c =
-    went_on true description c.args.file.now (λ x. reads (plain_rules c.args.dialect) c.args.rules.now (λ said. ends (flows_outcomes x.hosts ((rule_dialect_of c.args.dialect).audited said)))) _ _ _
+    went_on true description c.args.file.now (λ x. reads (plain_rules c.args.dialect) c.args.rules.now (λ said. ends (flows_outcomes c.args.dialect x.hosts said))) _ _ _
     c.in_ok-description.description (reply_in c.reply_for.result) c.in_ok-description.ensures (rw c.hosts.ensures.value at c.reply_for.ensures)

@@ -1,11 +1,6 @@
-use Rattle.std.proofs.Common.{ap, codes}
-use Rattle.run_core.specs.Tables.{NoText}
-use Rattle.run_core.specs.TextFault.{fault_line}
+use Rattle.std.proofs.Common.{ap}
+use Rattle.rules_space.specs.Rules.{Chains}
 use Rattle.run_core.proofs.dialect.tables.read.Goals as goal
 
-pub returns-in-Err-Refused : goal.returns-in-Err-Refused
-returns-in-Err-Refused c =
-    let line = c.in-Err-Refused.line in
-    let cause = rw c.in-Err-Refused.field-0-is at c.in-Err-Refused.ensures.refused in
-    let reason = rw c.in-Err-Refused.why-is at c.name.ensures in
-    rw c.in-Err-Refused.line-is (NoText line c.in-Err-Refused.why cause (ap (fault_line (codes "rules") line) reason))
+pub returns-in-Ok : goal.returns-in-Ok
+returns-in-Ok c = let read = c.in-Ok.ensures in (read.0, ap Chains read.1, read.3)
