@@ -18,7 +18,7 @@ use Rattle.report_core.proofs.ReportPromisesLaws.{reports_violations, reports_po
 use Rattle.sample_core.proofs.SampleLaws.{sample_is_one}
 use Rattle.sample_core.proofs.SamplePromisesLaws.{reports_sample}
 use Rattle.report_core.proofs.TraceLaws.{AnswersOnce, trace_is_one, reports_run}
-use Rattle.topos_top.specs.Command.{Command, Check, Policy, Rules, Repair, Trace, Sample, Migrate, Audit, Edit, Local}
+use Rattle.topos_top.specs.Command.{Command, Check, Policy, Rules, Repair, Trace, Sample, Migrate, Audit, Edit, Local, LocalTable}
 use Rattle.topos_top.specs.Audit.{audit_outcomes}
 use Rattle.topos_top.specs.Check.{check_outcomes, offences_when}
 use Rattle.topos_top.specs.Commands.{plan_of}
@@ -26,7 +26,10 @@ use Rattle.run_core.specs.CommandPlan.{reads, ends}
 use Rattle.run_core.specs.Filters.{AreEquivalentFilters}
 use Rattle.run_core.specs.Dialects.{rule_dialect_of}
 use Rattle.topos_top.specs.Edit.{edit_outcomes}
-use Rattle.topos_top.specs.Local.{local_outcomes, machines_when}
+use Rattle.topos_top.specs.Local.{local_chains, local_outcomes, local_table, machines_when}
+use Rattle.topos_top.specs.inner.Local.{local_dialect_of}
+use Rattle.topos_top.specs.declared.local.LocalDialect.{LocalDialect as CodeDialect}
+use Rattle.topos_top.specs.declared.local.LocalDialect.TheVariants.{Chains, Table}
 use Rattle.topos_top.specs.Policy.{policy_outcomes}
 use Rattle.topos_top.specs.Repair.{repair_outcomes}
 use Rattle.topos_top.specs.Rules.{ListedHolds, rules_outcomes, rules_when}
@@ -43,7 +46,8 @@ use Rattle.run_core.proofs.OutcomesLaws.{is_end, AreApart, AreKept, EachOutcome,
 use Rattle.run_core.proofs.CommandPlanLaws.{HoldsAtEnds, HoldsAtFormats, RefusesOnceOr, holds_at_ends}
 use Rattle.run_core.proofs.FormatLaws.{description_laws, same_refusal}
 use Rattle.topos_top.proofs.FormatLaws.{document_laws, edited_laws, edits_laws, edits_once, events_laws, events_once, rules_laws}
-use Rattle.topos_top.proofs.LocalLaws.{bar_is_one, local_is_one, local_keeps, specific_or_barred}
+use Rattle.topos_top.proofs.LocalDialectLaws.{local_laws_of}
+use Rattle.topos_top.proofs.LocalLaws.{bar_is_one, chains_are_one, local_keeps, specific_or_barred}
 use Rattle.topos_top.proofs.RulesLaws.{rules_are_one, never_both, hindrance_is_one, rules_keep}
 use Rattle.edit_core.specs.Edit.{Edit as Change}
 use Rattle.toml.specs.Data.{Members}
@@ -68,11 +72,11 @@ one_rules Open holds dialect d opens = (
   (elim (exact_or_not dialect) [ inl exact ↦ inl (rules_are_one (rule_dialect_of dialect) (laws_of dialect) d exact) | inr other ↦ inr (opens other) ], tt),
 )
 
-settled_machines : (holds : Type 0) (d : Network) (host : List ℕ) → IsNetwork d → IsSettled (machines_when holds d host)
-settled_machines holds d host sound = record {
-  owed = (
-    record { status = refl; one = bar_is_one d host; guarantees = λ now text is. is },
-    (record { status = refl; one = local_is_one d host; guarantees = λ now text is. local_keeps d host text sound now.1 is }, tt),
+kept_machines : (holds : Type 0) (dialect : CodeDialect) (d : Network) (host : List ℕ) → IsNetwork d → AreKept (machines_when holds (local_dialect_of dialect) d host)
+kept_machines holds dialect d host sound = record {
+  each = (
+    record { status = refl; guarantees = λ now text is. is },
+    (record { status = refl; guarantees = λ now text is. local_keeps d host (local_dialect_of dialect) (local_laws_of dialect) text sound is }, tt),
   );
   apart = ((λ barred written. specific_or_barred d host barred.1 barred.2 written.1, tt), (tt, tt));
 }
@@ -127,12 +131,15 @@ kept_listed_rules dialect d sound = record {
   apart = apart_listed dialect d sound;
 }
 
-settled_local : (d : Network) (host : List ℕ) → IsNetwork d → IsSettled (local_outcomes d host)
-settled_local d host sound = record {
-  owed = (owed_offences _ refl _ d sound, (settled_machines (ListedHolds d) d host sound).owed);
+kept_local : (dialect : CodeDialect) (d : Network) (host : List ℕ) → IsNetwork d → AreKept (local_outcomes (local_dialect_of dialect) d host)
+kept_local dialect d host sound = record {
+  each = (
+    record { status = refl; guarantees = λ now text is. reports_violations d text sound is },
+    (kept_machines (ListedHolds d) dialect d host sound).each,
+  );
   apart = (
     (λ fails barred. fails barred.0, (λ fails holds. fails holds.0, tt)),
-    (settled_machines (ListedHolds d) d host sound).apart,
+    (kept_machines (ListedHolds d) dialect d host sound).apart,
   );
 }
 
@@ -141,10 +148,12 @@ of_network : (Holds : Outcomes → Type 0) (file : List ℕ) (outcomes : Network
     → HoldsAtEnds Holds (reads description file (λ d. ends (outcomes d)))
 of_network Holds file outcomes holds = (description_laws, λ bytes d read. holds d (IsNetwork-described bytes d read))
 
--- The outcomes of the command have one text each in all dialects.
+-- The outcomes of the command have one text each in all dialects, by one lemma.
 abbrev pub HasOneAnswer : Command → Type 0
 HasOneAnswer (Rules dialect file) = ⊥
 HasOneAnswer (Repair dialect file) = ⊥
+HasOneAnswer (Local file host) = ⊥
+HasOneAnswer (LocalTable file host) = ⊥
 HasOneAnswer _ = Unit {0}
 
 pub settled : (command : Command) → HasOneAnswer command → HoldsAtEnds IsSettled (plan_of command)
@@ -170,7 +179,8 @@ settled (Audit dialect file rules) one = (
   ),
 )
 settled (Edit file edits) one = (edited_laws, λ bytes table read. (edits_laws, λ other es also. settled_edits table es))
-settled (Local file host) one = of_network IsSettled file (λ d. local_outcomes d host) (λ d sound. settled_local d host sound)
+settled (Local file host) none = absurd none
+settled (LocalTable file host) none = absurd none
 
 kept_if_one : (command : Command) → HasOneAnswer command → HoldsAtEnds AreKept (plan_of command)
 kept_if_one command one = holds_at_ends IsSettled AreKept settled_kept (plan_of command) (settled command one)
@@ -185,7 +195,8 @@ kept (Sample hosts) = kept_if_one (Sample hosts) tt
 kept (Migrate file) = kept_if_one (Migrate file) tt
 kept (Audit dialect file rules) = kept_if_one (Audit dialect file rules) tt
 kept (Edit file edits) = kept_if_one (Edit file edits) tt
-kept (Local file host) = kept_if_one (Local file host) tt
+kept (Local file host) = of_network AreKept file (λ d. local_outcomes local_chains d host) (λ d sound. kept_local Chains d host sound)
+kept (LocalTable file host) = of_network AreKept file (λ d. local_outcomes local_table d host) (λ d sound. kept_local Table d host sound)
 
 -- ---- the reply is unique but for texts that are left open
 
@@ -208,7 +219,12 @@ one_text (Sample hosts) = one_if_settled (Sample hosts) tt
 one_text (Migrate file) = one_if_settled (Migrate file) tt
 one_text (Audit dialect file rules) = one_if_settled (Audit dialect file rules) tt
 one_text (Edit file edits) = one_if_settled (Edit file edits) tt
-one_text (Local file host) = one_if_settled (Local file host) tt
+one_text (Local file host) =
+    of_network (EachOutcome (IsOneOr (LeavesOpen (Local file host)))) file (λ d. local_outcomes local_chains d host)
+    (λ d sound. (inl (check_report_is_one d), (inl (bar_is_one d host), (inl (chains_are_one d host), tt))))
+one_text (LocalTable file host) =
+    of_network (EachOutcome (IsOneOr (LeavesOpen (LocalTable file host)))) file (λ d. local_outcomes local_table d host)
+    (λ d sound. (inl (check_report_is_one d), (inl (bar_is_one d host), (inr tt, tt))))
 
 -- One line rejects the rules in an exact dialect.
 rules_once : (Open : Status → Type 0) (dialect : Dialect) → (((rule_dialect_of dialect).IsExact → ⊥) → Open BadText) → RefusesOnceOr Open (rules dialect)
@@ -227,3 +243,4 @@ rejects_once (Audit dialect file rules) =
     (inl same_refusal, λ bytes d read. (rules_once (LeavesOpen (Audit dialect file rules)) dialect (λ other. other), λ other said also. tt))
 rejects_once (Edit file edits) = (inl same_refusal, λ bytes table read. (inl edits_once, λ other es also. tt))
 rejects_once (Local file host) = (inl same_refusal, λ bytes d read. tt)
+rejects_once (LocalTable file host) = (inl same_refusal, λ bytes d read. tt)

@@ -6,14 +6,14 @@ use Rattle.net_core.specs.Network.{Network}
 use Rattle.pkt_core.specs.Firewall.{Filter}
 use Rattle.std.specs.FinMap.{get}
 use Rattle.std.specs.Prelude.{IfSome, codes}
-use Rattle.topos_top.specs.Command.{Command, Check, Policy, Rules, Repair, Trace, Sample, Migrate, Audit, Edit, Local, ParseAs}
+use Rattle.topos_top.specs.Command.{Command, Check, Policy, Rules, Repair, Trace, Sample, Migrate, Audit, Edit, Local, LocalTable, ParseAs}
 use Rattle.run_core.specs.OfPolicy.{ForwardsForNetwork}
 use Rattle.topos_top.specs.Audit.{audit_outcomes}
 use Rattle.topos_top.specs.Commands.{plan_of}
 use Rattle.run_core.specs.CommandPlan.{HoldsAtStop}
 use Rattle.run_core.specs.Dialects.{rule_dialect_of}
 use Rattle.run_core.specs.Outcomes.{AnyOutcome, EndsWithGuarantee}
-use Rattle.topos_top.specs.Local.{EnforcesPolicyLocally, local_outcomes}
+use Rattle.topos_top.specs.Local.{EnforcesPolicyLocally, LocalDialect, local_chains, local_outcomes, local_table}
 use Rattle.topos_top.specs.Promises.{HasCause, MeetsHeadline}
 use Rattle.topos_top.specs.Repair.{repair_outcomes}
 use Rattle.run_core.specs.Replies.{StopsRunAt}
@@ -43,11 +43,12 @@ by_repair dialect d text (inl hindered) = let other = hindered.0.0 in cc other
 by_repair dialect d text (inr (inl written)) = written.1
 by_repair dialect d text (inr (inr none)) = absurd none
 
-by_local : (d : Network) (host text : List ℕ) → AnyOutcome (EndsWithGuarantee Done text) (local_outcomes d host) → ListedHolds d × EnforcesPolicyLocally d host text
-by_local d host text (inl violated) = let other = violated.0.0 in cc other
-by_local d host text (inr (inl barred)) = let other = barred.0.0 in cc other
-by_local d host text (inr (inr (inl written))) = (written.0.1.0, written.1)
-by_local d host text (inr (inr (inr none))) = absurd none
+by_local : (dialect : LocalDialect) (d : Network) (host text : List ℕ) → AnyOutcome (EndsWithGuarantee Done text) (local_outcomes dialect d host)
+    → ListedHolds d × EnforcesPolicyLocally dialect d host text
+by_local dialect d host text (inl violated) = let other = violated.0.0 in cc other
+by_local dialect d host text (inr (inl barred)) = let other = barred.0.0 in cc other
+by_local dialect d host text (inr (inr (inl written))) = (written.0.1.0, written.1)
+by_local dialect d host text (inr (inr (inr none))) = absurd none
 
 by_audit : (d : Network) (filter : Filter) (rules : AnyRules) (text : List ℕ) → AnyOutcome (EndsWithGuarantee Done text) (audit_outcomes d filter rules)
     → (text ≡ codes "equal\n") × ForwardsForNetwork d filter
@@ -73,7 +74,11 @@ meets (Migrate file) shelf out (inr on) = elim on.next.1.1 [
 ]
 meets (Local file host) shelf out (inl stopped) = absurd stopped
 meets (Local file host) shelf out (inr on) =
-    let end = by_local on.said host on.next.1.0 on.next.1.1 in
+    let end = by_local local_chains on.said host on.next.1.0 on.next.1.1 in
+    record { bytes = on.bytes; held = on.held; said = on.said; read = on.read; so = (end.0, (on.next.1.0, on.next.1.2, end.1)) }
+meets (LocalTable file host) shelf out (inl stopped) = absurd stopped
+meets (LocalTable file host) shelf out (inr on) =
+    let end = by_local local_table on.said host on.next.1.0 on.next.1.1 in
     record { bytes = on.bytes; held = on.held; said = on.said; read = on.read; so = (end.0, (on.next.1.0, on.next.1.2, end.1)) }
 meets (Audit dialect file rules) shelf out (inl stopped) = absurd stopped
 meets (Audit dialect file rules) shelf out (inr on) = elim on.next [

@@ -1,5 +1,6 @@
 pub mod FormatLaws
 pub mod RulesLaws
+pub mod LocalDialectLaws
 pub mod LocalLaws
 pub mod AuditLaws
 pub mod EditLaws

@@ -4,16 +4,9 @@ use Rattle.std.proofs.Common.{◌≡◌, inl, inr, ℕ, true, false, not, ◌==�
 use Rattle.std.specs.Prelude.{◌↔◌, Option}
 use Rattle.std.specs.Option.{option_map_or}
 use Rattle.std.proofs.lemmas.Bool.Decides.{nat_tests}
-use Rattle.host_emit.proofs.GuardingLaws.{layout_guards}
-use Rattle.host_emit.proofs.LocalEventsLaws.{layouts_expected}
-use Rattle.host_emit.specs.LocalLayout.{is_specific}
-use Rattle.host_emit.proofs.LocalWritableLaws.{local_no_other_state, local_short, local_writable}
+use Rattle.host_emit.specs.LocalLayout.{is_specific, local_layout}
 use Rattle.host_net.specs.Host.{Host, rest_of}
 use Rattle.host_net.specs.inner.Site.{IsSite}
-use Rattle.ipt_read.proofs.AgainLaws.{text_read_again}
-use Rattle.ipt_read.proofs.FaultLaws.{one_reading}
-use Rattle.ipt_read.specs.TextLines.{IsReadingOfRules}
-use Rattle.ipt_rules.specs.Chain.{Chain}
 use Rattle.ipt_rules.specs.Text.{text}
 use Rattle.net_core.specs.inner.Fitting.{IsNetwork}
 use Rattle.net_core.specs.Network.{Network}
@@ -22,13 +15,14 @@ use Rattle.net_core.proofs.PolicyLaws.{IsSubset-stateful, policy_is_one}
 use Rattle.pkt_core.specs.FlowPolicy.{FlowPolicy}
 use Rattle.report_core.specs.FlowPolicies.{flow_policy_of}
 use Rattle.run_core.specs.Outcomes.{Answers}
-use Rattle.topos_top.specs.Local.{CannotEmitLocal, NoHost, RestHost, IsLocalText, IsSpecific, EnforcesPolicyLocally, local_outcomes, local_chains_for}
+use Rattle.topos_top.specs.Local.{CannotEmitLocal, NoHost, RestHost, IsLocalText, IsMachineText, IsSpecific, EnforcesPolicyLocally, LocalDialect, local_chains, local_outcomes}
 use Rattle.topos_top.specs.inner.Local.{machines_outcomes}
 use Rattle.run_core.specs.inner.Views.{reply_on}
 use Rattle.run_core.specs.Reply.{Reply}
 use Rattle.topos_top.specs.Rules.{ListedHolds}
 use Rattle.run_core.specs.declared.status.Status.TheVariants.{NotEmittable, Done}
 use Rattle.run_core.specs.declared.status.Stream.TheVariants.{Output}
+use Rattle.topos_top.proofs.LocalDialectLaws.{IsLawfulLocal, all_expected}
 use Rattle.topos_top.proofs.RulesLaws.{policy_keeps}
 
 some_number : (i j : ℕ) → Some i ≡ Some j → i ≡ j
@@ -60,11 +54,12 @@ module _ (d : Network) (host : List ℕ) where
   one_number : (a b : IsSpecific d host) → a.number ≡ b.number
   one_number a b = some_number a.number b.number (sym a.named ∙ b.named)
 
-  pub local_is_one : (a b : List ℕ) → IsLocalText d host a → IsLocalText d host b → a ≡ b
-  local_is_one a b p q =
+  -- The text of chains of iptables is unique.
+  pub chains_are_one : (a b : List ℕ) → IsLocalText local_chains d host a → IsLocalText local_chains d host b → a ≡ b
+  chains_are_one a b p q =
       let policies = policy_is_one d p.policy q.policy p.is_policy q.is_policy in
       let numbers = one_number p.so.0 q.so.0 in
-      p.so.1 ∙ (λ i. text (local_chains_for d (policies i) (numbers i))) ∙ sym q.so.1
+      p.so.1.2 ∙ ap text p.so.1.1 ∙ (λ i. text (local_layout (flow_policy_of d (policies i)) (numbers i))) ∙ sym (q.so.1.2 ∙ ap text q.so.1.1)
 
   pub bar_is_one : (a b : List ℕ) → CannotEmitLocal d host a → CannotEmitLocal d host b → a ≡ b
   bar_is_one a b (NoHost none is) (NoHost also same) = is ∙ sym same
@@ -78,40 +73,42 @@ module _ (d : Network) (host : List ℕ) where
       let same = some_number h found.number (sym named ∙ found.named) in
       true≢false (sym found.specific ∙ ap (is_specific d.hosts) (sym same) ∙ rest_is_not d.hosts h rest)
 
-  pub local_keeps : (rules : List ℕ) → IsNetwork d → IsSpecific d host → IsLocalText d host rules → EnforcesPolicyLocally d host rules
-  local_keeps rules network found is =
+  -- The text of the rules has its guarantee.
+  pub local_keeps : (dialect : LocalDialect) → IsLawfulLocal dialect → (bytes : List ℕ) → IsNetwork d → IsLocalText dialect d host bytes
+      → EnforcesPolicyLocally dialect d host bytes
+  local_keeps dialect laws bytes network is =
       let policy : FlowPolicy = flow_policy_of d is.policy in
       let known : IsSite policy.site = record { hosts = network.hosts; services = network.services } in
-      let number = one_number is.so.0 found in
-      let own : List Chain = local_chains_for d is.policy found.number in
-      let written : rules ≡ text own = is.so.1 ∙ ap (λ (h : ℕ). text (local_chains_for d is.policy h)) number in
-      let read : IsReadingOfRules rules own =
-      subst (λ (bytes : List ℕ). IsReadingOfRules bytes own) (sym written)
-      (text_read_again own (local_writable policy found.number known) (local_short policy found.number known)) in
+      let found : IsSpecific d host = is.so.0 in
+      let rules : dialect.Rules = is.so.1.0 in
+      let are_for : dialect.AreFor policy found.number rules = is.so.1.1 in
+      let read : dialect.IsReading bytes rules =
+      subst (λ (b : List ℕ). dialect.IsReading b rules) (sym is.so.1.2) (laws.read policy found.number rules known are_for) in
       record {
         policy = is.policy;
         invariants = policy_keeps d is.policy network is.is_policy;
         found = found;
-        written = written;
-        enforces_at_host = layout_guards policy found.number network.hosts;
-        passes = layouts_expected policy network.hosts (IsSubset-stateful d policy.permitted policy.stateful is.is_policy.stateful);
-        other_states = local_no_other_state policy found.number known;
+        rules = rules;
+        are_for = are_for;
+        written = is.so.1.2;
+        enforces_at_host = laws.enforces policy found.number rules known are_for;
+        passes = all_expected dialect laws policy known (IsSubset-stateful d policy.permitted policy.stateful is.is_policy.stateful);
+        other_states = laws.other_states policy found.number rules known are_for;
         read = read;
-        only_reading = λ others reading. one_reading rules others own reading read;
+        only_reading = λ others reading. laws.one_reading bytes rules others read reading;
       }
 
   -- The reply of the rules for the machines of a specific host.
-  pub ends_with_rules : (reply : Reply) (policy : Policy) (rules : List Chain) → IsPolicyOf d policy → (found : IsSpecific d host) → rules ≡ local_chains_for d policy found.number
-      → reply ≡ reply_on Done Output (text rules) → Answers false (machines_outcomes d host) reply
-  ends_with_rules reply policy rules is_policy found layout is =
-      subst (λ (r : Reply). Answers false (machines_outcomes d host) r) (sym is) (
-        refl,
-        inr (inl (refl, (tt, found), record { policy = policy; is_policy = is_policy; so = (found, ap (λ (chains : List Chain). text chains) layout) })),
-      )
+  pub ends_with_rules : (dialect : LocalDialect) (reply : Reply) (policy : Policy) (bytes : List ℕ) → IsPolicyOf d policy → (found : IsSpecific d host)
+      → IsMachineText dialect (flow_policy_of d policy) found.number bytes → reply ≡ reply_on Done Output bytes → Answers false (machines_outcomes dialect d host) reply
+  ends_with_rules dialect reply policy bytes is_policy found written is =
+      subst (λ (r : Reply). Answers false (machines_outcomes dialect d host) r) (sym is)
+      (refl, inr (inl (refl, (tt, found), record { policy = policy; is_policy = is_policy; so = (found, written) })))
 
   -- The reply regardless of a listed policy is the reply if a listed policy holds.
-  pub answers_listed : (reply : Reply) → ListedHolds d → Answers false (machines_outcomes d host) reply → Answers false (local_outcomes d host) reply
-  answers_listed reply holds answers = (
+  pub answers_listed : (dialect : LocalDialect) (reply : Reply) → ListedHolds d → Answers false (machines_outcomes dialect d host) reply
+      → Answers false (local_outcomes dialect d host) reply
+  answers_listed dialect reply holds answers = (
     answers.0,
     elim answers.1 [
       | inl barred ↦ inr (inl (barred.0, (holds, barred.1.1, barred.1.2), barred.2))
@@ -123,8 +120,9 @@ module _ (d : Network) (host : List ℕ) where
   )
 
   -- If a listed policy holds, the line that there are none is written if and only if the host is not declared or is the rest host.
-  pub barred_exactly : (reply : Reply) → Answers false (local_outcomes d host) reply → ListedHolds d → (reply.status ≡ NotEmittable) ↔ ((line : List ℕ) × CannotEmitLocal d host line)
-  barred_exactly reply answers holds = (bar_where_said, said_where_barred)
+  pub barred_exactly : (dialect : LocalDialect) (reply : Reply) → Answers false (local_outcomes dialect d host) reply → ListedHolds d
+      → (reply.status ≡ NotEmittable) ↔ ((line : List ℕ) × CannotEmitLocal d host line)
+  barred_exactly dialect reply answers holds = (bar_where_said, said_where_barred)
     where
       bar_where_said : reply.status ≡ NotEmittable → (line : List ℕ) × CannotEmitLocal d host line
       bar_where_said said = elim answers.1 [

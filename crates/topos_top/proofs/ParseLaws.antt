@@ -1,13 +1,14 @@
 -- The parser of the arguments returns the command that they form.
-use Rattle.std.proofs.Common.{◌≡◌, ◌==◌, ◌≤◌, ◌<◌, ℕ, zero, suc, if◌then◌else◌, List, [], ◌∷◌, Option, None, Some, arith, codes, decimal, option_map, option_and_then, refl, ap, subst, ◌∙◌}
+use Rattle.std.proofs.Common.{◌≡◌, ◌==◌, ◌≤◌, ◌<◌, ℕ, zero, suc, Bool, true, false, bytes_eq, if◌then◌else◌, List, [], ◌∷◌, Option, None, Some, arith, codes, decimal, option_map, option_and_then, refl, ap, subst, ◌∙◌}
+use Rattle.std.proofs.lemmas.Slice.Eq.{bytes_eq-Decides}
 use Rattle.host_net.specs.Limits.{host_limit}
 use Rattle.text_core.proofs.DecimalLaws.{decimal_of_number, number-decimal}
 use Rattle.text_core.specs.inner.Decimal.{number}
-use Rattle.topos_top.specs.Command.{Command, Check, Policy, Rules, Repair, Trace, Sample, Migrate, Audit, Edit, Local, ParseAs, HasFewHosts, arguments_of}
+use Rattle.topos_top.specs.Command.{Command, Check, Policy, Rules, Repair, Trace, Sample, Migrate, Audit, Edit, Local, LocalTable, ParseAs, HasFewHosts, arguments_of}
 use Rattle.run_core.specs.Replies.{AllowsReply}
 use Rattle.run_core.specs.Reply.{Reply}
 use Rattle.run_core.specs.Shelf.{ShelfChange}
-use Rattle.topos_top.specs.inner.Command.{command_of, forms, parse_host_count}
+use Rattle.topos_top.specs.inner.Command.{command_of, forms, of_machines, parse_host_count}
 use Rattle.run_core.specs.inner.Forms.{one_word}
 use Rattle.run_core.specs.inner.Replies.{AllowsReplyTo}
 use Rattle.run_core.proofs.DialectLaws.{named_word}
@@ -35,6 +36,7 @@ read_of (Migrate file) few = refl
 read_of (Audit dialect file rules) few = rw (named_word dialect) refl
 read_of (Edit file edits) few = refl
 read_of (Local file host) few = refl
+read_of (LocalTable file host) few = refl
 
 pub is_read : (words : List (List ℕ)) (command : Command) → ParseAs words command → command_of words ≡ Some command
 is_read words command asks = ap command_of asks.0 ∙ read_of command asks.1
@@ -60,6 +62,21 @@ sample_form (word ∷ []) command is = by_number (number host_limit word) refl i
         asked ParseAs (codes "sample" ∷ word ∷ []) (Sample (suc n)) command (ap (λ (w : List ℕ). codes "sample" ∷ w ∷ []) number.0, (omega arith, number.1)) made
 sample_form (word ∷ other ∷ rest) command is = none_asked command is
 
+-- Three arguments of `local` begin with the word `nft`.
+machines_form : IsForm ParseAs (codes "local") of_machines
+machines_form [] command is = none_asked command is
+machines_form (word ∷ []) command is = none_asked command is
+machines_form (file ∷ host ∷ []) command is = asked ParseAs (codes "local" ∷ file ∷ host ∷ []) (Local file host) command (refl, tt) is
+machines_form (word ∷ file ∷ host ∷ []) command is = by_word (bytes_eq word (codes "nft")) refl is
+  where
+    by_word : (b : Bool) → bytes_eq word (codes "nft") ≡ b → (if b then Some (LocalTable file host) else None) ≡ Some command
+        → ParseAs (codes "local" ∷ word ∷ file ∷ host ∷ []) command
+    by_word true same is =
+        asked ParseAs (codes "local" ∷ word ∷ file ∷ host ∷ []) (LocalTable file host) command
+        (ap (λ (w : List ℕ). codes "local" ∷ w ∷ file ∷ host ∷ []) ((bytes_eq-Decides word (codes "nft")).0 same), tt) is
+    by_word false other is = none_asked command is
+machines_form (word ∷ file ∷ host ∷ other ∷ rest) command is = none_asked command is
+
 are_forms : AreForms ParseAs forms
 are_forms = (
   file_form ParseAs _ Check (λ file. (refl, tt)),
@@ -77,7 +94,7 @@ are_forms = (
               file_form ParseAs _ Migrate (λ file. (refl, tt)),
               (
                 files_form ParseAs _ Audit (λ dialect file rules. (refl, tt)),
-                (two_form ParseAs _ Edit (λ file edits. (refl, tt)), (two_form ParseAs _ Local (λ file host. (refl, tt)), tt)),
+                (two_form ParseAs _ Edit (λ file edits. (refl, tt)), (machines_form, tt)),
               ),
             ),
           ),

@@ -17,6 +17,7 @@ pub data Command : Type 0 where
   Audit : Dialect → (file rules : List ℕ) → Command
   Edit : (file edits : List ℕ) → Command
   Local : (file host : List ℕ) → Command
+  LocalTable : (file host : List ℕ) → Command
 
 -- The arguments of the command.
 abbrev pub arguments_of : Command → List (List ℕ)
@@ -30,6 +31,7 @@ arguments_of (Migrate file) = codes "migrate" ∷ file ∷ []
 arguments_of (Audit dialect file rules) = codes "audit" ∷ (rule_dialect_of dialect).word ∷ file ∷ rules ∷ []
 arguments_of (Edit file edits) = codes "edit" ∷ file ∷ edits ∷ []
 arguments_of (Local file host) = codes "local" ∷ file ∷ host ∷ []
+arguments_of (LocalTable file host) = codes "local" ∷ codes "nft" ∷ file ∷ host ∷ []
 
 -- The number of hosts of a sample is from 1 to the host limit.
 abbrev pub HasFewHosts : Command → Type 0
@@ -60,7 +62,8 @@ usage_text =
     ++ (codes "       topos rules nft FILE\n"
     ++ (codes "       topos repair nft FILE\n"
     ++ (codes "       topos trace nft RULES EVENTS\n"
-    ++ codes "       topos audit nft FILE RULES\n"))))))))))))
+    ++ (codes "       topos audit nft FILE RULES\n"
+    ++ codes "       topos local nft FILE HOST\n")))))))))))))
 
 -- The command reports violations on the output. All other commands report them on the error stream.
 abbrev pub reports_on_output : Command → Bool

@@ -1,7 +1,7 @@
 -- The table of commands: the plan of each command. Policies and reports are characterized by their properties, not by an algorithm that
 -- finds them.
 use Rattle.std.specs.Prelude.{ℕ, List}
-use Rattle.topos_top.specs.Command.{Command, Check, Policy, Rules, Repair, Trace, Sample, Migrate, Audit, Edit, Local, ParseAs, reports_on_output, usage_text}
+use Rattle.topos_top.specs.Command.{Command, Check, Policy, Rules, Repair, Trace, Sample, Migrate, Audit, Edit, Local, LocalTable, ParseAs, reports_on_output, usage_text}
 use Rattle.topos_top.specs.Audit.{audit_outcomes}
 use Rattle.topos_top.specs.Check.{check_outcomes}
 use Rattle.run_core.specs.CommandPlan.{CommandPlan, reads, ends, ReadsNothing}
@@ -9,7 +9,7 @@ use Rattle.run_core.specs.Dialects.{rule_dialect_of}
 use Rattle.run_core.specs.FileFormats.{description}
 use Rattle.run_core.specs.Program.{Program}
 use Rattle.topos_top.specs.Edit.{edit_outcomes}
-use Rattle.topos_top.specs.Local.{local_outcomes}
+use Rattle.topos_top.specs.Local.{local_chains, local_outcomes, local_table}
 use Rattle.topos_top.specs.Migrate.{migrate_outcomes}
 use Rattle.topos_top.specs.Policy.{policy_outcomes}
 use Rattle.topos_top.specs.Repair.{repair_outcomes}
@@ -30,7 +30,8 @@ plan_of (Migrate file) = reads format.document file (λ text. ends (migrate_outc
 plan_of (Audit dialect file rules) =
     reads description file (λ d. reads (format.rules dialect) rules (λ said. ends (audit_outcomes d ((rule_dialect_of dialect).filter said) ((rule_dialect_of dialect).audited said))))
 plan_of (Edit file edits) = reads format.edited file (λ table. reads format.edits edits (λ es. ends (edit_outcomes table es)))
-plan_of (Local file host) = reads description file (λ d. ends (local_outcomes d host))
+plan_of (Local file host) = reads description file (λ d. ends (local_outcomes local_chains d host))
+plan_of (LocalTable file host) = reads description file (λ d. ends (local_outcomes local_table d host))
 
 -- The program.
 abbrev pub topos : Program

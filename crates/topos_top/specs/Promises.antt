@@ -4,11 +4,11 @@ use Rattle.std.specs.Prelude.{◌≡◌, ◌⊎◌, ℕ, List, codes}
 use Rattle.edge_io.specs.Counts.{Rose}
 use Rattle.sample_core.specs.Sample.{IsSample}
 use Rattle.sample_core.specs.SamplePromises.{ReportsSample}
-use Rattle.topos_top.specs.Command.{Command, ParseAs, Rules, Repair, Trace, Migrate, Audit, Local}
+use Rattle.topos_top.specs.Command.{Command, ParseAs, Rules, Repair, Trace, Migrate, Audit, Local, LocalTable}
 use Rattle.run_core.specs.OfPolicy.{ForwardsForNetwork}
 use Rattle.topos_top.specs.Commands.{topos}
 use Rattle.run_core.specs.Dialects.{rule_dialect_of}
-use Rattle.topos_top.specs.Local.{EnforcesPolicyLocally}
+use Rattle.topos_top.specs.Local.{EnforcesPolicyLocally, local_chains, local_table}
 use Rattle.run_core.specs.FileFormats.{description}
 use Rattle.run_core.specs.Promises.{IsCompleteUpTo, WasRead, Wrote}
 use Rattle.run_core.specs.Promises as run
@@ -29,12 +29,13 @@ abbrev pub HasCause : Status → (words : List (List ℕ)) → ShelfChange → (
 HasCause = run.HasCause topos
 
 -- The text of a reply to the command with this status is not determined: the dialect is not exact, and the text is that of one of the
--- layouts of the policy, or of one of the reasons to reject the rules.
+-- layouts of the policy, or of one of the reasons to reject the rules; or it is that of one of the tables for the machines of a host.
 abbrev pub LeavesOpen : Command → Status → Type 0
 LeavesOpen (Rules dialect file) status.Done = (rule_dialect_of dialect).IsExact → ⊥
 LeavesOpen (Repair dialect file) status.Done = (rule_dialect_of dialect).IsExact → ⊥
 LeavesOpen (Trace dialect rules events) status.BadText = (rule_dialect_of dialect).IsExact → ⊥
 LeavesOpen (Audit dialect file rules) status.BadText = (rule_dialect_of dialect).IsExact → ⊥
+LeavesOpen (LocalTable file host) status.Done = Unit {0}
 LeavesOpen _ _ = ⊥
 
 -- Another reply to the words is equal, or the text of replies with this status is not determined, and status and stream are equal.
@@ -61,7 +62,8 @@ MeetsHeadline (Repair dialect file) shelf out = WasRead shelf description file (
 MeetsHeadline (Migrate file) shelf out = WasRead shelf format.document file (λ migrated. Appends out migrated)
 MeetsHeadline (Audit dialect file rules) shelf out = WasRead shelf description file
     (λ d. WasRead shelf (format.rules dialect) rules (λ said. ForwardsForNetwork d ((rule_dialect_of dialect).filter said) × Appends out (codes "equal\n")))
-MeetsHeadline (Local file host) shelf out = WasRead shelf description file (λ d. ListedHolds d × Wrote out (EnforcesPolicyLocally d host))
+MeetsHeadline (Local file host) shelf out = WasRead shelf description file (λ d. ListedHolds d × Wrote out (EnforcesPolicyLocally local_chains d host))
+MeetsHeadline (LocalTable file host) shelf out = WasRead shelf description file (λ d. ListedHolds d × Wrote out (EnforcesPolicyLocally local_table d host))
 MeetsHeadline _ shelf out = Unit {0}
 
 -- ---- the sample

@@ -3,7 +3,7 @@
 ghost use Rattle.std.specs.Prelude.{◌≡◌, ◌≤◌, map, string_bytes, option_map, IfSome};
 ghost use Rattle.host_net.specs.Limits.{host_limit};
 ghost use Rattle.topos_top.specs.Command.{usage_text};
-ghost use Rattle.topos_top.specs.inner.Command.{IsWithinHosts, command_of, command_view, parse_host_count, forms};
+ghost use Rattle.topos_top.specs.inner.Command.{IsWithinHosts, command_of, command_view, parse_host_count, forms, of_machines};
 ghost use Rattle.run_core.specs.inner.Forms.{among};
 
 use host_net::HOST_LIMIT;
@@ -35,6 +35,8 @@ pub enum Command<'a> {
     Edit(&'a str, &'a str),
     /// `local FILE HOST`: the rules for the machines of one host.
     Local(&'a str, &'a str),
+    /// `local nft FILE HOST`: a table of nftables for the machines of one host.
+    LocalTable(&'a str, &'a str),
 }
 
 /// Returns the usage text, which lists the command forms.
@@ -55,7 +57,8 @@ pub fn usage() -> &'static [u8]
     \x20      topos rules nft FILE\n\
     \x20      topos repair nft FILE\n\
     \x20      topos trace nft RULES EVENTS\n\
-    \x20      topos audit nft FILE RULES\n"
+    \x20      topos audit nft FILE RULES\n\
+    \x20      topos local nft FILE HOST\n"
 }
 
 /// Parses a command, if the arguments form one.
@@ -100,10 +103,21 @@ fn parse_after_verb<'a>(verb: &str, rest: &'a [String]) -> Option<Command<'a>>
             let (file, edits) = two_words(rest)?;
             Some(Command::Edit(file, edits))
         }
-        "local" => {
-            let (file, host) = two_words(rest)?;
-            Some(Command::Local(file, host))
-        }
+        "local" => parse_machines(rest),
+        _ => None,
+    }
+}
+
+/// Parses a file and a host, or these after the word `nft`.
+fn parse_machines(rest: &[String]) -> Option<Command<'_>>
+    ensures command { option_map command_view result ≡ of_machines (map string_bytes rest.now) }
+    ensures few { IfSome result (λ command. IsWithinHosts (command_view command)) }
+{
+    if let Some((file, host)) = two_words(rest) {
+        return Some(Command::Local(file, host));
+    }
+    match three_words(rest)? {
+        ("nft", file, host) => Some(Command::LocalTable(file, host)),
         _ => None,
     }
 }

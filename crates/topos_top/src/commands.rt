@@ -12,6 +12,7 @@ ghost use Rattle.topos_top.specs.inner.Replies.{NamesNothing};
 ghost use Rattle.run_core.specs.inner.Views.{reply_in, reply_view};
 
 use crate::command::{Command, parse_command, usage};
+use crate::local::LocalDialect;
 use crate::{audit, check, edit, local, migrate, policy, repair, rules, sample, trace};
 use edge_io::Shelf;
 use run_core::{Answer, Status, Text};
@@ -55,6 +56,9 @@ fn reply<'a, H: Shelf>(
         Command::Migrate(file) => migrate::reply(alloc, file, shelf),
         Command::Audit(dialect, file, rules) => audit::reply(alloc, dialect, file, rules, shelf),
         Command::Edit(file, edits) => edit::reply(alloc, file, edits, shelf),
-        Command::Local(file, host) => local::reply(alloc, file, host, shelf),
+        Command::Local(file, host) => local::reply(alloc, LocalDialect::Chains, file, host, shelf),
+        Command::LocalTable(file, host) => {
+            local::reply(alloc, LocalDialect::Table, file, host, shelf)
+        }
     }
 }

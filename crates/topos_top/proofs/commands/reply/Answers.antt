@@ -24,5 +24,8 @@ returns-in-Audit-clause-reply g c = rw c.in-Audit.is c.reply-in-Audit.ensures
 pub returns-in-Local-clause-reply : goal.returns-in-Local-clause-reply
 returns-in-Local-clause-reply g c = rw c.in-Local.is c.reply-in-Local.ensures
 
+pub returns-in-LocalTable-clause-reply : goal.returns-in-LocalTable-clause-reply
+returns-in-LocalTable-clause-reply g c = rw c.in-LocalTable.is c.reply-in-LocalTable.ensures
+
 pub returns-in-Edit-clause-reply : goal.returns-in-Edit-clause-reply
 returns-in-Edit-clause-reply g c = rw c.in-Edit.is c.reply-in-Edit.ensures

@@ -3,7 +3,7 @@ use Rattle.host_net.specs.Host.{Host, host_named}
 use Rattle.host_emit.specs.LocalLayout.{is_specific}
 use Rattle.run_core.specs.Outcomes.{Answers}
 use Rattle.topos_top.specs.Local.{CannotEmitLocal, RestHost}
-use Rattle.topos_top.specs.inner.Local.{machines_outcomes}
+use Rattle.topos_top.specs.inner.Local.{local_dialect_of, machines_outcomes}
 use Rattle.run_core.specs.Reply.{Reply}
 use Rattle.topos_top.proofs.LocalLaws.{is_rest}
 use Rattle.topos_top.proofs.local.machines.Goals as goal
@@ -19,4 +19,4 @@ returns-then-not-is_specific c =
     ap (λ (hs : List Host). is_specific hs number) (sym hosts) ∙ sym c.is_specific.ensures ∙ c.if-not-is_specific.true in
     let barred : CannotEmitLocal d c.args.host.now c.in_ok-rest_host_line.field-0.items =
     RestHost number named (is_rest d.hosts number other) c.in_ok-rest_host_line.ensures in
-    subst (λ (r : Reply). Answers false (machines_outcomes d c.args.host.now) r) (sym c.not_emittable-then-not-is_specific.ensures) (refl, inl (refl, (tt, c.in_ok-rest_host_line.field-0.items, barred), barred))
+    subst (λ (r : Reply). Answers false (machines_outcomes (local_dialect_of c.args.dialect) d c.args.host.now) r) (sym c.not_emittable-then-not-is_specific.ensures) (refl, inl (refl, (tt, c.in_ok-rest_host_line.field-0.items, barred), barred))
