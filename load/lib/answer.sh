@@ -18,22 +18,23 @@ answer_pending() {
   tell_end
 }
 
-# Finds the load that has not ended in this namespace, in either back end unless one is named. One whose processes are gone
-# counts only if there is no other.
+# Finds the load that has not ended in this namespace, in a back end or the table unless one is named. One whose processes are
+# gone counts only if there is no other.
 find_pending() {
   local each held='' broken=''
   need flock
-  for each in ${option[backend]:-nft legacy}; do
-    if ! is_pending "$(folder_of "$each")"; then continue; fi
+  for each in ${option[backend]:-nft legacy table}; do
+    if ! is_pending "$(folder_of "$each")" && ! { [ "$each" = table ] && is_table_pending; }; then continue; fi
     if is_held "$(folder_of "$each")"; then held+=" $each"; else broken+=" $each"; fi
   done
   case ${held:-$broken} in
     '') refuse 'no load is awaiting confirmation in this network namespace' ;;
-    ' nft legacy') refuse 'a load is awaiting confirmation in each back end: select one with --backend' ;;
+    ' '*' '*) refuse 'a load is awaiting confirmation in each back end: select one with --backend or --table' ;;
     *) option[backend]=${held:-$broken} ;;
   esac
   option[backend]=${option[backend]# }
   run[state]=$(folder_of "${option[backend]}")
+  mkdir -p "${run[state]}" || refuse "cannot create ${run[state]}: nothing is changed" # a table is pending also without it
 }
 
 # Refuses to confirm a load that has not asked.
@@ -46,11 +47,11 @@ refuse_unasked() {
 # Ends the load in its back end, on a firewall or on the machine of a host. This process has the lock.
 end_in_place() {
   if [ -L "${run[state]}/result" ]; then return; fi # ended before the lock was free
-  option[machine]=$(cat "${run[state]}/local")
-  if [ -n "${option[machine]}" ]; then change_machine; else change_box; fi
-  find_tools
+  option[machine]=$(cat "${run[state]}/local" 2>/dev/null)
+  select_form
+  "find_tools_${form[kind]}"
   open_changing || refuse "cannot write ${run[state]}: nothing is changed"
-  end_broken_load
+  "end_broken_${form[kind]}"
   if ! [ -L "${run[state]}/result" ]; then refuse 'nothing is changed'; fi
   exit "$(result_status)"
 }

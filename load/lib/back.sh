@@ -25,8 +25,9 @@ await_changes() { flock 8 && flock -u 8; }
 # Starts the process that goes back, and waits until it is ready.
 start_guard() {
   local tries=0
-  local -a words=(--guard --wait "${option[seconds]}" --backend "${option[backend]}" ${option[keep]:+--keep-connections}
+  local -a words=(--guard --wait "${option[seconds]}" ${option[keep]:+--keep-connections}
     ${option[machine]:+--local} ${option[program]:+--program "${option[program]}"} ${option[unproved]:+"${option[unproved]}"})
+  if [ "${form[kind]}" = table ]; then words+=(--table); else words+=(--backend "${option[backend]}"); fi
   TOPOS_LOAD=$$ setsid "$self" "${words[@]}" </dev/null >>"${run[state]}/log" 2>&1 &
   run[guard]=$!
   disown "${run[guard]}" # no message of bash where it is killed
@@ -85,16 +86,16 @@ is_orphan() {
 # Ends the load as it was decided.
 end_as_decided() {
   case $(decision) in
-    kept) settle ;;
+    kept) "settle_${form[kind]}" ;;
     nothing) finish 69 "another tool changed ${form[changed]} during the load: nothing is changed" ;;
-    *) go_back ;;
+    *) "go_back_${form[kind]}" ;;
   esac
 }
 
 # Goes back to the text run[was], and does not give up. From the third try on, rules that the kernel rejects are left out, and
 # if iptables cannot read the table, which has nft rules by then, the rules of the load are taken for it. At the sixth one a
 # machine that may be locked out is opened. On a firewall the guard goes on, and says that it could not yet.
-go_back() {
+go_back_rules() {
   local tries=0 now target='' changed_back='' told=${form[as_before]}
   local -a refused way=(back)
   run[refused]=''

@@ -71,7 +71,7 @@ carry_out() {
     refuse "cannot read ${run[state]}: nothing is changed"
   { echo "$1" | cat >"${run[state]}/settle" && echo "${option[machine]}" | cat >"${run[state]}/local"; } ||
     refuse "cannot write ${run[state]}: nothing is changed"
-  takes_change 2>/dev/null || takes_change flush || refuse "${run[restore]} rejects the rules: nothing is changed"
+  "takes_${form[kind]}" || refuse "${run[restore]} rejects the rules: nothing is changed"
   remember_connections
   run[end_told]=''
   trap '' PIPE TSTP TTIN TTOU # a stopped process would hold the locks that the way back and the next load need
@@ -90,6 +90,9 @@ carry_out() {
   tell_end
 }
 
+# Whether iptables accepts the change.
+takes_rules() { takes_change 2>/dev/null || takes_change flush; }
+
 # Whether iptables accepts the change, made in the way that the arguments name.
 takes_change() { change "${run[was]}" "${run[loaded]}" "$@" | "${run[restore]}" --noflush --wait 10 --test; }
 
@@ -98,7 +101,7 @@ make_change() {
   trap '' HUP INT TERM
   run[changing]=yes
   open_changing
-  if put_in_place; then
+  if "put_in_place_${form[kind]}"; then
     record loaded
     if [ "${option[action]}" = remove ]; then drop_after_removal; else drop_connections "${run[loaded]}"; fi
   fi
@@ -112,7 +115,7 @@ await_change() {
 }
 
 # Changes the table, unless another tool has changed it since it was read, and compares it with what was written.
-put_in_place() {
+put_in_place_rules() {
   local now
   if ! { now=$(filter_now) && is_same_text "$now" "${run[was]}"; }; then decide nothing; return 1; fi
   load_change "${run[was]}" "${run[loaded]}" 2>/dev/null || load_change "${run[was]}" "${run[loaded]}" flush

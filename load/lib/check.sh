@@ -106,13 +106,13 @@ compare_rules() {
     say "verdict: cannot determine whether these rules implement ${option[file]}: cannot find topos-query"
     return
   fi
-  forwarding_rules "$1" >"$folder/compared"
-  if [ -n "$(misread_rules "$(chains_of "$folder/compared")")" ]; then
+  if [ "${form[kind]}" = table ]; then cat "$1" >"$folder/compared"; else forwarding_rules "$1" >"$folder/compared"; fi
+  if [ "${form[kind]}" = rules ] && [ -n "$(misread_rules "$(chains_of "$folder/compared")")" ]; then
     say "verdict: cannot determine whether these rules implement ${option[file]}:" \
       "${run[save]} prints some nft rules as different rules"
     return
   fi
-  "${run[query]}" compare iptables "$folder/rules.description" "$folder/compared" >"$folder/found" 2>"$folder/refused" ||
+  "${run[query]}" compare "${form[dialect]}" "$folder/rules.description" "$folder/compared" >"$folder/found" 2>"$folder/refused" ||
     status=$?
   case $status in
     0) say "verdict: these rules differ from those of topos, but implement ${option[file]}" ;;

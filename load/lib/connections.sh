@@ -56,7 +56,7 @@ own_addresses() {
 }
 
 # Writes what a packet meets in a built-in chain of a text, as rules of FORWARD, which topos trace reads.
-as_forward() {
+as_forward_rules() {
   local judging=${run[judging]}
   printf '%s\n' "$2" | grep -Ev "${form[log]}" | awk -v chain="$1" '
     ($1 == ":FORWARD" || $2 == "FORWARD") && chain != "FORWARD" { next }
@@ -77,7 +77,7 @@ revoked() {
     status=0
     grep "^$chain " "$judging/asked" >"$judging/those" || status=$?
     case $status in 0) ;; 1) continue ;; *) return 1 ;; esac
-    as_forward "$chain" "$1" >"$judging/rules" || return 1
+    "as_forward_${form[kind]}" "$chain" "$1" >"$judging/rules" || return 1
     split -l 20000 "$judging/those" "$judging/part." || return 1
     judge_parts || return 1
   done
@@ -90,7 +90,7 @@ judge_parts() {
   for each in "$judging"/part.*; do
     awk '{ ends = $2 " " $3 " " $4 " " $5 " " $6; print "packet " ends "\nforget " ends }' "$each" \
       >"$judging/events" || return 1
-    "${option[program]}" trace iptables "$judging/rules" "$judging/events" 2>/dev/null |
+    "${run[program]}" trace "${form[dialect]}" "$judging/rules" "$judging/events" 2>/dev/null |
       sed -n '/forgotten/!p' >"$judging/verdicts" || return 1
     if [ "$(wc -l <"$judging/verdicts")" != "$(wc -l <"$each")" ]; then return 1; fi
     cut -d ' ' -f 2 "$judging/verdicts" | paste -d ' ' - "$each" | sed -n 's/^drop //p' || return 1
@@ -161,7 +161,9 @@ end_judging() { rm -rf "${run[judging]}" "${run[state]}/judging.$$"; }
 # Prints the connections of a list by flows, the most frequent first: a line `SENDER -> RECEIVER SERVICE: NUMBER` each.
 by_flows() {
   awk '{ print $2, $3, ($4 == 6 ? "tcp" : $4 == 17 ? "udp" : $4 == 1 ? "icmp" : "protocol " $4) ($6 > 0 ? "/" $6 : "") }' |
-    if [ -s "${run[wanted]:-/dev/null}" ] && [ -s "${run[wanted]}.policy" ]; then named; else cat; fi |
+    if [ -s "${run[wanted]:-/dev/null}" ] && { [ "${form[kind]}" = table ] || [ -s "${run[wanted]}.policy" ]; }; then named
+    else cat
+    fi |
     awk '
       { flow = $1 " -> " $2; for (word = 3; word <= NF; word++) flow = flow " " $word; number[flow]++ }
       END { for (each in number) print number[each], each }' | sort -k1,1nr -k2 |
@@ -191,7 +193,7 @@ drop_connections() {
     tell_dropped
     rm -f "${run[state]}/staying"
   elif is_undone; then :
-  elif is_nothing_old; then
+  elif "is_nothing_old_${form[kind]}"; then
     say "these rules were loaded before: no connection is deleted (${run[reason]})"
     rm -f "${run[state]}/staying"
   elif conntrack -F >/dev/null 2>&1; then
@@ -216,7 +218,7 @@ tell_dropped() {
 }
 
 # Whether all connections began under the rules that are loaded again. This counts only if they cannot be judged.
-is_nothing_old() {
+is_nothing_old_rules() {
   is_alike "${run[state]}/before" "${run[state]}/rules" && is_known "${run[state]}/before" && [ ! -e "${run[stayed]}" ]
 }
 
@@ -260,7 +262,7 @@ number_of_older() {
 # Prints why connections are not judged: run[reason], or the first of the rules that topos trace cannot read.
 why_unjudged() {
   local judging=${run[judging]}
-  if "${option[program]}" trace iptables "$judging/rules" /dev/null >/dev/null 2>"$judging/refused"; then echo "${run[reason]}"
+  if "${run[program]}" trace "${form[dialect]}" "$judging/rules" /dev/null >/dev/null 2>"$judging/refused"; then echo "${run[reason]}"
   else echo "topos trace cannot read the restored rules, such as $(refused_line "$judging/refused" "$judging/rules")"
   fi
 }

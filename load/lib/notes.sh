@@ -111,13 +111,25 @@ tables_with() {
   done
 }
 
-# Prints the back end that is not loaded.
-other_back_end() { if [ "${option[backend]}" = legacy ]; then echo nft; else echo legacy; fi; }
+# Prints the back ends of iptables that are not loaded.
+other_back_ends() {
+  case ${option[backend]} in legacy) echo nft ;; nft) echo legacy ;; *) echo 'nft legacy' ;; esac
+}
 
-# Notes the rules and policies of the other back end, and other tables of iptables.
+# Notes the rules and policies of other back ends, and other tables of iptables.
 note_tables() {
-  local other each found both='a packet must pass both'
-  other=$(other_back_end)
+  local each found both='a packet must pass both'
+  for each in $(other_back_ends); do note_back_end "$each"; done
+  found=$(unread_tables)
+  if [ -n "$found" ]; then note "the back end legacy has tables, and iptables-legacy-save is not installed: $both ($found)"; fi
+  while read -r each; do
+    note "$each has rules: the proof does not cover packets that it rewrites or drops"
+  done < <(tables_with '^-A ')
+}
+
+# Notes the rules and policies of another back end.
+note_back_end() {
+  local other=$1 each found both='a packet must pass both'
   found=$(table_of "$other" filter)
   if grep -qE "^-A (${form[entries]}) " <<<"$found"; then
     note "${form[changed]}: rules exist in the back end $other too: $both"
@@ -129,21 +141,16 @@ note_tables() {
   if grep -q '^# Table .filter. is incompatible' <<<"$found"; then
     note "the table filter has rules in the back end $other that iptables cannot read: $both"
   fi
-  found=$(unread_tables)
-  if [ -n "$found" ]; then note "the back end legacy has tables, and iptables-legacy-save is not installed: $both ($found)"; fi
-  while read -r each; do
-    note "$each has rules: the proof does not cover packets that it rewrites or drops"
-  done < <(tables_with '^-A ')
 }
 
 # Prints the chains of nft that iptables does not show and that process packets of ours, a line each.
 nft_chains() {
   local family table chain
   if ! command -v nft >/dev/null; then return; fi
-  nft list chains 2>/dev/null | awk -v hook="hook (${form[hooks]}|prerouting|postrouting|ingress|egress) " '
+  nft list chains 2>/dev/null | awk -v own="${form[own]:-}" -v hook="hook (${form[hooks]}|prerouting|postrouting|ingress|egress) " '
     $1 == "table" { table = $2 " " $3 }
     $1 == "chain" { chain = $2 }
-    $0 ~ hook && table !~ /^(ip6|arp) / { print table, chain }' |
+    $0 ~ hook && table !~ /^(ip6|arp) / && table != own { print table, chain }' |
     while read -r family table chain; do
       if is_shown "$family $table $chain"; then continue; fi
       echo "$family $table $chain$(nft list table "$family" "$table" 2>/dev/null | drops_in "$chain")"
@@ -192,12 +199,13 @@ drops_in() {
 # Prints what may drop packets besides the loaded rules: chains of nft, the other back end, other tables. A line each.
 others_that_drop() {
   local other each found
-  other=$(other_back_end)
   nft_chains | grep ')$'
-  found=$(table_of "$other" filter)
-  for each in ${form[entries]//|/ }; do
-    if grep -q "^:$each DROP " <<<"$found"; then echo "$each in the back end $other (policy drop)"
-    elif grep -q "^-A $each " <<<"$found"; then echo "$each in the back end $other (has rules)"; fi
+  for other in $(other_back_ends); do
+    found=$(table_of "$other" filter)
+    for each in ${form[entries]//|/ }; do
+      if grep -q "^:$each DROP " <<<"$found"; then echo "$each in the back end $other (policy drop)"
+      elif grep -q "^-A $each " <<<"$found"; then echo "$each in the back end $other (has rules)"; fi
+    done
   done
   unread_tables | sed 's/^/the back end legacy (iptables-legacy-save is not installed): /'
   tables_with '^:[A-Z]+ DROP |^-A .*-j (DROP|REJECT|NOTRACK|CT --notrack)' | sed 's/$/ (has rules that drop)/'
@@ -259,19 +267,22 @@ unlisted_networks() {
       if (number == last - first + 1) print "  " way ": no address belongs to a specific host"
       else if (number > 0) print "  " way ": " number " of " last - first + 1 " addresses belong to no specific host: " substr(words, 3)
     }
-    /^-A FORWARD -s / { from[++count] = lowest($4); to[count] = highest($4) }
+    FILENAME == ARGV[1] {
+      if ($1 != "rest") { from[++count] = lowest($1); to[count] = highest($1) }
+      next
+    }
     $1 ~ /^[0-9.]+(\/[0-9]+)?$/ && !seen[$1]++ {
       way = ""
       for (word = 2; word < NF; word++) if ($word == "via" || $word == "dev") way = way ", " $word " " $(word + 1)
       told(lowest($1), highest($1), $1 (way == "" ? "" : " (" substr(way, 3) ")"))
-    }' "$1" -
+    }' <("owners_${form[kind]}" "$1") -
 }
 
 # Notes these networks.
 note_networks() {
   local found whose='packets with these addresses are dropped'
   if [ "${option[from]}" != description ] || ! command -v ip >/dev/null; then return; fi
-  if grep -q '^-A FORWARD -j H' "$1"; then whose="the rest host has them"; fi
+  if prints '^rest ' "owners_${form[kind]}" "$1"; then whose="the rest host has them"; fi
   found=$(unlisted_networks "$1")
   if [ -z "$found" ]; then return; fi
   note_lines "these routes lead to addresses of no specific host, and $whose:" \

@@ -2,7 +2,8 @@
 # Texts of rules, as iptables-save prints them and iptables-restore reads them: their form, and changes from one to another.
 # Declares and writes form[..]; reads option[backend] and run[save].
 
-# What is changed, and the form of the rules that topos writes. The parts of all forms are an address (`prefix`), what a rule
+# What is changed, and the form of the rules that topos writes. A function for each `kind` of them, `rules` of iptables or a
+# `table`, ends with this word; the `dialect` is that of topos. The parts of all forms are an address (`prefix`), what a rule
 # that passes has behind it (`passes`), and what --log puts before a rule that drops (`limited` and `label`): it names the
 # host, and logs at most ten packets a minute. change_box and change_machine add the others.
 declare -gA form=(
@@ -24,7 +25,7 @@ form[passes]="($(service dport)|$(service sport) -m conntrack --ctstate ESTABLIS
 change_box() {
   local prefix=${form[prefix]}
   form+=(
-    [wall]=firewall [remembered]='' [hooks]=forward [packets]=forwarded
+    [kind]=rules [dialect]=iptables [wall]=firewall [remembered]='' [hooks]=forward [packets]=forwarded
     [entries]=FORWARD [chains]='H[0-9]+' [named]='the chains H0, H1 ..'
     [changed]=FORWARD [as_before]='FORWARD is restored' [whose]='of topos' [replacing]=--replace-forward
     [jump]="^-A FORWARD( -s $prefix)? -j H[0-9]+$"
@@ -39,7 +40,8 @@ change_machine() {
   local prefix=${form[prefix]} own='127[.]0[.]0[.]0/8'
   local jump="^-A (INPUT -d $prefix -j IN|OUTPUT -s $prefix -j OUT)$"
   form+=(
-    [wall]=machine [remembered]=local- [hooks]='(input|forward|output)' [packets]="this machine's"
+    [kind]=rules [dialect]=iptables [wall]=machine [remembered]=local- [hooks]='(input|forward|output)'
+    [packets]="this machine's"
     [entries]='INPUT|FORWARD|OUTPUT' [chains]='IN|OUT' [named]='the chains IN and OUT'
     [changed]='INPUT, FORWARD and OUTPUT' [as_before]='INPUT, FORWARD and OUTPUT are restored'
     [whose]='of a host' [replacing]=--replace-rules
@@ -207,7 +209,7 @@ written() { grep -E -e "${form[entry]}" -e "${form[rule]}" "$1" | sort -s -k2,2;
 is_loaded() { grep -qE "${form[jump]}" "$1"; }
 
 # Whether a file is a complete rules file in the form of topos.
-is_written() {
+is_written_rules() {
   awk -v entries="${form[entries]}" -v chains="${form[chains]}" -v entry="${form[entry]}" -v rule="${form[rule]}" '
     $0 == "*filter" && NR == 1 { next }
     ended { bad = 1 }

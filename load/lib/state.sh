@@ -8,13 +8,14 @@
 # What a run has found, read and begun, and no option gives. find_namespace, find_tools, find_pending and find_query write
 # the first two lines; the others name the file that writes them.
 declare -gA run=(
-  [namespace]='' [save]='' [restore]='' [query]=''  # an inode, and the names of tools
+  [namespace]='' [save]='' [restore]='' [program]='' [query]=''  # an inode, and tools
   [state]='' [first]='' [last]='' [stayed]=''       # the folder of the saved states, and files in it
   [was]='' [loaded]='' [changing]=''                # change.sh: the text before and that of the load; this process makes it
   [guard]='' [refused]='' [end_told]=''             # back.sh: its process, and rules that the kernel rejects; change.sh
   [wanted]='' [folder]=''                           # wanted.sh: the rules file; check.sh: a folder for the comparison
   [kept_as]='' [older_saved]=''                     # a saved state, and the connections that are older than a restored one
   [judging]='' [older]='' [count]=0 [reason]=''     # connections.sh: folder, older ones, number; why not, also tools.sh
+  [table]='' [active]='' [chains]='' [step]=''      # table.sh: what the kernel lists, its state, and the program for orders
 )
 
 # Decides how the load ends, unless somebody has decided before.
@@ -35,8 +36,8 @@ take_lock() {
     refuse 'another load is in progress: nothing is changed'
   fi
   open_changing || refuse "cannot write ${run[state]}: nothing is changed"
-  end_broken_load
-  if [ -e "${run[state]}/armed" ]; then keep_old "${run[state]}/before"; fi # of a load that could not go back
+  "end_broken_${form[kind]}"
+  if [ "${form[kind]}" = rules ] && [ -e "${run[state]}/armed" ]; then keep_old "${run[state]}/before"; fi # could not go back
   clear_state
 }
 
@@ -62,11 +63,11 @@ clear_judging() {
 is_pending() { [ -e "$1/armed" ] && [ -e "$1/before" ] && ! [ -L "$1/result" ]; }
 
 # Whether a process of a load has the lock, or a tool that one started: it can run on after the process was killed.
-is_held() { ! flock -n "$1/lock" true; }
+is_held() { [ -e "$1/lock" ] && ! flock -n "$1/lock" true; }
 
 # Ends a load whose processes are gone, as it was decided. If its rules are not there, as in a namespace that has the number
 # of an earlier one, nothing is changed, and what was before it is saved.
-end_broken_load() {
+end_broken_rules() {
   local now
   if ! is_pending "${run[state]}"; then return; fi
   if [ -n "${option[dry_run]}" ] || [ "${option[action]}" = clean ]; then # neither changes a verdict
@@ -119,7 +120,7 @@ keep_old() {
 }
 
 # Saves what a change leaves, once it is kept.
-settle() {
+settle_rules() {
   local digests now words=kept
   digests=$(digests_now)
   if [ -e "${run[state]}/asked" ] && ! { now=$(filter_now) && is_same_text "$now" "${run[loaded]}"; }; then

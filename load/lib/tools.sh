@@ -39,7 +39,7 @@ find_namespace() {
 folder_of() { echo "/run/topos-load/$1-${run[namespace]}"; }
 
 # Finds the tools of the back end, and the files of its saved states.
-find_tools() {
+find_tools_rules() {
   local middle=${option[backend]:+-${option[backend]}} saved
   run[save]=iptables$middle-save run[restore]=iptables$middle-restore
   need awk flock setsid "${run[save]}" "${run[restore]}"
@@ -57,16 +57,26 @@ find_tools() {
 
 # Whether the program may be run: it exists, and a list beside it says that it was proved. If not, run[reason] says why.
 is_program_there() {
+  find_name
+  "may_run_${form[kind]}" program "${option[program]}" program
+}
+
+# Finds the name of the program.
+find_name() {
   local built=${self%/*/*}/out/topos beside=${self%/*}/topos
   if [ -n "${option[program]}" ]; then :
   elif [ -x "$built" ]; then option[program]=$built
   elif [ -n "${TOPOS:-}" ]; then option[program]=$TOPOS
   elif [ -f "$beside" ] && [ -x "$beside" ]; then option[program]=$beside # cron does not search /usr/local/bin
   else option[program]=topos; fi
-  run[reason]="cannot find ${option[program]}"
-  command -v "${option[program]}" >/dev/null || return 1
-  run[reason]="no proof found for ${option[program]}"
-  [ -n "${option[unproved]}" ] || is_proved "${option[program]}" program
+}
+
+# Whether a program, the second argument, may be run: it exists, and is proved. run[..] of the first argument is what runs it.
+may_run_rules() {
+  run[$1]=$2 run[reason]="cannot find $2"
+  command -v "$2" >/dev/null || return 1
+  run[reason]="no proof found for $2"
+  [ -n "${option[unproved]}" ] || is_proved "$2" "$3"
 }
 
 # Whether the list beside a program, which ./topos writes, has its digest, as the kind of the second argument.
@@ -88,18 +98,19 @@ digest_of() {
 find_program() {
   if is_program_there; then return; fi
   case ${run[reason]} in
-    no*) refuse "${run[reason]} (topos.proved): nothing is changed; ./topos prove creates it, --unproved skips this check" ;;
-    *) refuse "${run[reason]}: specify the program with --program, or a rules file with --text" ;;
+    'no proof'*) refuse "${run[reason]} (topos.proved): nothing is changed; ./topos prove creates it, --unproved skips this check" ;;
+    'cannot find'*) refuse "${run[reason]}: specify the program with --program, or a rules file with --text" ;;
+    *) refuse "${run[reason]}, who can change the loaded rules: nothing is changed; --unproved skips this check" ;;
   esac
 }
 
-# Finds `topos-query`: that of TOPOS_QUERY, else the one beside the program, else that of the path. Fails unless it is
-# proved.
+# Finds `topos-query`: that of TOPOS_QUERY, else the one beside the program, else that of the path. Fails unless it may be
+# run.
 find_query() {
-  run[query]=$(dirname "$(readlink -f "$(command -v "${option[program]}")")")/topos-query
-  if ! [ -x "${run[query]}" ]; then run[query]=topos-query; fi
-  run[query]=${TOPOS_QUERY:-${run[query]}}
-  command -v "${run[query]}" >/dev/null && { [ -n "${option[unproved]}" ] || is_proved "${run[query]}" query; }
+  local found
+  found=$(dirname "$(readlink -f "$(command -v "${option[program]}")")")/topos-query
+  if ! [ -x "$found" ]; then found=topos-query; fi
+  "may_run_${form[kind]}" query "${TOPOS_QUERY:-$found}" query
 }
 
 # Whether a command prints a line that matches. The output is read whole first: a command that writes more after `grep -q`

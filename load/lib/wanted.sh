@@ -14,7 +14,7 @@ write_rules() {
 write_text() {
   if [ "${option[from]}" = text ]; then
     cat -- "${option[file]}" >"$1" || refuse "cannot read ${option[file]}: nothing is changed"
-    if ! is_written "$1"; then refuse "${option[file]} is not a complete rules file written by topos: nothing is changed"; fi
+    if ! "is_written_${form[kind]}" "$1"; then refuse "${option[file]} is not a complete rules file written by topos: nothing is changed"; fi
     : >"$1.policy" || refuse "cannot write $1.policy: nothing is changed"
     return
   fi
@@ -24,17 +24,17 @@ write_text() {
     refuse "${option[file]} has no key flow, which requests every flow: add flow = [..], or use --every-flow"
   fi
   if [ -n "${option[machine]}" ]; then run_program "$1" local "$1.description" "${option[host]}"
-  elif [ -n "${option[repair]}" ]; then run_program "$1" repair iptables "$1.description"
-  else run_program "$1" rules iptables "$1.description"
+  elif [ -n "${option[repair]}" ]; then run_program "$1" repair "${form[dialect]}" "$1.description"
+  else run_program "$1" rules "${form[dialect]}" "$1.description"
   fi
-  if ! is_written "$1"; then refuse "${option[program]} did not write valid rules: nothing is changed"; fi
-  "${option[program]}" policy "$1.description" >"$1.policy" || refuse 'cannot determine the policy: nothing is changed'
+  if ! "is_written_${form[kind]}" "$1"; then refuse "${option[program]} did not write valid rules: nothing is changed"; fi
+  "${run[program]}" policy "$1.description" >"$1.policy" || refuse 'cannot determine the policy: nothing is changed'
 }
 
 # Runs the program with its output in a file, the first argument. If it fails, ends with its status.
 run_program() {
   local status=0
-  "${option[program]}" "${@:2}" >"$1" || status=$?
+  "${run[program]}" "${@:2}" >"$1" || status=$?
   if [ "$status" = 0 ]; then return; fi
   say 'topos wrote no rules: nothing is changed'
   exit "$status"
@@ -49,15 +49,21 @@ copy_description() {
   note_writers "$file" "$(command -v "${option[program]}")"
 }
 
-# Names each of the files, and each folder on the way to one, that a user other than root may change.
+# Notes each of the files, and each folder on the way to one, that a user other than root may change.
 note_writers() {
+  local each
+  while IFS= read -r each; do note "$each, who can change the loaded rules"; done < <(writers_of "$@")
+}
+
+# Prints by whom these files, and the folders on the way to them, can be changed, except by root: a line each.
+writers_of() {
   local each file mode owner
   while IFS= read -rd '' each; do
     if [ -L "$each" ]; then continue; fi # what it leads to is another path
     read -r mode owner < <(stat -c '%A %u' "$each")
-    if [ "$owner" != 0 ]; then note "$each is owned by a user other than root, who can change the loaded rules"
-    elif [[ $mode == ?????w???[^tT] || $mode == ????????w[^tT] ]]; then
-      note "$each is writable by users other than root, who can change the loaded rules"
+    each=${each//[[:cntrl:]]/?}
+    if [ "$owner" != 0 ]; then echo "$each is owned by a user other than root"
+    elif [[ $mode == ?????w???[^tT] || $mode == ????????w[^tT] ]]; then echo "$each is writable by users other than root"
     fi
   done < <(for file; do path_to "$(realpath -ms -- "$file")"; path_to "$(readlink -f -- "$file")"; done | sort -zu)
 }
@@ -71,6 +77,16 @@ path_to() {
   done
 }
 
+# Prints the prefixes of a rules file and their hosts, or their chains if no description has names: a line
+# `10.0.1.10/32 web` each, and one `rest inet` for the rest host.
+owners_rules() {
+  awk '
+    function host(chain) { return chain in called ? called[chain] : chain }
+    FILENAME == ARGV[1] { called[$1] = $2; next }
+    /^-A FORWARD -j H/ { print "rest", host($4) }
+    /^-A FORWARD -s .* -j H/ { print $4, host($6) }' <(host_names) "$1"
+}
+
 # Prints the chains and their hosts, a line `H0 web` each; only a description has names.
 host_names() { awk '!seen[$1]++ { print "H" count++, $1 }' "${run[wanted]}.policy"; }
 
@@ -81,11 +97,9 @@ of_box() { if [ -n "${option[machine]}" ]; then echo "${run[wanted]}.others"; el
 named() {
   awk "${form[ranges]}"'
     BEGIN { rest = "everybody-else" }
-    FNR == 1 { input++ }
-    input == 1 { called[$1] = $2; next }
-    input == 2 {
-      if (/^-A FORWARD -j H/) rest = called[$4]
-      if (/^-A FORWARD -s /) { from[++count] = lowest($4); to[count] = highest($4); whose[count] = called[$6] }
+    FILENAME == ARGV[1] {
+      if ($1 == "rest") rest = $2
+      else { from[++count] = lowest($1); to[count] = highest($1); whose[count] = $2 }
       next
     }
     function owner(address, number, each) {
@@ -95,7 +109,7 @@ named() {
         if (from[each] <= number && number <= to[each]) return name[address] = whose[each]
       return name[address] = rest
     }
-    { $1 = owner($1); $2 = owner($2); print }' <(host_names) "$(of_box)" -
+    { $1 = owner($1); $2 = owner($2); print }' <("owners_${form[kind]}" "$(of_box)") -
 }
 
 # Prints whose the addresses of this machine are: a line `WHO ADDRESS (INTERFACE)` for each except those of the loopback.
@@ -125,7 +139,7 @@ look_at_addresses() {
   local placed found others=/dev/null
   if [ "${option[from]}" = description ]; then
     others=$1.others
-    "${option[program]}" repair iptables "$1.description" >"$others" ||
+    "${run[program]}" repair iptables "$1.description" >"$others" ||
       refuse 'cannot determine the addresses of the other hosts: nothing is changed'
   fi
   placed=$(place_addresses "$1" "$others")

@@ -38,6 +38,8 @@ options
   --version            print the version of topos
   --verbose            print every note in full, also if an earlier load printed it
   --wait SECONDS       time limit for the confirmation: 60 by default, 0 to load without a confirmation
+  --table              load the rules as a table of nftables, ip topos, instead of into FORWARD of iptables; also with
+                       --check, --dry-run, --remove, --confirm and --back
   --backend nft|legacy the back end of iptables; by default that of iptables-restore
   --replace-forward    remove the rules of other tools from FORWARD
   --replace-rules      with --local: remove the rules of other tools from INPUT, FORWARD and OUTPUT
@@ -112,6 +114,7 @@ read_words() {
       --help) usage; exit 0 ;;
       --version) print_version; exit 0 ;;
       --local) option[machine]=yes ;;
+      --table) read_backend --table table ;;
       --text) option[from]=text ;;
       --check | --remove | --clean | --confirm | --back | --guard) only_action "$1" ;;
       --repair) option[repair]=yes ;;
@@ -162,16 +165,44 @@ fit_options() {
   if [ -n "${option[list]}" ] && [ "${option[action]}:${option[open]}${option[file]}" != remove: ]; then
     wrong_words '--list: only valid with --remove'
   fi
-  if [ -n "${option[machine]}" ]; then
+  if [ "${option[backend]}" = table ]; then fit_table_options
+  elif [ -n "${option[machine]}" ]; then
     if [ -n "${option[repair]}" ]; then wrong_words '--repair: not valid with --local'; fi
     if [ "${option[replace]}" = --replace-forward ]; then
       wrong_words '--replace-forward: not valid with --local, use --replace-rules'
     fi
-    change_machine
-  else
-    if [ "${option[replace]}" = --replace-rules ]; then wrong_words '--replace-rules: only valid with --local'; fi
-    change_box
+  elif [ "${option[replace]}" = --replace-rules ]; then wrong_words '--replace-rules: only valid with --local'
   fi
+  select_form
+}
+
+# Refuses options that a table has no use for.
+fit_table_options() {
+  if [ -n "${option[machine]}" ]; then wrong_words '--table: not valid with --local'; fi
+  if [ -n "${option[replace]}${option[open]}${option[list]}" ]; then
+    wrong_words "${option[replace]:-${option[list]:+--list}${option[open]:+--open}}: not valid with --table"
+  fi
+  case ${option[action]}:${option[log]}:${option[file]} in
+    clean:*) wrong_words '--clean: not valid with --table' ;;
+    load:yes:*) wrong_words '--log: not valid with --table' ;;
+    remove::?*) wrong_words "${option[file]}: unexpected argument" ;;
+  esac
+}
+
+# Selects what is changed: a table, or FORWARD, or what the machine of a host has.
+select_form() {
+  if [ "${option[backend]}" = table ]; then change_table
+  elif [ -n "${option[machine]}" ]; then change_machine
+  else change_box
+  fi
+}
+
+# Takes what the rules are loaded into: a back end of iptables or a table. There is only one.
+read_backend() {
+  if [ "${option[backend]:-$2}" != "$2" ] && [[ table == "$2" || ${option[backend]} == table ]]; then
+    wrong_words "$1: --table and --backend are not valid together"
+  fi
+  option[backend]=$2
 }
 
 # Takes an option with its value.
@@ -179,7 +210,7 @@ read_value() {
   case $1:$2 in
     --wait:*[!0-9]* | --wait: | --wait:??????*) wrong_words '--wait: expected a number of seconds, at most 99999' ;;
     --wait:*) option[seconds]=$((10#$2)) ;; # not octal
-    --backend:nft | --backend:legacy) option[backend]=$2 ;;
+    --backend:nft | --backend:legacy) read_backend --backend "$2" ;;
     --backend:*) wrong_words '--backend: expected nft or legacy' ;;
     --program:*) option[program]=$2 ;;
   esac
