@@ -36,7 +36,8 @@ SETTINGS = {
 
 
 class Machine:
-    """The process moves into the namespace of the machine in use."""
+    """A machine with chains of iptables. The process moves into the namespace of the machine in use."""
+    dialect = 'iptables'
 
     def __init__(self, back_end: str) -> None:
         self.restore = f'iptables-{back_end}-restore'
@@ -75,6 +76,10 @@ class Machine:
         run([self.restore], text)
         run(['conntrack', '-F'])
 
+    def lists(self, text: str) -> bool:
+        """Whether the loaded rules are listed as this text. Chains are listed otherwise, and are not compared."""
+        return True
+
     def forget(self, event: Event) -> None:
         self.enter()
         forget(event)
@@ -104,6 +109,26 @@ class Machine:
         return [came for each in self.receivers for came in waiting(each)]
 
 
+class TableMachine(Machine):
+    """A machine with a table of nft."""
+    dialect = 'nft'
+
+    def __init__(self) -> None:
+        super().__init__('nft')
+
+    def version(self) -> str:
+        return run(['nft', '--version']).strip()
+
+    def load(self, text: str) -> None:
+        self.enter()
+        run(['nft', '-f', '-'], f'table ip topos\ndelete table ip topos\n{text}')
+        run(['conntrack', '-F'])
+
+    def lists(self, text: str) -> bool:
+        self.enter()
+        return run(['nft', 'list', 'table', 'ip', 'topos']) == text
+
+
 def await_one(source: int | socket.socket) -> None:
     ready, _, _ = select.select([source], [], [], PATIENCE)
     if not ready:
@@ -126,7 +151,9 @@ class Machines:
     """A machine for each host of a description, reused for the next description."""
 
     def __init__(self, back_end: str, count: int) -> None:
-        self.back_end, self.all = back_end, [Machine(back_end) for _ in range(count)]
+        self.back_end = back_end
+        self.all = [TableMachine() if back_end == 'table' else Machine(back_end) for _ in range(count)]
+        self.dialect = self.all[0].dialect
         self.there: dict[int | None, Machine] = {}
 
     def version(self) -> str:
@@ -139,6 +166,10 @@ class Machines:
             if text:
                 self.there[host] = machine
                 machine.load(text)
+
+    def are_listed(self, texts: list[str | None]) -> bool:
+        """Whether each machine lists the text of its host."""
+        return all(machine.lists(texts[host] or '') for host, machine in self.there.items() if host is not None)
 
     def enforce(self, ends: Owners) -> bool:
         """Whether one of the two hosts has a machine with rules."""

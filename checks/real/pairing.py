@@ -24,6 +24,13 @@ packet 10.0.0.2 10.0.0.1 udp 50000 54
 """
 
 
+CHANGES = (('-j DROP', '-j ACCEPT'), ('-j ACCEPT', '-j DROP'), (' -m conntrack --ctstate ESTABLISHED', ''),
+           (' accept\n', ' drop\n'), ('ct state established ', ''), ('port 80', 'port 81'), ('port 53', 'port 54'),
+           ('10.0.0.', '10.0.1.'))
+LOOPBACK = '127.0.0.0/8'
+WORDS = {'iptables': ['local'], 'nft': ['local', 'nft']}
+
+
 class Pairing:
     """A case for the machines of its hosts."""
 
@@ -36,8 +43,8 @@ class Pairing:
         policy = self.policy()
         case.keep([event for event in case.events if self.is_sent(event, policy)])
         self.traced = topos.trace('iptables', case)
-        self.texts = [None if place == policy.rest else topos.answer('local', case.description, name)
-                      for place, name in enumerate(policy.names)]
+        self.texts = {dialect: [None if place == policy.rest else topos.answer(*words, case.description, name)
+                                for place, name in enumerate(policy.names)] for dialect, words in WORDS.items()}
 
     def policy(self) -> Policy:
         return Policy(self.description, self.printed)
@@ -56,7 +63,10 @@ class Pairing:
 
 def try_machines(machines: Machines, pairing: Pairing, tally: Tally, texts: list[str | None] | None = None) -> None:
     case, policy, conversations = pairing.case, pairing.policy(), Conversations()
-    machines.load(texts or pairing.texts)
+    whole = pairing.texts[machines.dialect]
+    machines.load(texts or whole)
+    if not texts and not machines.are_listed(whole):
+        tally.differ(case, 'nft lists another text')
     for number, event in enumerate(case.events):
         if event.forgets:
             machines.forget(event)
@@ -78,19 +88,28 @@ def try_machines(machines: Machines, pairing: Pairing, tally: Tally, texts: list
 def try_some_machines(machines: Machines, pairing: Pairing, tally: Tally) -> None:
     """Some hosts have no rules; the packets between them are not compared."""
     chance = random.Random(pairing.case.name)
-    try_machines(machines, pairing, tally, [text if chance.random() < 0.5 else None for text in pairing.texts])
+    whole = pairing.texts[machines.dialect]
+    try_machines(machines, pairing, tally, [text if chance.random() < 0.5 else None for text in whole])
+
+
+def deciding(lines: list[str]) -> Iterator[int]:
+    """Yields the places of the rules that decide packets between two hosts: those of IN or OUT, or of a table."""
+    chain = ''
+    for place, line in enumerate(lines):
+        if line.startswith('\tchain '):
+            chain = line.split()[1]
+        if line.startswith(('-A IN ', '-A OUT ', '\t\t')) and LOOPBACK not in line and not chain.endswith('_loopback'):
+            yield place
 
 
 def changed(text: str) -> Iterator[str]:
-    """Yields the text with one rule of IN or OUT changed, in each way that has an effect."""
+    """Yields the text with one rule changed, in each way that has an effect."""
     lines = text.splitlines(True)
-    for place, line in enumerate(lines):
-        if line.startswith(('-A IN ', '-A OUT ')):
-            for other in (line.replace('-j DROP', '-j ACCEPT'), line.replace('-j ACCEPT', '-j DROP'),
-                          line.replace(' -m conntrack --ctstate ESTABLISHED', ''), line.replace('port 80', 'port 81'),
-                          line.replace('port 53', 'port 54'), line.replace('10.0.0.', '10.0.1.')):
-                if other != line:
-                    yield ''.join([*lines[:place], other, *lines[place + 1:]])
+    for place in deciding(lines):
+        for old, new in CHANGES:
+            other = lines[place].replace(old, new)
+            if other != lines[place]:
+                yield ''.join([*lines[:place], other, *lines[place + 1:]])
 
 
 def try_changed(topos: Topos, machines: Machines, folder: str) -> int:
@@ -101,7 +120,7 @@ def try_changed(topos: Topos, machines: Machines, folder: str) -> int:
     case = Case(folder, f'control-{machines.back_end}', PAIR, [Event.read(line) for line in PAIR_EVENTS.splitlines()],
                 Counter())
     pairing, found, missed = Pairing(topos, case), 0, 0
-    for host, text in enumerate(pairing.texts):
+    for host, text in enumerate(pairing.texts[machines.dialect]):
         for other in changed(text or ''):
             tally = Tally('control')
             try_machines(machines, pairing, tally, [other if place == host else None for place in range(2)])
