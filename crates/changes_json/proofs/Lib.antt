@@ -1,5 +1,5 @@
-pub mod AlikeChangeLaws
-pub mod AlikeWeakeningLaws
+pub mod ChangeExampleLaws
+pub mod WeakeningExampleLaws
 pub mod ChangesLaws
 mod PlaceLaws
 pub mod WeakeningLaws

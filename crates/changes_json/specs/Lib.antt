@@ -1,4 +1,4 @@
-pub mod Alike
+pub mod WithoutExamples
 pub mod ChangesJson
 pub mod Weakening
 pub mod inner

@@ -1,4 +1,4 @@
-pub mod AlikeDeadLaws
-pub mod AlikeFlowLaws
-pub mod AlikeTableLaws
+pub mod DeadExampleLaws
+pub mod FlowExampleLaws
+pub mod TableExampleLaws
 pub mod FlowsLaws

@@ -1,4 +1,4 @@
-pub mod Alike
+pub mod WithoutExamples
 pub mod FlowsJson
 pub mod TableFlowsJson
 pub mod inner

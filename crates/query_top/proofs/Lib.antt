@@ -5,5 +5,5 @@ pub mod CompareLaws
 pub mod FlowsLaws
 pub mod CommandLaws
 pub mod AnsweredLaws
-pub mod AlikeLaws
+pub mod AgreeLaws
 pub mod TableShapeLaws

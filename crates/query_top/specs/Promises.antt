@@ -15,8 +15,8 @@ use Rattle.query_top.specs.PlainRules.{plain_rules}
 use Rattle.run_core.specs.declared.dialect.Dialect.{Dialect}
 use Rattle.run_core.specs.declared.dialect.Dialect.TheVariants.{Nft}
 use Rattle.run_core.specs.declared.status.Status.{Status}
-use Rattle.changes_json.specs.Alike.{AreAlikeChanges}
-use Rattle.flows_json.specs.Alike.{AreAlikeFlows, AreAlikeTableFlows}
+use Rattle.changes_json.specs.WithoutExamples.{SameChangesButExamples}
+use Rattle.flows_json.specs.WithoutExamples.{SameFlowsButExamples, SameTableFlowsButExamples}
 use Rattle.run_core.specs.declared.status.Status.TheVariants.{BadText}
 use Rattle.query_top.specs.Command.{Command, ParseAs, ParseAsNothing, Changes, Compare, Flows, Network, Why}
 use Rattle.query_top.specs.Changes.{IsChangesAnswer}
@@ -62,16 +62,16 @@ HasRules (Compare dialect file rules) = Unit {0}
 HasRules _ = ⊥
 
 -- The texts of two answers of `flows` in a dialect are equal but for the examples.
-abbrev pub AreAlikeFlowsOf : Dialect → (text other : List ℕ) → Type 0
-AreAlikeFlowsOf Nft text other = AreAlikeTableFlows text other
-AreAlikeFlowsOf _ text other = AreAlikeFlows text other
+abbrev pub SameFlowsOf : Dialect → (text other : List ℕ) → Type 0
+SameFlowsOf Nft text other = SameTableFlowsButExamples text other
+SameFlowsOf _ text other = SameFlowsButExamples text other
 
 -- The texts of two answers to a question are equal. The packets that answers of `flows` and `changes` show are examples: their texts are
 -- equal but for these.
-abbrev pub AreAlikeTexts : Command → (text other : List ℕ) → Type 0
-AreAlikeTexts (Flows dialect file rules) text other = (text ≡ other) ⊎ AreAlikeFlowsOf dialect text other
-AreAlikeTexts (Changes old new) text other = (text ≡ other) ⊎ AreAlikeChanges text other
-AreAlikeTexts _ text other = text ≡ other
+abbrev pub SameTextsButExamples : Command → (text other : List ℕ) → Type 0
+SameTextsButExamples (Flows dialect file rules) text other = (text ≡ other) ⊎ SameFlowsOf dialect text other
+SameTextsButExamples (Changes old new) text other = (text ≡ other) ⊎ SameChangesButExamples text other
+SameTextsButExamples _ text other = text ≡ other
 
 -- The text of a reply to the question with this status is not determined: the dialect is not exact, and the text is that of one of the
 -- reasons to reject the rules.
@@ -80,17 +80,17 @@ LeavesOpen (Flows dialect file rules) BadText = (rule_dialect_of dialect).IsExac
 LeavesOpen (Compare dialect file rules) BadText = (rule_dialect_of dialect).IsExact → ⊥
 LeavesOpen _ _ = ⊥
 
--- Two replies to a question have the same status and the same stream, and texts that are alike or not determined.
-pub record AreAlike (command : Command) (given other : Reply) : Type 0 where
+-- Two replies to a question have the same status and the same stream, and texts that are equal but for examples, or not determined.
+pub record AgreeOn (command : Command) (given other : Reply) : Type 0 where
   pub status : given.status ≡ other.status
   pub stream : given.stream ≡ other.stream
-  pub texts : AreAlikeTexts command given.text other.text ⊎ LeavesOpen command given.status
+  pub texts : SameTextsButExamples command given.text other.text ⊎ LeavesOpen command given.status
 
--- Two replies to words are equal if the words are no question, and otherwise alike for the question.
-abbrev pub AreAlikeFor : List (List ℕ) → (given other : Reply) → Type 0
-AreAlikeFor words given other = (ParseAsNothing words × (given ≡ other)) ⊎ ((command : Command) × ParseAs words command × AreAlike command given other)
+-- Two replies to words are equal if the words are no question. Otherwise they agree on the question.
+abbrev pub AgreeFor : List (List ℕ) → (given other : Reply) → Type 0
+AgreeFor words given other = (ParseAsNothing words × (given ≡ other)) ⊎ ((command : Command) × ParseAs words command × AgreeOn command given other)
 
 -- If the shelf's files are observable and it counted no fault, the run had no memory, or it gave a reply to the arguments by these files, and
--- every reply to the arguments by these files is alike.
+-- every reply to the arguments by these files agrees with it.
 abbrev pub IsComplete : (words : List (List ℕ)) → ShelfChange → (out err : SinkChange) → Status → Type 0
-IsComplete words = IsCompleteUpTo topos_query (AreAlikeFor words) words
+IsComplete words = IsCompleteUpTo topos_query (AgreeFor words) words

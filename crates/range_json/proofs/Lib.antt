@@ -1,2 +1,2 @@
-pub mod AlikeRangeLaws
+pub mod RangeExampleLaws
 pub mod OrderLaws

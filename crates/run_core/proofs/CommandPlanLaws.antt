@@ -16,7 +16,7 @@ use Rattle.run_core.specs.inner.Views.{reply_view}
 use Rattle.run_core.specs.declared.answer.Answer.{Answer}
 use Rattle.run_core.specs.FileFormats.{FileFormat}
 use Rattle.run_core.specs.declared.status.Status.{Status}
-use Rattle.run_core.proofs.OutcomesLaws.{AreAlike, AreApart, EachOutcome, IsOneOr, answers_alike, answers_first}
+use Rattle.run_core.proofs.OutcomesLaws.{AgreeOr, AreApart, EachOutcome, IsOneOr, answers_alike, answers_first}
 use Rattle.run_core.proofs.FormatLaws.{IsLawfulFormat, RefusesOnce}
 
 -- ---- the steps of the code
@@ -236,7 +236,7 @@ told_related on R (ends outcomes) shelf other files r s stops related told also 
 abbrev pub RefusesOnceOr : (Open : Status → Type 0) → FileFormat → Type 0
 RefusesOnceOr Open format = RefusesOnce format ⊎ Open format.refused_as
 
-pub stops_related : (Open : Status → Type 0) (format : FileFormat) → RefusesOnceOr Open format → StopsRelated (AreAlike Open) format
+pub stops_related : (Open : Status → Type 0) (format : FileFormat) → RefusesOnceOr Open format → StopsRelated (AgreeOr Open) format
 stops_related Open format (inl once) file saw r s p q = inl (stops_once format once file saw s r q p)
 stops_related Open format (inr loose) file None r s p q = inl (q ∙ sym p)
 stops_related Open format (inr loose) file (Some bytes) r s p q =
@@ -246,7 +246,7 @@ stops_related Open format (inr loose) file (Some bytes) r s p q =
 -- The observable files have one reply along a plan whose outcomes have one text each, and whose files are rejected by one line, but for texts
 -- that are left open.
 pub told_alike : (on : Bool) (Open : Status → Type 0) (plan : CommandPlan) (files : Files) (r s : Reply) → HoldsAtFormats (RefusesOnceOr Open) plan
-    → HoldsAtEnds (EachOutcome (IsOneOr Open)) plan → Replies on plan files r → Replies on plan files s → AreAlike Open r s
+    → HoldsAtEnds (EachOutcome (IsOneOr Open)) plan → Replies on plan files r → Replies on plan files s → AgreeOr Open r s
 told_alike on Open plan files r s once one p q =
-    told_related on (AreAlike Open) plan (observable_shelf files) (observable_shelf files) files r s (holds_at_formats (RefusesOnceOr Open) (StopsRelated (AreAlike Open)) (stops_related Open) plan once)
-    (holds_at_ends (EachOutcome (IsOneOr Open)) (AreRelated on (AreAlike Open)) (λ (outcomes : Outcomes) each. answers_alike on Open outcomes each) plan one) refl refl p q
+    told_related on (AgreeOr Open) plan (observable_shelf files) (observable_shelf files) files r s (holds_at_formats (RefusesOnceOr Open) (StopsRelated (AgreeOr Open)) (stops_related Open) plan once)
+    (holds_at_ends (EachOutcome (IsOneOr Open)) (AreRelated on (AgreeOr Open)) (λ (outcomes : Outcomes) each. answers_alike on Open outcomes each) plan one) refl refl p q

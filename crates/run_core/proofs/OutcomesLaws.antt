@@ -92,8 +92,8 @@ answers_first (end ∷ outcomes) apart reply (inr later) = inr (
 -- ---- the reply is unique but for texts that are left open
 
 -- Another reply is equal, or texts with this status are left open, and status and stream are equal.
-abbrev pub AreAlike : (Open : Status → Type 0) → (given other : Reply) → Type 0
-AreAlike Open given other = (other ≡ given) ⊎ (Open given.status × (other.status ≡ given.status) × (other.stream ≡ given.stream))
+abbrev pub AgreeOr : (Open : Status → Type 0) → (given other : Reply) → Type 0
+AgreeOr Open given other = (other ≡ given) ⊎ (Open given.status × (other.status ≡ given.status) × (other.stream ≡ given.stream))
 
 -- The text of the outcome is unique, or left open.
 abbrev pub IsOneOr : (Open : Status → Type 0) → Outcome → Type 0
@@ -115,7 +115,7 @@ first_alike Open (end ∷ outcomes) each r s (inr p) (inl q) = absurd (p.0 q.1)
 first_alike Open (end ∷ outcomes) each r s (inr p) (inr q) = first_alike Open outcomes each.1 r s p.1 q.1
 
 pub answers_alike : (on : Bool) (Open : Status → Type 0) (outcomes : Outcomes) → EachOutcome (IsOneOr Open) outcomes → (r s : Reply)
-    → Answers on outcomes r × AnswersFirst outcomes r → Answers on outcomes s × AnswersFirst outcomes s → AreAlike Open r s
+    → Answers on outcomes r × AnswersFirst outcomes r → Answers on outcomes s × AnswersFirst outcomes s → AgreeOr Open r s
 answers_alike on Open outcomes each r s p q =
     let same = first_alike Open outcomes each r s p.1 q.1 in
     let stream = q.0.0 ∙ ap (stream_of on) same.0 ∙ sym p.0.0 in

@@ -6,7 +6,7 @@ pub mod AuditLaws
 pub mod EditLaws
 pub mod ParseLaws
 pub mod CommandLaws
-pub mod AlikeLaw
+pub mod AgreeLaw
 pub mod HeadlineLaw
 pub mod SampleLaw
 pub mod Growing

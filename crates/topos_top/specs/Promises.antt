@@ -39,14 +39,14 @@ LeavesOpen (LocalTable file host) status.Done = Unit {0}
 LeavesOpen _ _ = ⊥
 
 -- Another reply to the words is equal, or the text of replies with this status is not determined, and status and stream are equal.
-abbrev pub AreAlikeFor : (words : List (List ℕ)) → (given other : Reply) → Type 0
-AreAlikeFor words given other =
+abbrev pub AgreeFor : (words : List (List ℕ)) → (given other : Reply) → Type 0
+AgreeFor words given other =
     (other ≡ given) ⊎ ((command : Command) × ParseAs words command × LeavesOpen command given.status × (other.status ≡ given.status) × (other.stream ≡ given.stream))
 
 -- If the files are observable and no fault occurred, they and the arguments determine the reply of the run, unless memory runs out: they
 -- allow this reply and no other, but for texts that are not determined.
 abbrev pub IsComplete : (words : List (List ℕ)) → ShelfChange → (out err : SinkChange) → Status → Type 0
-IsComplete words = IsCompleteUpTo topos (AreAlikeFor words) words
+IsComplete words = IsCompleteUpTo topos (AgreeFor words) words
 
 -- ---- what commands write
 

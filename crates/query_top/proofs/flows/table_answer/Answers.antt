@@ -1,8 +1,6 @@
-use Rattle.std.proofs.Common.{◌≡◌, ◌∙◌, ap, inl, refl, subst, sym, true, ℕ, List}
+use Rattle.std.proofs.Common.{◌≡◌, inl, refl, subst, sym, true, ℕ, List}
 use Rattle.host_net.specs.Host.{Host}
-use Rattle.flows_json.specs.TableFlowsJson.{name_in, table_flows_json}
 use Rattle.flows_json.proofs.FlowsLaws.{table_flows_fit}
-use Rattle.nft_rules.specs.declared.table.Table.{Table}
 use Rattle.query_top.proofs.FlowsLaws.{table_is_complete}
 use Rattle.query_top.specs.Flows.{flows_outcomes}
 use Rattle.query_top.specs.TableFlows.{IsTableFlowsAnswer}

@@ -2,13 +2,13 @@ use Rattle.std.proofs.Common.{map, string_bytes}
 use Rattle.run_core.specs.Shelf.{shelf_change}
 use Rattle.run_core.specs.SinkChanges.{sink_change}
 use Rattle.run_core.specs.declared.status.Status.TheVariants as status
-use Rattle.query_top.specs.Promises.{AreAlikeFor, DeliversReply}
+use Rattle.query_top.specs.Promises.{AgreeFor, DeliversReply}
 use Rattle.run_core.specs.inner.Views.{reply_view}
 use Rattle.query_top.proofs.AnsweredLaws.{answered_law, differences_law, rules_law}
 use Rattle.query_top.proofs.ParseLaws.{may_give, not_read, one_ask}
 use Rattle.run_core.proofs.CompleteLaws.{complete_law}
 use Rattle.query_top.specs.Commands.{topos_query}
-use Rattle.query_top.proofs.AlikeLaws.{alike_law}
+use Rattle.query_top.proofs.AgreeLaws.{alike_law}
 use Rattle.query_top.proofs.CommandLaws.{kept}
 use Rattle.run_core.proofs.RunLaws.{usage_law, caused, each_cause, shelf_stays, no_fault, nothing_to_write, something_to_write}
 use Rattle.query_top.proofs.AnsweredLaws.{is_reported}
@@ -69,5 +69,5 @@ returns-clause-stderr_unchanged g c = λ answered.
     (something_to_write topos_query kept _ _ _ _ _ (gave g c) (one_ask (map string_bytes c.args.words.now)) reported)
 
 pub returns-clause-complete : goal.returns-clause-complete
-returns-clause-complete g c = complete_law topos_query kept (AreAlikeFor (map string_bytes c.args.words.now)) (map string_bytes c.args.words.now)
+returns-clause-complete g c = complete_law topos_query kept (AgreeFor (map string_bytes c.args.words.now)) (map string_bytes c.args.words.now)
     (λ files given other. alike_law (map string_bytes c.args.words.now) files given other) _ _ _ _ (gave g c)

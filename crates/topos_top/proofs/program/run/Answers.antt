@@ -1,12 +1,12 @@
 use Rattle.std.proofs.Common.{map, string_bytes}
-use Rattle.topos_top.specs.Promises.{AreAlikeFor, DeliversReply}
+use Rattle.topos_top.specs.Promises.{AgreeFor, DeliversReply}
 use Rattle.run_core.specs.Shelf.{shelf_change}
 use Rattle.run_core.specs.SinkChanges.{sink_change}
 use Rattle.run_core.specs.inner.Views.{reply_view}
 use Rattle.run_core.specs.declared.status.Status.TheVariants as status
 use Rattle.topos_top.specs.Commands.{topos}
 use Rattle.topos_top.proofs.CommandLaws.{kept}
-use Rattle.topos_top.proofs.AlikeLaw.{alike_law}
+use Rattle.topos_top.proofs.AgreeLaw.{alike_law}
 use Rattle.topos_top.proofs.ParseLaws.{is_asked, may_give, one_ask}
 use Rattle.topos_top.proofs.HeadlineLaw.{headline_law}
 use Rattle.run_core.proofs.RunLaws.{usage_law, caused, each_cause, shelf_stays, no_fault, nothing_to_write, something_to_write}
@@ -68,5 +68,5 @@ returns-clause-stderr_unchanged g c = λ says.
     c.deliver.ensures.stderr_unchanged (no_fault c.deliver.result says) (something_to_write topos kept _ _ _ _ _ (gave g c) (one_ask (map string_bytes c.args.words.now)) says)
 
 pub returns-clause-complete : goal.returns-clause-complete
-returns-clause-complete g c = complete_law topos kept (AreAlikeFor (map string_bytes c.args.words.now)) (map string_bytes c.args.words.now)
+returns-clause-complete g c = complete_law topos kept (AgreeFor (map string_bytes c.args.words.now)) (map string_bytes c.args.words.now)
     (λ files given other. alike_law (map string_bytes c.args.words.now) files given other) _ _ _ _ (gave g c)

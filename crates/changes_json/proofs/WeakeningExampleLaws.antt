@@ -15,7 +15,7 @@ use Rattle.flow_set.specs.declared.flow.Flow.{Flow}
 use Rattle.flow_set.specs.laws.FlowLaws.{flows_ext}
 use Rattle.net_core.specs.Network.{Network, site_of}
 use Rattle.net_core.specs.Policies.{Policy, holds_on}
-use Rattle.changes_json.specs.Alike.{weakened_facts}
+use Rattle.changes_json.specs.WithoutExamples.{weakened_without_examples}
 use Rattle.why_json.specs.WhyJson.{is_gap}
 use Rattle.why_json.specs.Standings.{standing_of}
 use Rattle.changes_json.specs.Weakening.{IsWeakening, flows_where, is_denied, is_free, is_gap_of}
@@ -35,7 +35,7 @@ not_back v w (inr (same, low)) (inr (also, high)) = not_before v.old w.old low h
 
 facts_alike : (d : Network) (policy : Policy) (xs ys : List Weakened) → map (λ x. x.flows) xs ≡ map (λ x. x.flows) ys
     → All (λ x. AreDenying holds_on d.invariants policy.permitted.flows x.flows.old x.denied_by.items) xs
-    → All (λ x. AreDenying holds_on d.invariants policy.permitted.flows x.flows.old x.denied_by.items) ys → map weakened_facts xs ≡ map weakened_facts ys
+    → All (λ x. AreDenying holds_on d.invariants policy.permitted.flows x.flows.old x.denied_by.items) ys → map weakened_without_examples xs ≡ map weakened_without_examples ys
 facts_alike d policy [] [] same one other = refl
 facts_alike d policy [] (y ∷ ys) same one other = cc same
 facts_alike d policy (x ∷ xs) [] same one other = cc same
@@ -52,7 +52,7 @@ facts_alike d policy (x ∷ xs) (y ∷ ys) same one other =
 module _ (old : Network) (before : Policy) (new : Network) (after : Policy) (v w : Weakening) (a : IsWeakening old before new after v)
     (b : IsWeakening old before new after w) where
   -- Two weakenings by one change have the same weaker flows, denied by the same invariants.
-  pub weaker_are_alike : map weakened_facts v.weaker.items ≡ map weakened_facts w.weaker.items
+  pub weaker_are_alike : map weakened_without_examples v.weaker.items ≡ map weakened_without_examples w.weaker.items
   weaker_are_alike =
       let denied : flows_where is_denied a.old_denials ≡ flows_where is_denied b.old_denials =
       one_denied old before a.old_denials b.old_denials a.are_old_denials b.are_old_denials in

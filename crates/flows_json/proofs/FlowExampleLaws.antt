@@ -20,9 +20,9 @@ use Rattle.decide_core.specs.Flows.{AreFlows, AreFlowsOf, AreFlowsOfEach, IsOfRa
 use Rattle.decide_core.specs.declared.deciders.Deciders.{Deciders}
 use Rattle.decide_core.specs.declared.flows.FlowRange.{FlowRange}
 use Rattle.decide_core.specs.declared.flows.PairFlows.{PairFlows}
-use Rattle.flows_json.specs.Alike.{flow_range_facts, pair_facts}
-use Rattle.range_json.specs.Alike.{range_facts}
-use Rattle.range_json.proofs.AlikeRangeLaws.{ranges_are_alike}
+use Rattle.flows_json.specs.WithoutExamples.{flow_range_without_examples, pair_without_examples}
+use Rattle.range_json.specs.WithoutExamples.{range_without_examples}
+use Rattle.range_json.proofs.RangeExampleLaws.{ranges_are_alike}
 
 -- ---- ascending lists of places
 
@@ -138,14 +138,14 @@ abbrev HaveDeciders : AnyRules → List Host → (from to : Option ℕ) → List
 HaveDeciders rules hosts from to rs = All (λ r. AreDeciders rules (IsOfRange hosts from to r.range) r.deciders) rs
 
 ranges_alike : (rules : AnyRules) (hosts : List Host) (from to from' to' : Option ℕ) → from ≡ from' → to ≡ to' → (rs qs : List FlowRange)
-    → map range_facts (map (λ r. r.range) rs) ≡ map range_facts (map (λ r. r.range) qs)
-    → HaveDeciders rules hosts from to rs → HaveDeciders rules hosts from' to' qs → map flow_range_facts rs ≡ map flow_range_facts qs
+    → map range_without_examples (map (λ r. r.range) rs) ≡ map range_without_examples (map (λ r. r.range) qs)
+    → HaveDeciders rules hosts from to rs → HaveDeciders rules hosts from' to' qs → map flow_range_without_examples rs ≡ map flow_range_without_examples qs
 ranges_alike rules hosts from to from' to' sources ends [] [] same one other = refl
 ranges_alike rules hosts from to from' to' sources ends [] (q ∷ qs) same one other = cc same
 ranges_alike rules hosts from to from' to' sources ends (r ∷ rs) [] same one other = cc same
 ranges_alike rules hosts from to from' to' sources ends (r ∷ rs) (q ∷ qs) same one other =
-    let facts : range_facts r.range ≡ range_facts q.range = cc same in
-    let rest : map range_facts (map (λ x. x.range) rs) ≡ map range_facts (map (λ x. x.range) qs) = cc same in
+    let facts : range_without_examples r.range ≡ range_without_examples q.range = cc same in
+    let rest : map range_without_examples (map (λ x. x.range) rs) ≡ map range_without_examples (map (λ x. x.range) qs) = cc same in
     let lows : r.range.low ≡ q.range.low = ap (λ (x : ℕ × ℕ × Bool). x.0) facts in
     let highs : r.range.high ≡ q.range.high = ap (λ (x : ℕ × ℕ × Bool). x.1) facts in
     let into = of_range_too hosts from to from' to' r.range q.range sources ends lows highs in
@@ -160,7 +160,7 @@ ranges_alike rules hosts from to from' to' sources ends (r ∷ rs) (q ∷ qs) sa
 -- ---- the services of all pairs
 
 abbrev pub service_facts : PairServices → Option ℕ × Option ℕ × List (ℕ × ℕ × Bool)
-service_facts s = (s.from, s.to, map range_facts s.ranges.items)
+service_facts s = (s.from, s.to, map range_without_examples s.ranges.items)
 
 lists_alike : {X : Type 0} (Listed : X → List PairServices → Type 0)
     → ((x : X) (ys zs : List PairServices) → Listed x ys → Listed x zs → map service_facts ys ≡ map service_facts zs)
@@ -207,16 +207,16 @@ services_alike Holds hosts ss ts one other =
 -- ---- the flows of all pairs
 
 pair_alike : (rules : AnyRules) (hosts : List Host) (s t : PairServices) (f g : PairFlows) → service_facts s ≡ service_facts t → AreFlowsOf rules hosts s f
-    → AreFlowsOf rules hosts t g → pair_facts f ≡ pair_facts g
+    → AreFlowsOf rules hosts t g → pair_without_examples f ≡ pair_without_examples g
 pair_alike rules hosts s t f g same one other =
     let sources : f.from ≡ g.from = one.source ∙ ap (λ (x : Option ℕ × Option ℕ × List (ℕ × ℕ × Bool)). x.0) same ∙ sym other.source in
     let ends : f.to ≡ g.to = one.destination ∙ ap (λ (x : Option ℕ × Option ℕ × List (ℕ × ℕ × Bool)). x.1) same ∙ sym other.destination in
-    let ranges = ap (map range_facts) one.ranges ∙ ap (λ (x : Option ℕ × Option ℕ × List (ℕ × ℕ × Bool)). x.2) same ∙ sym (ap (map range_facts) other.ranges) in
+    let ranges = ap (map range_without_examples) one.ranges ∙ ap (λ (x : Option ℕ × Option ℕ × List (ℕ × ℕ × Bool)). x.2) same ∙ sym (ap (map range_without_examples) other.ranges) in
     let all = ranges_alike rules hosts f.from f.to g.from g.to sources ends f.ranges.items g.ranges.items ranges one.deciders other.deciders in
     λ i. (sources i, ends i, all i)
 
 each_alike : (rules : AnyRules) (hosts : List Host) (ss ts : List PairServices) (fs gs : List PairFlows) → map service_facts ss ≡ map service_facts ts
-    → AreFlowsOfEach rules hosts ss fs → AreFlowsOfEach rules hosts ts gs → map pair_facts fs ≡ map pair_facts gs
+    → AreFlowsOfEach rules hosts ss fs → AreFlowsOfEach rules hosts ts gs → map pair_without_examples fs ≡ map pair_without_examples gs
 each_alike rules hosts [] [] [] [] same one other = refl
 each_alike rules hosts [] ts (f ∷ fs) gs same one other = absurd one
 each_alike rules hosts (s ∷ ss) ts [] gs same one other = absurd one
@@ -233,7 +233,7 @@ each_alike rules hosts (s ∷ ss) (t ∷ ts) (f ∷ fs) (g ∷ gs) same one othe
 
 -- Two lists of all flows are alike.
 pub flows_are_alike : (rules : AnyRules) (hosts : List Host) (fs gs : List PairFlows) → AreFlows rules hosts fs → AreFlows rules hosts gs
-    → map pair_facts fs ≡ map pair_facts gs
+    → map pair_without_examples fs ≡ map pair_without_examples gs
 flows_are_alike rules hosts fs gs one other =
     each_alike rules hosts one.services other.services fs gs (services_alike (LetsPass rules) hosts one.services other.services one.listed other.listed)
     one.each other.each

@@ -6,7 +6,7 @@ use Rattle.ipt_rules.specs.declared.marks.Place.{Place}
 use Rattle.rules_space.specs.Rules.{Chains, Entries, AnyRules}
 use Rattle.pass_core.specs.Dead.{is_listed}
 use Rattle.decide_core.specs.DeadPlaces.{AreDeadPlaces}
-use Rattle.flows_json.proofs.AlikeFlowLaws.{both_bools, places_are_one}
+use Rattle.flows_json.proofs.FlowExampleLaws.{both_bools, places_are_one}
 use Rattle.range_json.proofs.OrderLaws.{one_order}
 
 -- Places of one chain are equal if their rules are.

@@ -6,11 +6,11 @@ use Rattle.run_core.specs.Reply.{Reply}
 use Rattle.run_core.proofs.CommandPlanLaws.{told_alike}
 use Rattle.topos_top.specs.Command.{Command, reports_on_output}
 use Rattle.topos_top.specs.Commands.{plan_of, topos}
-use Rattle.topos_top.specs.Promises.{AreAlikeFor, LeavesOpen}
+use Rattle.topos_top.specs.Promises.{AgreeFor, LeavesOpen}
 use Rattle.topos_top.proofs.CommandLaws.{one_text, rejects_once}
 use Rattle.topos_top.proofs.ParseLaws.{one_ask}
 
-pub alike_law : (words : List (List ℕ)) (told : Files) (r s : Reply) → RepliesTo topos words told r → RepliesTo topos words told s → AreAlikeFor words r s
+pub alike_law : (words : List (List ℕ)) (told : Files) (r s : Reply) → RepliesTo topos words told r → RepliesTo topos words told s → AgreeFor words r s
 alike_law words told r s (inl p) (inl q) = inl (q.1 ∙ sym p.1)
 alike_law words told r s (inl p) (inr q) = absurd (p.0 q.0 q.1)
 alike_law words told r s (inr p) (inl q) = absurd (q.0 p.0 p.1)

@@ -6,7 +6,7 @@ use Rattle.host_net.specs.declared.packet.Packet.{Packet}
 use Rattle.pass_core.specs.Passing.{AreMaximal, ArePassing, IsBefore, IsShown, LiesInRange, is_wholly}
 use Rattle.pass_core.specs.Services.{service_count}
 use Rattle.pass_core.specs.declared.passing_range.PassingRange.{PassingRange}
-use Rattle.range_json.specs.Alike.{range_facts}
+use Rattle.range_json.specs.WithoutExamples.{range_without_examples}
 
 -- Each range has a service.
 abbrev AreSome : List PassingRange → Type 0
@@ -119,7 +119,7 @@ later_same r s rs ss one same high kind n lies = by_place ((same kind n).0 (inr 
 none_lie : (s : PassingRange) (ss : List PassingRange) → IsList s ss → HaveSame [] (s ∷ ss) → ⊥
 none_lie s ss is same = absurd ((same (is_wholly s) s.low).1 (begins s ss is))
 
-lists_are_alike : (rs ss : List PassingRange) → AreMaximal rs → AreMaximal ss → AreSome rs → AreSome ss → HaveSame rs ss → map range_facts rs ≡ map range_facts ss
+lists_are_alike : (rs ss : List PassingRange) → AreMaximal rs → AreMaximal ss → AreSome rs → AreSome ss → HaveSame rs ss → map range_without_examples rs ≡ map range_without_examples ss
 lists_are_alike [] [] a b c d same = refl
 lists_are_alike [] (s ∷ ss) a b c d same = absurd (none_lie s ss (record { maximal = b; some = d }) same)
 lists_are_alike (r ∷ rs) [] a b c d same = absurd (none_lie r rs (record { maximal = a; some = c }) (turned (r ∷ rs) [] same))
@@ -155,7 +155,7 @@ module _ (Holds Between : Packet → Type 0) where
 
 -- Two lists of the ranges that pass are alike.
 pub ranges_are_alike : (Holds Between : Packet → Type 0) (rs ss : List PassingRange) → ArePassing Holds Between rs → ArePassing Holds Between ss
-    → map range_facts rs ≡ map range_facts ss
+    → map range_without_examples rs ≡ map range_without_examples ss
 ranges_are_alike Holds Between rs ss a b =
     lists_are_alike rs ss a.maximal b.maximal (some_of Holds Between rs a.shown) (some_of Holds Between ss b.shown)
     (λ kind n. (also_in Holds Between rs ss a b kind n, also_in Holds Between ss rs b a kind n))

@@ -18,10 +18,10 @@ use Rattle.nft_flows.specs.declared.flows.TableFlowRange.{TableFlowRange}
 use Rattle.nft_flows.specs.declared.place.TablePlace.{TablePlace}
 use Rattle.nft_flows.proofs.AlikeLaws.{AreSimilar, IsKnown, ascending_pairs, dead_alike, decides_alike, not_both, passes_alike, similar_back}
 use Rattle.nft_flows.proofs.FlowLaws.{listed_same}
-use Rattle.range_json.specs.Alike.{range_facts}
+use Rattle.range_json.specs.WithoutExamples.{range_without_examples}
 use Rattle.range_json.proofs.OrderLaws.{one_order}
-use Rattle.flows_json.specs.Alike.{table_pair_facts, table_range_facts}
-use Rattle.flows_json.proofs.AlikeFlowLaws.{of_range_too, service_facts, services_alike}
+use Rattle.flows_json.specs.WithoutExamples.{table_pair_without_examples, table_range_without_examples}
+use Rattle.flows_json.proofs.FlowExampleLaws.{of_range_too, service_facts, services_alike}
 
 module _ (a b : Table) (one : IsKnown a) (two : IsKnown b) (similar : AreSimilar a b) where
   pub dead_are_one : (ps qs : List TablePlace) → AreDeadTablePlaces a ps → AreDeadTablePlaces b qs → ps ≡ qs
@@ -32,16 +32,16 @@ module _ (a b : Table) (one : IsKnown a) (two : IsKnown b) (similar : AreSimilar
 
   module _ (hosts : List Host) where
     ranges_alike : (from to from' to' : Option ℕ) → from ≡ from' → to ≡ to' → (rs qs : List TableFlowRange)
-        → map range_facts (map (λ r. r.range) rs) ≡ map range_facts (map (λ r. r.range) qs)
+        → map range_without_examples (map (λ r. r.range) rs) ≡ map range_without_examples (map (λ r. r.range) qs)
         → All (λ r. AreTableDeciders a (IsOfRange hosts from to r.range) r.deciders.items) rs
         → All (λ r. AreTableDeciders b (IsOfRange hosts from' to' r.range) r.deciders.items) qs
-        → map table_range_facts rs ≡ map table_range_facts qs
+        → map table_range_without_examples rs ≡ map table_range_without_examples qs
     ranges_alike from to from' to' sources ends [] [] same first second = refl
     ranges_alike from to from' to' sources ends [] (q ∷ qs) same first second = cc same
     ranges_alike from to from' to' sources ends (r ∷ rs) [] same first second = cc same
     ranges_alike from to from' to' sources ends (r ∷ rs) (q ∷ qs) same first second =
-        let facts : range_facts r.range ≡ range_facts q.range = cc same in
-        let rest : map range_facts (map (λ x. x.range) rs) ≡ map range_facts (map (λ x. x.range) qs) = cc same in
+        let facts : range_without_examples r.range ≡ range_without_examples q.range = cc same in
+        let rest : map range_without_examples (map (λ x. x.range) rs) ≡ map range_without_examples (map (λ x. x.range) qs) = cc same in
         let lows : r.range.low ≡ q.range.low = ap (λ (x : ℕ × ℕ × Bool). x.0) facts in
         let highs : r.range.high ≡ q.range.high = ap (λ (x : ℕ × ℕ × Bool). x.1) facts in
         let into = of_range_too hosts from to from' to' r.range q.range sources ends lows highs in
@@ -60,16 +60,16 @@ module _ (a b : Table) (one : IsKnown a) (two : IsKnown b) (similar : AreSimilar
         λ i. (facts i, places i) ∷ later i
 
     pair_alike : (s t : PairServices) (f g : PairTableFlows) → service_facts s ≡ service_facts t → AreTableFlowsOf a hosts s f
-        → AreTableFlowsOf b hosts t g → table_pair_facts f ≡ table_pair_facts g
+        → AreTableFlowsOf b hosts t g → table_pair_without_examples f ≡ table_pair_without_examples g
     pair_alike s t f g same first second =
         let sources : f.from ≡ g.from = first.source ∙ ap (λ (x : Option ℕ × Option ℕ × List (ℕ × ℕ × Bool)). x.0) same ∙ sym second.source in
         let ends : f.to ≡ g.to = first.destination ∙ ap (λ (x : Option ℕ × Option ℕ × List (ℕ × ℕ × Bool)). x.1) same ∙ sym second.destination in
-        let ranges = ap (map range_facts) first.ranges ∙ ap (λ (x : Option ℕ × Option ℕ × List (ℕ × ℕ × Bool)). x.2) same ∙ sym (ap (map range_facts) second.ranges) in
+        let ranges = ap (map range_without_examples) first.ranges ∙ ap (λ (x : Option ℕ × Option ℕ × List (ℕ × ℕ × Bool)). x.2) same ∙ sym (ap (map range_without_examples) second.ranges) in
         let all = ranges_alike f.from f.to g.from g.to sources ends f.ranges.items g.ranges.items ranges first.deciders second.deciders in
         λ i. (sources i, ends i, all i)
 
     each_alike : (ss ts : List PairServices) (fs gs : List PairTableFlows) → map service_facts ss ≡ map service_facts ts
-        → AllZip (AreTableFlowsOf a hosts) ss fs → AllZip (AreTableFlowsOf b hosts) ts gs → map table_pair_facts fs ≡ map table_pair_facts gs
+        → AllZip (AreTableFlowsOf a hosts) ss fs → AllZip (AreTableFlowsOf b hosts) ts gs → map table_pair_without_examples fs ≡ map table_pair_without_examples gs
     each_alike [] [] [] [] same first second = refl
     each_alike [] ts (f ∷ fs) gs same first second = absurd first
     each_alike (s ∷ ss) ts [] gs same first second = absurd first
@@ -86,7 +86,7 @@ module _ (a b : Table) (one : IsKnown a) (two : IsKnown b) (similar : AreSimilar
 
     -- Two lists of all flows are alike.
     pub table_flows_are_alike : (fs gs : List PairTableFlows) → AreTableFlows a hosts fs → AreTableFlows b hosts gs
-        → map table_pair_facts fs ≡ map table_pair_facts gs
+        → map table_pair_without_examples fs ≡ map table_pair_without_examples gs
     table_flows_are_alike fs gs first second =
         let Holds = λ (p : Packet). PassesTable b New p true in
         let moved : AreListedByOwners Holds hosts first.services =
