@@ -37,7 +37,7 @@ use Rattle.nft_local.specs.inner.Assembly.{IsAssembled, flows_name}
 use Rattle.nft_local.specs.inner.Entries.{AddsSide, IsSide, LeadsOwn, loopback_name, near_end}
 use Rattle.nft_local.specs.inner.Part.{part_at}
 use Rattle.nft_local.proofs.EntryLaws.{entry_loads, external_passes, internal_passes, near_address}
-use Rattle.nft_local.proofs.OneLaws.{decides_same}
+use Rattle.nft_rules.proofs.OneLaws.{decides_same}
 use Rattle.nft_local.proofs.PartLaws.{part_passes}
 
 -- 1. Names.

@@ -1,2 +1,3 @@
 pub mod EvalLaws
 pub mod MapLaws
+pub mod OneLaws

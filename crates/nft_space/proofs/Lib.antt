@@ -2,4 +2,4 @@ pub mod CheckLaws
 mod FirstLaws
 mod IntervalLaws
 mod LoopLaws
-mod OneLaws
+pub mod OneLaws

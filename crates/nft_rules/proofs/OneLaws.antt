@@ -1,4 +1,4 @@
--- Rules decide a packet in one way.
+-- Rules have at most one verdict on a packet, if their intervals are disjoint and each `goto` leads back.
 use Rattle.std.proofs.Common.{◌≡◌, ℕ, Bool, List, ◌∷◌, Option, Some, None, sym, subst, ◌∙◌}
 use Rattle.std.proofs.lemmas.Option.{same_Some}
 use Rattle.host_net.specs.declared.packet.Packet.{Packet}
@@ -14,10 +14,12 @@ use Rattle.nft_rules.specs.Semantics.Decides.{by_policy, by_next, by_accept, by_
 use Rattle.nft_rules.proofs.EvalLaws.{Follows, first_decides, none_decides}
 use Rattle.nft_rules.proofs.MapLaws.{leads_same}
 
-gives_same : (n : ℕ) (state : CtState) (p : Packet) (rule : Rule) (v u : Option Verdict) → IsRule n rule → Gives state p rule v → Gives state p rule u → v ≡ u
+pub gives_same : (n : ℕ) (state : CtState) (p : Packet) (rule : Rule) (v u : Option Verdict) → IsRule n rule → Gives state p rule v → Gives state p rule u
+    → v ≡ u
 gives_same n state p (Map m) v u is one two = leads_same m.elements.items (address_at m.end p) v u is.1 one two
 gives_same n state p (Match r) v u is one two = one ∙ sym two
 
+-- What follows the verdict of the first rule, if the verdict is known.
 follows_first : (n : ℕ) (chains : List Chain) (state : CtState) (p : Packet) (rule : Rule) (rules : List Rule) (v : Option Verdict) (passes : Bool)
     → IsRule n rule → Gives state p rule v → Decides chains state p (rule ∷ rules) passes → Follows chains state p rules v passes
 follows_first n chains state p rule rules v passes is gives decides =
