@@ -1,5 +1,5 @@
 -- Two tables with the same chains and the same spans have the same deciders and the same dead places.
-use Rattle.std.proofs.Common.{◌≡◌, ◌⊎◌, inl, inr, ℕ, zero, suc, ◌<◌, true, List, [], ◌∷◌, Option, Some, get_or, refl, sym, ap, subst, ◌∙◌, arith}
+use Rattle.std.proofs.Common.{◌≡◌, inl, inr, ℕ, zero, suc, true, List, [], ◌∷◌, Option, Some, get_or, refl, sym, ap, subst, ◌∙◌, arith}
 use Rattle.std.specs.Prelude.{IsSome, IsTrue}
 use Rattle.std.specs.List.{AllPairs, Contains}
 use Rattle.std.proofs.lemmas.List.Elements.{Contains-get_or}
@@ -8,7 +8,6 @@ use Rattle.host_net.specs.declared.packet.CtState.{CtState}
 use Rattle.host_net.specs.declared.packet.CtState.TheVariants.{New}
 use Rattle.host_net.specs.declared.packet.Verdict.{Verdict as Outcome}
 use Rattle.host_net.specs.Packet.{IsPacket}
-use Rattle.ipt_rules.specs.declared.marks.Place.{Place}
 use Rattle.ipt_rules.specs.Chain.{Chain}
 use Rattle.ipt_rules.specs.Meets.{IsMet as IsRuleMet, verdict_at as rule_verdict}
 use Rattle.ipt_rules.specs.Semantics.{PassesChains}
@@ -18,16 +17,16 @@ use Rattle.nft_rules.specs.Loadable.{IsLoadable}
 use Rattle.nft_rules.specs.Semantics.{PassesTable}
 use Rattle.nft_chains.specs.Translation.{HaveSameVerdicts, chains_of}
 use Rattle.nft_flows.specs.Dead.{IsDeadPlace}
-use Rattle.nft_flows.specs.Deciders.{DecidesAt, DecidesOne, ends_evaluation}
+use Rattle.nft_flows.specs.Deciders.{DecidesOne, ends_evaluation}
 use Rattle.nft_flows.specs.Places.{AreAscending, ComesBefore, IsMet, rank, verdict_at}
 use Rattle.nft_flows.specs.declared.place.TablePlace.{TablePlace}
 use Rattle.nft_flows.specs.declared.span.Span.{Span}
 use Rattle.nft_flows.specs.inner.Spans.{spans_of}
-use Rattle.nft_flows.proofs.MetLaws.{IsOf, Stands, met_stands}
+use Rattle.nft_flows.proofs.MetLaws.{met_stands}
 use Rattle.nft_flows.proofs.OrderLaws.{last_of_none, one_of_rule}
 use Rattle.nft_flows.proofs.ReachLaws.{met_has_rule}
 use Rattle.nft_flows.proofs.ResultLaws.{ends_verdict, known_span, rule_has, verdict_ends}
-use Rattle.nft_flows.proofs.TargetLaws.{HasVerdict, span_verdict}
+use Rattle.nft_flows.proofs.TargetLaws.{span_verdict}
 
 -- A table whose verdicts are those of its chains.
 pub record IsKnown (table : Table) : Type 0 where

@@ -4,6 +4,7 @@ mod MadeLaws
 mod MetLaws
 mod OrderLaws
 mod ReachLaws
+mod RemovalLaws
 mod ResultLaws
 mod SearchLaws
 mod SpanLaws

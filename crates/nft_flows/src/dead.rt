@@ -3,6 +3,7 @@
 ghost use Rattle.std.specs.Prelude.{◌≡◌, IfOk};
 ghost use Rattle.nft_chains.specs.Translation.{chains_of};
 ghost use Rattle.nft_flows.specs.Dead.{AreDeadTablePlaces};
+ghost use Rattle.nft_flows.specs.Removal.{AreRemovableTablePlaces};
 
 use crate::place::TablePlace;
 use crate::selected::with_all;
@@ -20,7 +21,8 @@ pub fn dead_of_table(
     chains: &Ruleset,
 ) -> Result<Vec<TablePlace>, AllocError>
     requires { chains.now ≡ chains_of table.now }
-    ensures { IfOk result (λ places. AreDeadTablePlaces table.now places.items) }
+    ensures dead { IfOk result (λ places. AreDeadTablePlaces table.now places.items) }
+    ensures removable { IfOk result (λ places. AreRemovableTablePlaces table.now places.items) }
 {
     // This call establishes that the table can be loaded.
     let _held = table.table();
