@@ -8,6 +8,7 @@ use Rattle.host_net.specs.declared.packet.Packet.{Packet}
 use Rattle.host_net.specs.declared.packet.CtState.TheVariants.{New}
 use Rattle.nft_flows.specs.Dead.{AreDeadTablePlaces}
 use Rattle.nft_flows.specs.Flows.{AreTableFlows}
+use Rattle.nft_flows.specs.Removal.{AreRemovableTablePlaces}
 use Rattle.nft_flows.specs.declared.flows.PairTableFlows.{PairTableFlows}
 use Rattle.nft_flows.specs.declared.flows.TableFlowRange.{TableFlowRange}
 use Rattle.nft_flows.specs.declared.place.TablePlace.{TablePlace}
@@ -29,7 +30,7 @@ abbrev pub IsTableComplete : List Host → Table → List PairTableFlows → Typ
 IsTableComplete hosts table flows = (p : Packet) → IsPacket p → PassesTable table New p true → HaveTablePacket hosts flows p
 
 -- The text is the JSON of all flows that a table with these rules lets pass between the owners of addresses, and of all its dead rules and
--- elements. Each new packet that it lets pass is in the flows.
+-- elements. Each new packet that it lets pass is in the flows, and the dead rules and elements are removable.
 pub record IsTableFlowsAnswer (hosts : List Host) (rules : TableRules) (text : List ℕ) : Type 0 where
   pub table : Table
   pub has_rules : HasRules table rules
@@ -38,4 +39,5 @@ pub record IsTableFlowsAnswer (hosts : List Host) (rules : TableRules) (text : L
   pub complete : IsTableComplete hosts table flows
   pub dead : List TablePlace
   pub are_dead : AreDeadTablePlaces table dead
+  pub removable : AreRemovableTablePlaces table dead
   pub written : text ≡ table_flows_json (name_in table) hosts flows dead

@@ -33,6 +33,7 @@ returns c = λ said has.
       are = c.in_ok-flows.ensures;
       complete = table_is_complete c.args.read.now.table c.args.hosts.now c.in_ok-flows.flows.items c.in_ok-flows.ensures;
       dead = c.in_ok-dead.dead.items;
-      are_dead = c.in_ok-dead.ensures;
+      are_dead = c.in_ok-dead.ensures.dead;
+      removable = c.in_ok-dead.ensures.removable;
       written = written;
     }) c.done.ensures
