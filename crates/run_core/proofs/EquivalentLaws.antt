@@ -1,6 +1,5 @@
 -- Filters with the same verdicts on packets have the same runs over valid packets, and so forward alike.
 use Rattle.std.proofs.Common.{ℕ, zero, suc, Bool, List, [], ◌∷◌, Option, None, Some, refl}
-use Rattle.host_net.specs.declared.packet.Packet.{Packet}
 use Rattle.pkt_core.specs.declared.event.Event.{Event}
 use Rattle.pkt_core.specs.declared.event.Event.TheVariants.{Forget, Seen}
 use Rattle.pkt_core.specs.Filter.{ArePackets, ForwardsAsExpected}

@@ -1,5 +1,5 @@
 -- The laws of tables of nftables: tables with the same text have the same chains, and so the same verdicts.
-use Rattle.std.proofs.Common.{◌≡◌, ◌∙◌, ◌+◌, ◌≤◌, ◌<◌, ℕ, Bool, true, false, if◌then◌else◌, List, [], ◌∷◌, ◌++◌, Option, None, Some, drop, length, map, take, refl, ap, sym, subst, arith}
+use Rattle.std.proofs.Common.{◌≡◌, ◌∙◌, ◌+◌, ◌≤◌, ℕ, Bool, true, false, if◌then◌else◌, List, [], ◌∷◌, ◌++◌, Option, None, Some, drop, length, map, refl, ap, sym, subst, arith}
 use Rattle.std.specs.Prelude.{nat_lt}
 use Rattle.std.specs.List.{flat_map}
 use Rattle.std.proofs.lemmas.Bool.Decides.{nat_tests}
@@ -32,7 +32,7 @@ use Rattle.nft_rules.specs.declared.table.Rule.TheVariants.{Map, Match}
 use Rattle.nft_rules.specs.declared.table.Table.{Table}
 use Rattle.nft_text.specs.Text.{table_text}
 use Rattle.pkt_core.specs.Filter.{Enforces}
-use Rattle.pkt_core.specs.FlowPolicy.{FlowPolicy, lets_pass}
+use Rattle.pkt_core.specs.FlowPolicy.{FlowPolicy}
 use Rattle.report_core.proofs.TraceLaws.{AnswersOnce, chains_answer_once}
 use Rattle.run_core.specs.Filters.{AreEquivalentFilters}
 use Rattle.run_core.specs.Tables.{AreFew, HasRules, IsLayoutTable, IsReadingOfTable, NoText, RejectsTable, TableRules, TooLarge, passes_text}
