@@ -1,16 +1,27 @@
-//! The rules that find a verdict by the host that owns an address: a verdict map, and after it the
+//! The rules that find a verdict by the host that owns an address: verdict maps, and after them the
 //! verdict on the rest host.
 
-ghost use Rattle.std.specs.Prelude.{◌≡◌, ◌++◌, IfOk, OnOk};
-ghost use Rattle.std.specs.List.{flat_map};
-ghost use Rattle.nft_emit.specs.inner.Falls.{Falls, element_if, element_of, map_rules, shown, verdict_at, verdict_of, verdict_rules};
+ghost use Rattle.std.specs.Prelude.{◌≡◌, ◌++◌, ◌∷◌, [], not, IfOk, OnOk};
+ghost use Rattle.std.specs.List.{filter, flat_map};
+ghost use Rattle.nft_emit.specs.inner.Falls.{Falls, are_apart, element_if, element_of, is_apart, is_single, map_rules, shown, verdict_at, verdict_of, verdict_rules};
 
 use crate::cuts::Cut;
 use nft_rules::{Element, End, MatchRule, Rule, Verdict, VerdictMap};
 use std::alloc::{AllocError, Global};
 
+/// The least number of single addresses that have a map of their own. If there are fewer, and many
+/// intervals, a second lookup costs more than the smaller tree saves.
+const OWN_MAP_MINIMUM: usize = 32;
+
+/// The elements of a map of single addresses, and the other elements.
+#[derive(Drop)]
+struct Parts {
+    singles: Vec<Element>,
+    others: Vec<Element>,
+}
+
 /// Returns the rules with these verdicts, one for each host. No verdict means that no packet of the
-/// host passes.
+/// host passes. The kernel has a hash table for a map without intervals, and a tree for others.
 pub fn fall_rules(
     alloc: Global,
     end: End,
@@ -22,8 +33,22 @@ pub fn fall_rules(
 {
     let after = verdict_of(verdicts, rest);
     let elements = elements_of(alloc, cuts, verdicts, after)?;
+    let Parts { singles, others } = parts_of(alloc, &elements)?;
     let mut rules = Vec::new(alloc);
-    push_map(&mut rules, VerdictMap { end, elements })?;
+    push_map(
+        &mut rules,
+        VerdictMap {
+            end,
+            elements: singles,
+        },
+    )?;
+    push_map(
+        &mut rules,
+        VerdictMap {
+            end,
+            elements: others,
+        },
+    )?;
     push_verdict(&mut rules, after)?;
     Ok(rules)
 }
@@ -84,6 +109,51 @@ fn push_element(
         })?;
     }
     Ok(())
+}
+
+/// Returns the single addresses apart from the other elements, if there are many.
+fn parts_of(alloc: Global, elements: &[Element]) -> Result<Parts, AllocError>
+    ensures singles { IfOk result (λ parts. parts.singles.items ≡ filter (is_apart (are_apart elements.now)) elements.now) }
+    ensures others { IfOk result (λ parts. parts.others.items ≡ filter (λ e. not (is_apart (are_apart elements.now) e)) elements.now) }
+{
+    let apart = are_apart(elements);
+    let mut parts = Parts {
+        singles: Vec::new(alloc),
+        others: Vec::new(alloc),
+    };
+    for element in elements {
+        push_part(&mut parts, apart && is_single(*element), *element)?;
+    }
+    Ok(parts)
+}
+
+fn push_part(parts: &mut Parts, single: bool, element: Element) -> Result<(), AllocError>
+    ensures singles { OnOk result (parts.new.singles.items ≡ parts.old.singles.items ++ filter (λ e. single) (element ∷ [])) }
+    ensures others { OnOk result (parts.new.others.items ≡ parts.old.others.items ++ filter (λ e. not single) (element ∷ [])) }
+{
+    if single {
+        parts.singles.push(element)?;
+    } else {
+        parts.others.push(element)?;
+    }
+    Ok(())
+}
+
+/// Whether single addresses have a map of their own.
+fn are_apart(elements: &[Element]) -> bool
+    ensures { result ≡ are_apart elements.now }
+{
+    elements
+        .iter()
+        .filter(|element| is_single(**element))
+        .count()
+        >= OWN_MAP_MINIMUM
+}
+
+fn is_single(element: Element) -> bool
+    ensures { result ≡ is_single element }
+{
+    element.range.first == element.range.last
 }
 
 /// Returns the verdict of an element. A host without a verdict needs an element that drops only if

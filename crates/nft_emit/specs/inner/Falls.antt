@@ -1,6 +1,6 @@
 -- The rules that find a verdict by the owner of an address.
-use Rattle.std.specs.Prelude.{◌≡◌, ℕ, false, List, [], ◌∷◌, ◌++◌, Option, Some, None, slice_get}
-use Rattle.std.specs.List.{flat_map}
+use Rattle.std.specs.Prelude.{◌≡◌, ℕ, ◌==◌, Bool, false, not, ◌&&◌, nat_le, List, [], ◌∷◌, ◌++◌, Option, Some, None, length, slice_get}
+use Rattle.std.specs.List.{filter, flat_map}
 use Rattle.std.specs.Option.{option_and_then}
 use Rattle.header_space.specs.declared.address_range.AddressRange.{AddressRange}
 use Rattle.std.specs.declared.vec.Vec.{Vec}
@@ -35,6 +35,22 @@ element_if range (Some v) = record { range = range; verdict = v } ∷ []
 abbrev pub element_of : Option Verdict → List (Option Verdict) → Cut → List Element
 element_of after verdicts x = element_if x.range (shown after (verdict_at verdicts x.host))
 
+-- The element of a single address.
+abbrev pub is_single : Element → Bool
+is_single e = e.range.first == e.range.last
+
+-- The least number of single addresses that have a map of their own.
+abbrev pub own_map_minimum : ℕ
+own_map_minimum = 32
+
+-- There are so many single addresses that they have a map of their own.
+abbrev pub are_apart : List Element → Bool
+are_apart es = nat_le own_map_minimum (length (filter is_single es))
+
+-- The element is in the map of single addresses.
+abbrev pub is_apart : Bool → Element → Bool
+is_apart apart e = apart && is_single e
+
 -- The rule that maps the elements, if there are any.
 abbrev pub map_rules : VerdictMap → List Element → List Rule
 map_rules m [] = []
@@ -45,8 +61,13 @@ abbrev pub verdict_rules : Option Verdict → List Rule
 verdict_rules None = []
 verdict_rules (Some v) = Match (record { established = false; service = None; verdict = v }) ∷ []
 
--- A verdict map over the ranges of hosts, and the verdict of the rest host after it.
+-- A verdict map over the single addresses of hosts, if there are many, and one over the other ranges. After them, the verdict of the rest host.
 pub record Falls (end : End) (cuts : List Cut) (verdicts : List (Option Verdict)) (rest : Option ℕ) (rules : List Rule) : Type 0 where
-  pub elements : Vec Element Global
-  pub items : elements.items ≡ flat_map (element_of (verdict_of verdicts rest) verdicts) cuts
-  pub rules_are : rules ≡ map_rules (record { end = end; elements = elements }) elements.items ++ verdict_rules (verdict_of verdicts rest)
+  pub all : List Element
+  pub all_are : all ≡ flat_map (element_of (verdict_of verdicts rest) verdicts) cuts
+  pub singles : Vec Element Global
+  pub singles_are : singles.items ≡ filter (is_apart (are_apart all)) all
+  pub others : Vec Element Global
+  pub others_are : others.items ≡ filter (λ e. not (is_apart (are_apart all) e)) all
+  pub rules_are : rules ≡ map_rules (record { end = end; elements = singles }) singles.items
+      ++ map_rules (record { end = end; elements = others }) others.items ++ verdict_rules (verdict_of verdicts rest)
