@@ -1,7 +1,7 @@
 //! The rules that find a verdict by the host that owns an address: verdict maps, and after them the
 //! verdict on the rest host.
 
-ghost use Rattle.std.specs.Prelude.{◌≡◌, ◌++◌, ◌∷◌, [], not, IfOk, OnOk};
+ghost use Rattle.std.specs.Prelude.{◌≡◌, ◌++◌, ◌∷◌, [], not, length, IfOk, OnOk};
 ghost use Rattle.std.specs.List.{filter, flat_map};
 ghost use Rattle.nft_emit.specs.inner.Falls.{Falls, are_apart, element_if, element_of, is_apart, is_single, map_rules, shown, verdict_at, verdict_of, verdict_rules};
 
@@ -143,11 +143,16 @@ fn push_part(parts: &mut Parts, single: bool, element: Element) -> Result<(), Al
 fn are_apart(elements: &[Element]) -> bool
     ensures { result ≡ are_apart elements.now }
 {
+    count_singles(elements) >= OWN_MAP_MINIMUM
+}
+
+fn count_singles(elements: &[Element]) -> usize
+    ensures { result ≡ length (filter is_single elements.now) }
+{
     elements
         .iter()
         .filter(|element| is_single(**element))
         .count()
-        >= OWN_MAP_MINIMUM
 }
 
 fn is_single(element: Element) -> bool

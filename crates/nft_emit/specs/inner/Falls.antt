@@ -70,4 +70,4 @@ pub record Falls (end : End) (cuts : List Cut) (verdicts : List (Option Verdict)
   pub others : Vec Element Global
   pub others_are : others.items ≡ filter (λ e. not (is_apart (are_apart all) e)) all
   pub rules_are : rules ≡ map_rules (record { end = end; elements = singles }) singles.items
-      ++ map_rules (record { end = end; elements = others }) others.items ++ verdict_rules (verdict_of verdicts rest)
+      ++ (map_rules (record { end = end; elements = others }) others.items ++ verdict_rules (verdict_of verdicts rest))
