@@ -35,30 +35,18 @@ pub fn fall_rules(
     let elements = elements_of(alloc, cuts, verdicts, after)?;
     let Parts { singles, others } = parts_of(alloc, &elements)?;
     let mut rules = Vec::new(alloc);
-    push_map(
-        &mut rules,
-        VerdictMap {
-            end,
-            elements: singles,
-        },
-    )?;
-    push_map(
-        &mut rules,
-        VerdictMap {
-            end,
-            elements: others,
-        },
-    )?;
+    push_map(&mut rules, end, singles)?;
+    push_map(&mut rules, end, others)?;
     push_verdict(&mut rules, after)?;
     Ok(rules)
 }
 
-/// Adds the map unless it is empty.
-fn push_map(rules: &mut Vec<Rule>, map: VerdictMap) -> Result<(), AllocError>
-    ensures { OnOk result (rules.new.items ≡ rules.old.items ++ map_rules map map.elements.items) }
+/// Adds the map of these elements if there are any.
+fn push_map(rules: &mut Vec<Rule>, end: End, elements: Vec<Element>) -> Result<(), AllocError>
+    ensures { OnOk result (rules.new.items ≡ rules.old.items ++ map_rules (record { end = end; elements = elements }) elements.items) }
 {
-    if !map.elements.is_empty() {
-        rules.push(Rule::Map(map))?;
+    if !elements.is_empty() {
+        rules.push(Rule::Map(VerdictMap { end, elements }))?;
     }
     Ok(())
 }
