@@ -1,3 +1,4 @@
+pub mod CandidateLaws
 pub mod ChangeLaws
 pub mod GapLaws
 pub mod ListLaws

@@ -28,7 +28,7 @@ some_passes test xs found = let any = Any-from_list_any test xs found in (any.1,
 pub passes_some : {X : Type 0} (test : X → Bool) (xs : List X) (x : X) → Contains xs x → test x ≡ true → list_any test xs ≡ true
 passes_some test xs x there passes = list_any-from_Any test xs (there.0, x, there.1, there.2, passes)
 
-one_of_all : {X : Type 0} (test : X → Bool) (xs : List X) (x : X) → list_all test xs ≡ true → Contains xs x → test x ≡ true
+pub one_of_all : {X : Type 0} (test : X → Bool) (xs : List X) (x : X) → list_all test xs ≡ true → Contains xs x → test x ≡ true
 one_of_all test [] x all there = absurd (contains_none x there)
 one_of_all {X = X} test (y ∷ ys) x all there =
     let parts = and_parts (test y) (list_all test ys) all in
@@ -70,17 +70,17 @@ fits_packets s valid =
 
 -- 3. Services that match one packet.
 
-serves_at : (s : Service) (p : Packet) → s.proto ≡ p.proto → s.low ≤ p.dport → p.dport ≤ s.high → serves s p ≡ true
+pub serves_at : (s : Service) (p : Packet) → s.proto ≡ p.proto → s.low ≤ p.dport → p.dport ≤ s.high → serves s p ≡ true
 serves_at s p is low high =
     and_from (s.proto == p.proto) (nat_le s.low p.dport && nat_le p.dport s.high) (eq-eqb s.proto p.proto is)
     (and_from (nat_le s.low p.dport) (nat_le p.dport s.high) (le-leb s.low p.dport low) (le-leb p.dport s.high high))
 
-record IsServedBy (s : Service) (p : Packet) : Type 0 where
-  protocol : s.proto ≡ p.proto
-  low : s.low ≤ p.dport
-  high : p.dport ≤ s.high
+pub record IsServedBy (s : Service) (p : Packet) : Type 0 where
+  pub protocol : s.proto ≡ p.proto
+  pub low : s.low ≤ p.dport
+  pub high : p.dport ≤ s.high
 
-served_by : (s : Service) (p : Packet) → serves s p ≡ true → IsServedBy s p
+pub served_by : (s : Service) (p : Packet) → serves s p ≡ true → IsServedBy s p
 served_by s p is =
     let parts = and_parts (s.proto == p.proto) (nat_le s.low p.dport && nat_le p.dport s.high) is in
     let ports = and_parts (nat_le s.low p.dport) (nat_le p.dport s.high) parts.1 in
@@ -91,7 +91,7 @@ served_by s p is =
     }
 
 -- One service of a list is enough.
-served : (ss : List Service) (s : Service) (p : Packet) → Contains ss s → serves s p ≡ true → is_served ss p ≡ true
+pub served : (ss : List Service) (s : Service) (p : Packet) → Contains ss s → serves s p ≡ true → is_served ss p ≡ true
 served [] s p there is = refl
 served (t ∷ ts) s p there is = passes_some (λ u. serves u p) (t ∷ ts) s there is
 
@@ -191,7 +191,7 @@ where_meet (s ∷ ss) (t ∷ ts) p one other =
 
 -- 4. The packets of one flow.
 
-abbrev belongs : List RestrictedFlow → List Flow → Packet → Option Flow → Bool
+abbrev pub belongs : List RestrictedFlow → List Flow → Packet → Option Flow → Bool
 belongs services flows p o = option_map_or (λ g. has flows g && is_served (services_of services g.from g.to) p) o false
 
 pub is_of_one : (site : Site) (f : Flow) (p : Packet) → owner_of site.hosts p.src ≡ Some f.from → owner_of site.hosts p.dst ≡ Some f.to → f.from ≢ f.to

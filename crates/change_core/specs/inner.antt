@@ -1,4 +1,6 @@
+pub mod Candidates
 pub mod Changing
+pub mod Covering
 pub mod Gaining
 pub mod Listing
 pub mod Naming

@@ -4,13 +4,16 @@ ghost use Rattle.std.specs.Prelude.{◌≡◌, ◌↔◌, ◌++◌, [], IfOk, On
 ghost use Rattle.change_core.specs.Changes.{AreChanges, AreChangesBy, IsComplete, TreatAlike};
 ghost use Rattle.change_core.specs.inner.Changing.{IsAdded, change_of};
 ghost use Rattle.change_core.specs.inner.Naming.{AreNamed};
+ghost use Rattle.change_core.specs.inner.Sharing.{AreShared};
 
+use crate::candidates::Candidates;
 use crate::change::Change;
 use crate::gained::Gained;
 use crate::kind::ChangeKind;
 use crate::named::all_named;
+use crate::sharing::shared_owners;
 use header_space::Owned;
-use pass_core::{PairServices, services_by_pairs};
+use pass_core::PairServices;
 use pkt_core::FlowPolicy;
 use std::alloc::{AllocError, Global};
 
@@ -29,11 +32,44 @@ pub fn changes_between(
     ensures exact { IfOk result (λ list. (list.items ≡ []) ↔ TreatAlike old.now new.now) }
 {
     let named = all_named(alloc, new.hosts(), old.hosts())?;
+    let rows = shared_owners(alloc, new.hosts(), old.hosts())?;
     let mut list = Vec::new(alloc);
-    push_kind(alloc, &mut list, ChangeKind::FlowComes, old, new, &named)?;
-    push_kind(alloc, &mut list, ChangeKind::FlowGoes, old, new, &named)?;
-    push_kind(alloc, &mut list, ChangeKind::AnswersCome, old, new, &named)?;
-    push_kind(alloc, &mut list, ChangeKind::AnswersGo, old, new, &named)?;
+    push_kind(
+        alloc,
+        &mut list,
+        ChangeKind::FlowComes,
+        old,
+        new,
+        &named,
+        &rows,
+    )?;
+    push_kind(
+        alloc,
+        &mut list,
+        ChangeKind::FlowGoes,
+        old,
+        new,
+        &named,
+        &rows,
+    )?;
+    push_kind(
+        alloc,
+        &mut list,
+        ChangeKind::AnswersCome,
+        old,
+        new,
+        &named,
+        &rows,
+    )?;
+    push_kind(
+        alloc,
+        &mut list,
+        ChangeKind::AnswersGo,
+        old,
+        new,
+        &named,
+        &rows,
+    )?;
     Ok(list)
 }
 
@@ -45,12 +81,18 @@ fn push_kind(
     old: &FlowPolicy<'_>,
     new: &FlowPolicy<'_>,
     named: &[Owned],
+    rows: &[Vec<Option<u16>>],
 ) -> Result<(), AllocError>
-    requires { AreNamed new.now.site.hosts old.now.site.hosts named.now }
+    requires named { AreNamed new.now.site.hosts old.now.site.hosts named.now }
+    requires rows { AreShared new.now.site.hosts old.now.site.hosts rows.now }
     ensures { OnOk result (IsAdded (AreChangesBy old.now new.now kind) list.old.items list.new.items) }
 {
-    let gained = Gained::by(kind, old, new);
-    let pairs = services_by_pairs(alloc, &gained, named)?;
+    let candidates = Candidates {
+        gained: Gained::by(kind, old, new),
+        rows,
+        count: new.count(),
+    };
+    let pairs = candidates.gained_by_pairs(alloc, named)?;
     push_all(list, pairs, kind, new.count())
 }
 

@@ -3,13 +3,16 @@
 //! and which of its gaps an old network does not have. The order and the names of hosts are irrelevant.
 #![tactic(auto)]
 
+mod candidates;
 mod change;
 mod changes;
+mod covering;
 mod gained;
 mod gaps;
 mod kind;
 mod named;
 mod named_owner;
+mod owner_pair;
 mod policy_flows;
 mod services;
 mod sharing;

@@ -2,6 +2,7 @@
 
 ghost use Rattle.std.specs.Prelude.{◌≡◌, ◌⊎◌, ◌↔◌, ℕ, ◌<◌, ◌^◌, ◌++◌, ◌∷◌, [], Some, IsTrue, IsFalse, IfOk, OnOk, Option, length, filter, if◌then◌else◌};
 ghost use Rattle.std.specs.Option.{ForSome};
+ghost use Rattle.flow_set.specs.FlowSet.{has};
 ghost use Rattle.header_space.specs.Owners.{owners_of};
 ghost use Rattle.change_core.specs.inner.Sharing.{AreMarked, AreShared, flow_in, is_marked, row_at};
 
@@ -140,10 +141,17 @@ pub(crate) fn flow_in(set: &FlowSet, from: Option<u16>, to: Option<u16>) -> Opti
 fn listed(set: &FlowSet, flow: Flow) -> Option<Flow>
     ensures { result ≡ flow_in set.now.flows (Some flow.from) (Some flow.to) }
 {
-    let size = set.size();
-    if flow.from < size && flow.to < size && flow.from != flow.to && set.has(flow) {
+    if has_flow(set, flow) {
         Some(flow)
     } else {
         None
     }
+}
+
+/// Whether the set has the flow. The flow need not be a flow between the hosts of the set.
+pub(crate) fn has_flow(set: &FlowSet, flow: Flow) -> bool
+    ensures { result ≡ has set.now.flows flow }
+{
+    let size = set.size();
+    flow.from < size && flow.to < size && flow.from != flow.to && set.has(flow)
 }
