@@ -28,7 +28,8 @@ use Rattle.change_core.specs.Names.{IsOfNames, name_from, named_owner}
 use Rattle.change_core.specs.declared.gained.Gained.{Gained}
 use Rattle.change_core.specs.declared.named_owner.NamedOwner.{NamedOwner}
 use Rattle.change_core.specs.declared.owner_pair.OwnerPair.{OwnerPair}
-use Rattle.change_core.specs.inner.Candidates.{flow_covers, flow_gains, may_change, may_change_from, may_gain, new_hosts, old_hosts, pair_covers, pair_gains, pair_of, some_owners}
+use Rattle.change_core.specs.declared.owners.Owners.{Owners}
+use Rattle.change_core.specs.inner.Candidates.{AreOwners, flow_covers, flow_gains, may_change, may_change_from, may_gain, new_hosts, old_hosts, pair_covers, pair_gains, pair_of, some_owners}
 use Rattle.change_core.specs.inner.Covering.{covers, one_covers, services_cover}
 use Rattle.change_core.specs.inner.Gaining.{IsGained, PolicyFlows}
 use Rattle.change_core.specs.inner.Naming.{IsNamed, name_in, name_of}
@@ -132,12 +133,10 @@ change_where q rows shared from to p of gained =
     (λ newer older. may_gain q (pair_of (owner_of (new_hosts q) p.src) newer) (pair_of (owner_of (old_hosts q) p.src) older)) p.dst of.packet.1
     (gain_where q p gained))))
 
-pub shared_alike : (new old new_hosts old_hosts : List Host) (rows given : List (Vec (Option ℕ) Global)) → new_hosts ≡ new → old_hosts ≡ old → given ≡ rows
-    → AreShared new_hosts old_hosts rows → AreShared new old given
-shared_alike new old new_hosts old_hosts rows given newer older same shared =
-    subst (λ (hosts : List Host). AreShared hosts old given) newer
-    (subst (λ (hosts : List Host). AreShared new_hosts hosts given) older
-    (subst (AreShared new_hosts old_hosts) (sym same) shared))
+pub owners_alike : (new old new_hosts old_hosts : List Host) (owners : Owners) → new_hosts ≡ new → old_hosts ≡ old
+    → AreOwners new_hosts old_hosts owners → AreOwners new old owners
+owners_alike new old new_hosts old_hosts owners newer older are =
+    subst (λ (hosts : List Host). AreOwners hosts old owners) newer (subst (λ (hosts : List Host). AreOwners new_hosts hosts owners) older are)
 
 -- 4. The list of a pair of owners.
 

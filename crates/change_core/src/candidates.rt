@@ -5,15 +5,15 @@ ghost use Rattle.std.specs.List.{All};
 ghost use Rattle.header_space.specs.Owners.{GoesBetween};
 ghost use Rattle.pass_core.specs.Pairs.{AreListed, AreListedFrom, IsListedFor};
 ghost use Rattle.pass_core.specs.inner.Listing.{IsAdded};
-ghost use Rattle.change_core.specs.inner.Candidates.{may_change, may_change_from, may_gain, new_hosts, old_hosts, pair_of, some_owners};
+ghost use Rattle.change_core.specs.inner.Candidates.{AreOwners, may_change, may_change_from, may_gain, new_hosts, old_hosts, pair_of, some_owners};
 ghost use Rattle.change_core.specs.inner.Gaining.{IsGained};
-ghost use Rattle.change_core.specs.inner.Naming.{AreNamed, IsNamed, name_of};
+ghost use Rattle.change_core.specs.inner.Naming.{IsNamed, name_of};
 ghost use Rattle.change_core.specs.declared.named_owner.NamedOwner.TheVariants.{New};
-ghost use Rattle.change_core.specs.inner.Sharing.{AreShared};
 
 use crate::gained::Gained;
 use crate::named_owner::NamedOwner;
 use crate::owner_pair::OwnerPair;
+use crate::owners::Owners;
 use crate::sharing::row_of;
 use header_space::Owned;
 use pass_core::{PairServices, PassingRange, services_between};
@@ -23,24 +23,20 @@ use std::alloc::{AllocError, Global};
 #[derive(Drop)]
 pub(crate) struct Candidates<'a> {
     pub(crate) gained: Gained<'a>,
-    /// For each host of the new description, the owners of its addresses under the old description.
-    pub(crate) rows: &'a [Vec<Option<u16>>],
+    /// The owners under both descriptions.
+    pub(crate) owners: &'a Owners,
     /// The number of hosts of the new description.
     pub(crate) count: u16,
 }
 
 impl<'a> Candidates<'a> {
     /// Returns the services that are gained for each pair of owners, if some packet of the pair is gained.
-    pub(crate) fn gained_by_pairs(
-        &self,
-        alloc: Global,
-        named: &[Owned],
-    ) -> Result<Vec<PairServices>, AllocError>
-        requires rows { AreShared (new_hosts self.now.gained) (old_hosts self.now.gained) self.now.rows.now }
+    pub(crate) fn gained_by_pairs(&self, alloc: Global) -> Result<Vec<PairServices>, AllocError>
+        requires owners { AreOwners (new_hosts self.now.gained) (old_hosts self.now.gained) self.now.owners.now }
         requires count { self.now.count ≡ length (new_hosts self.now.gained) }
-        requires named { AreNamed (new_hosts self.now.gained) (old_hosts self.now.gained) named.now }
-        ensures { IfOk result (λ list. AreListed (IsGained self.now.gained.lost self.now.gained.held) named.now list.items) }
+        ensures { IfOk result (λ list. AreListed (IsGained self.now.gained.lost self.now.gained.held) self.now.owners.now.named.items list.items) }
     {
+        let named: &[Owned] = &self.owners.named;
         let mut list = Vec::new(alloc);
         for from in named {
             self.push_from(alloc, &mut list, from, named)?;
@@ -56,7 +52,7 @@ impl<'a> Candidates<'a> {
         from: &Owned,
         named: &[Owned],
     ) -> Result<(), AllocError>
-        requires rows { AreShared (new_hosts self.now.gained) (old_hosts self.now.gained) self.now.rows.now }
+        requires owners { AreOwners (new_hosts self.now.gained) (old_hosts self.now.gained) self.now.owners.now }
         requires count { self.now.count ≡ length (new_hosts self.now.gained) }
         requires from { IsNamed (new_hosts self.now.gained) (old_hosts self.now.gained) from.now }
         requires named { All (IsNamed (new_hosts self.now.gained) (old_hosts self.now.gained)) named.now }
@@ -77,7 +73,7 @@ impl<'a> Candidates<'a> {
         from: &Owned,
         to: &Owned,
     ) -> Result<(), AllocError>
-        requires rows { AreShared (new_hosts self.now.gained) (old_hosts self.now.gained) self.now.rows.now }
+        requires owners { AreOwners (new_hosts self.now.gained) (old_hosts self.now.gained) self.now.owners.now }
         requires count { self.now.count ≡ length (new_hosts self.now.gained) }
         requires from { IsNamed (new_hosts self.now.gained) (old_hosts self.now.gained) from.now }
         requires to { IsNamed (new_hosts self.now.gained) (old_hosts self.now.gained) to.now }
@@ -93,7 +89,7 @@ impl<'a> Candidates<'a> {
 
     /// Whether some packet between the owners may be gained.
     fn may_change(&self, from: &Owned, to: &Owned) -> bool
-        ensures { result ≡ may_change self.now.gained self.now.rows.now
+        ensures { result ≡ may_change self.now.gained self.now.owners.now.rows.items
             (name_of self.now.count from.now.owner) (name_of self.now.count to.now.owner) }
     {
         let to = NamedOwner::of_number(to.owner, self.count);
@@ -106,16 +102,16 @@ impl<'a> Candidates<'a> {
 
     /// Whether some packet from a host of the new description to the owner may be gained.
     fn may_change_from_new(&self, host: u16, to: NamedOwner) -> bool
-        ensures { result ≡ some_owners self.now.rows.now (may_change_from self.now.gained self.now.rows.now to) (New host) }
+        ensures { result ≡ some_owners self.now.owners.now.rows.items (may_change_from self.now.gained self.now.owners.now.rows.items to) (New host) }
     {
-        row_of(self.rows, host)
+        row_of(&self.owners.rows, host)
             .iter()
             .any(|older| self.may_change_from(to, Some(host), *older))
     }
 
     /// Whether some packet from an address with these owners under the two descriptions may be gained.
     fn may_change_from(&self, to: NamedOwner, newer: Option<u16>, older: Option<u16>) -> bool
-        ensures { result ≡ may_change_from self.now.gained self.now.rows.now to newer older }
+        ensures { result ≡ may_change_from self.now.gained self.now.owners.now.rows.items to newer older }
     {
         match to {
             NamedOwner::New(host) => self.may_change_to_new(host, newer, older),
@@ -126,9 +122,9 @@ impl<'a> Candidates<'a> {
 
     /// Whether some packet from an address with these owners to a host of the new description may be gained.
     fn may_change_to_new(&self, host: u16, newer: Option<u16>, older: Option<u16>) -> bool
-        ensures { result ≡ may_change_from self.now.gained self.now.rows.now (New host) newer older }
+        ensures { result ≡ may_change_from self.now.gained self.now.owners.now.rows.items (New host) newer older }
     {
-        row_of(self.rows, host)
+        row_of(&self.owners.rows, host)
             .iter()
             .any(|old_to| self.may_gain(newer, Some(host), older, *old_to))
     }

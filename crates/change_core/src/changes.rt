@@ -2,17 +2,14 @@
 
 ghost use Rattle.std.specs.Prelude.{◌≡◌, ◌↔◌, ◌++◌, [], IfOk, OnOk, map};
 ghost use Rattle.change_core.specs.Changes.{AreChanges, AreChangesBy, IsComplete, TreatAlike};
+ghost use Rattle.change_core.specs.inner.Candidates.{AreOwners};
 ghost use Rattle.change_core.specs.inner.Changing.{IsAdded, change_of};
-ghost use Rattle.change_core.specs.inner.Naming.{AreNamed};
-ghost use Rattle.change_core.specs.inner.Sharing.{AreShared};
 
 use crate::candidates::Candidates;
 use crate::change::Change;
 use crate::gained::Gained;
 use crate::kind::ChangeKind;
-use crate::named::all_named;
-use crate::sharing::shared_owners;
-use header_space::Owned;
+use crate::owners::Owners;
 use pass_core::PairServices;
 use pkt_core::FlowPolicy;
 use std::alloc::{AllocError, Global};
@@ -31,45 +28,12 @@ pub fn changes_between(
     // There is no change if and only if the policies are equivalent.
     ensures exact { IfOk result (λ list. (list.items ≡ []) ↔ TreatAlike old.now new.now) }
 {
-    let named = all_named(alloc, new.hosts(), old.hosts())?;
-    let rows = shared_owners(alloc, new.hosts(), old.hosts())?;
+    let owners = Owners::of(alloc, new.hosts(), old.hosts())?;
     let mut list = Vec::new(alloc);
-    push_kind(
-        alloc,
-        &mut list,
-        ChangeKind::FlowComes,
-        old,
-        new,
-        &named,
-        &rows,
-    )?;
-    push_kind(
-        alloc,
-        &mut list,
-        ChangeKind::FlowGoes,
-        old,
-        new,
-        &named,
-        &rows,
-    )?;
-    push_kind(
-        alloc,
-        &mut list,
-        ChangeKind::AnswersCome,
-        old,
-        new,
-        &named,
-        &rows,
-    )?;
-    push_kind(
-        alloc,
-        &mut list,
-        ChangeKind::AnswersGo,
-        old,
-        new,
-        &named,
-        &rows,
-    )?;
+    push_kind(alloc, &mut list, ChangeKind::FlowComes, old, new, &owners)?;
+    push_kind(alloc, &mut list, ChangeKind::FlowGoes, old, new, &owners)?;
+    push_kind(alloc, &mut list, ChangeKind::AnswersCome, old, new, &owners)?;
+    push_kind(alloc, &mut list, ChangeKind::AnswersGo, old, new, &owners)?;
     Ok(list)
 }
 
@@ -80,19 +44,17 @@ fn push_kind(
     kind: ChangeKind,
     old: &FlowPolicy<'_>,
     new: &FlowPolicy<'_>,
-    named: &[Owned],
-    rows: &[Vec<Option<u16>>],
+    owners: &Owners,
 ) -> Result<(), AllocError>
-    requires named { AreNamed new.now.site.hosts old.now.site.hosts named.now }
-    requires rows { AreShared new.now.site.hosts old.now.site.hosts rows.now }
+    requires { AreOwners new.now.site.hosts old.now.site.hosts owners.now }
     ensures { OnOk result (IsAdded (AreChangesBy old.now new.now kind) list.old.items list.new.items) }
 {
     let candidates = Candidates {
         gained: Gained::by(kind, old, new),
-        rows,
+        owners,
         count: new.count(),
     };
-    let pairs = candidates.gained_by_pairs(alloc, named)?;
+    let pairs = candidates.gained_by_pairs(alloc)?;
     push_all(list, pairs, kind, new.count())
 }
 

@@ -13,6 +13,7 @@ mod kind;
 mod named;
 mod named_owner;
 mod owner_pair;
+mod owners;
 mod policy_flows;
 mod services;
 mod sharing;

@@ -14,9 +14,11 @@ use Rattle.change_core.specs.declared.gained.Gained.{Gained}
 use Rattle.change_core.specs.declared.named_owner.NamedOwner.{NamedOwner}
 use Rattle.change_core.specs.declared.named_owner.NamedOwner.TheVariants.{New, Old, Nobody}
 use Rattle.change_core.specs.declared.owner_pair.OwnerPair.{OwnerPair}
+use Rattle.change_core.specs.declared.owners.Owners.{Owners}
 use Rattle.change_core.specs.inner.Covering.{services_cover}
 use Rattle.change_core.specs.inner.Gaining.{PolicyFlows}
-use Rattle.change_core.specs.inner.Sharing.{row_at}
+use Rattle.change_core.specs.inner.Naming.{AreNamed}
+use Rattle.change_core.specs.inner.Sharing.{AreShared, row_at}
 
 -- The flow, if there is one, is listed, and its services cover the others.
 abbrev pub flow_covers : List RestrictedFlow → List Flow → List Service → Option Flow → Bool
@@ -46,6 +48,11 @@ new_hosts q = if q.comes then q.held.site.hosts else q.lost.site.hosts
 
 abbrev pub old_hosts : Gained → List Host
 old_hosts q = if q.comes then q.lost.site.hosts else q.held.site.hosts
+
+-- The owners under a new and an old description: all owners with their ranges, and the owners that hosts share addresses with.
+pub record AreOwners (new old : List Host) (owners : Owners) : Type 0 where
+  pub named : AreNamed new old owners.named.items
+  pub shared : AreShared new old owners.rows.items
 
 -- The test holds for a host of the new description and a host of the old description, or none, that own an address of this owner.
 abbrev pub some_owners : List (Vec (Option ℕ) Global) → ((newer older : Option ℕ) → Bool) → NamedOwner → Bool

@@ -19,7 +19,7 @@ returns-then-is_empty c =
           none_to from.ranges.items to.ranges.items
           (none_counted to.ranges.items to.ranges.len w.is_empty-else-is_empty.result to.ranges.ok.0 w.is_empty-else-is_empty.ensures w.if-is_empty-2.true) p goes
       | then-is_empty-via-else-is_empty+else-is_empty-2+then-not-may_change w ↦
-          none_gained q c.args.self.now.rows.now from to c.args.self.now.count w.may_change.result c.requires.rows c.requires.count c.requires.from
+          none_gained q c.args.self.now.owners.now.rows.items from to c.args.self.now.count w.may_change.result c.requires.owners.shared c.requires.count c.requires.from
           c.requires.to w.may_change.ensures w.if-not-may_change.true
     ])
 
