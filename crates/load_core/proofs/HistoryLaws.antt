@@ -3,7 +3,7 @@ use Rattle.std.proofs.Common.{◌≡◌, ℕ, zero, suc, List, [], ◌∷◌, Op
 use Rattle.std.specs.Prelude.{Result, OnOk}
 use Rattle.load_core.specs.Orders.{orders_of}
 use Rattle.load_core.specs.Table.{Table, Text, state_of, table_after_all}
-use Rattle.load_core.specs.History.{History, confirmed_by, given, last_confirmed, last_load, loaded_by, table_of}
+use Rattle.load_core.specs.History.{History, confirmed_by, given_orders, last_confirmed, last_load, loaded_by, table_of}
 use Rattle.load_core.specs.Promises.{IsInForce, IsOneOfTwo, LeadsTo, RemovesNothingConfirmed}
 use Rattle.load_core.specs.declared.event.Event.{Event}
 use Rattle.load_core.specs.declared.event.Event.TheVariants as event
@@ -36,9 +36,9 @@ InForceAfter event text table load confirmed run =
 
 -- After any number of the orders of an event something sound is in force, and after all of them the event has led to its end.
 record Fares (event : Event) (text : Text) (table : Table) (load confirmed : Option Text) : Type 0 where
-  pub each : AtEach (InForceAfter event text table load confirmed) (given (orders_of event (state_of table)))
-  pub ends : OnOk (orders_of event (state_of table)) (LeadsTo event text load confirmed (table_after_all text (given (orders_of event (state_of table))) table))
-  pub removes : OnOk (orders_of event (state_of table)) (RemovesNothingConfirmed event confirmed (given (orders_of event (state_of table))))
+  pub each : AtEach (InForceAfter event text table load confirmed) (given_orders (orders_of event (state_of table)))
+  pub ends : OnOk (orders_of event (state_of table)) (LeadsTo event text load confirmed (table_after_all text (given_orders (orders_of event (state_of table))) table))
+  pub removes : OnOk (orders_of event (state_of table)) (RemovesNothingConfirmed event confirmed (given_orders (orders_of event (state_of table))))
 
 absent : (event : Event) (text : Text) (load : Option Text) (a b : Option Text)
     → Fares event text (record { forward = Absent; a = a; b = b }) load None
@@ -145,7 +145,7 @@ pub one_of_two : (history : History) → IsOneOfTwo history
 one_of_two [] = refl
 one_of_two (begun ∷ before) =
     at_prefix (InForceAfter begun.event begun.text (table_of before) (last_load before) (last_confirmed before))
-    (given (orders_of begun.event (state_of (table_of before))))
+    (given_orders (orders_of begun.event (state_of (table_of before))))
     (fares_from begun.event begun.text (table_of before) (last_load before) (last_confirmed before) (one_of_two before)).each begun.run
 
 fares_after : (event : Event) (text : Text) (history : History)
@@ -162,12 +162,12 @@ pub leads : (event : Event) (text : Text) (history : History) (state : State) (o
     → Ok orders ≡ orders_of event state
     → LeadsTo event text (last_load history) (last_confirmed history) (table_after_all text orders (table_of history))
 leads event text history state orders read exact =
-    subst (λ (r : Result (List Order) Refusal). OnOk r (LeadsTo event text (last_load history) (last_confirmed history) (table_after_all text (given r) (table_of history))))
+    subst (λ (r : Result (List Order) Refusal). OnOk r (LeadsTo event text (last_load history) (last_confirmed history) (table_after_all text (given_orders r) (table_of history))))
     (orders_are event (table_of history) state orders read exact) (fares_after event text history).ends
 
 pub removes : (event : Event) (history : History) (state : State) (orders : List Order) → state_of (table_of history) ≡ state
     → Ok orders ≡ orders_of event state
     → RemovesNothingConfirmed event (last_confirmed history) orders
 removes event history state orders read exact =
-    subst (λ (r : Result (List Order) Refusal). OnOk r (RemovesNothingConfirmed event (last_confirmed history) (given r)))
+    subst (λ (r : Result (List Order) Refusal). OnOk r (RemovesNothingConfirmed event (last_confirmed history) (given_orders r)))
     (orders_are event (table_of history) state orders read exact) (fares_after event [] history).removes

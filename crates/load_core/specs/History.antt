@@ -1,5 +1,6 @@
 -- What has happened to the table: events, each with the number of its orders that were run before its caller ended.
 use Rattle.std.specs.Prelude.{ℕ, Bool, true, false, ◌||◌, if◌then◌else◌, Option, None, Some, Result, Ok, Err, List, [], ◌∷◌, take}
+use Rattle.std.specs.List.{list_any}
 use Rattle.load_core.specs.Orders.{orders_of}
 use Rattle.load_core.specs.Table.{Text, Table, no_table, state_of, table_after_all}
 use Rattle.load_core.specs.declared.event.Event.{Event}
@@ -10,23 +11,23 @@ use Rattle.load_core.specs.declared.order.Refusal.{Refusal}
 
 -- An event that was begun. `text` is what it loads, if it is a load; `run` is the number of its orders that were run, so all of them if it
 -- has no more.
-pub record Begun : Type 0 where
+pub record BegunEvent : Type 0 where
   pub event : Event
   pub text : Text
   pub run : ℕ
 
 -- The events since there was no table, the last one first.
 abbrev pub History : Type 0
-History = List Begun
+History = List BegunEvent
 
--- The orders given; a refused event has none.
-abbrev pub given : Result (List Order) Refusal → List Order
-given (Ok orders) = orders
-given (Err why) = []
+-- The orders of a result; a refused event has none.
+abbrev pub given_orders : Result (List Order) Refusal → List Order
+given_orders (Ok orders) = orders
+given_orders (Err why) = []
 
 -- The orders of an event that were run on the table.
-abbrev pub run_on : Begun → Table → List Order
-run_on begun table = take begun.run (given (orders_of begun.event (state_of table)))
+abbrev pub run_on : BegunEvent → Table → List Order
+run_on begun table = take begun.run (given_orders (orders_of begun.event (state_of table)))
 
 -- The table after a history.
 abbrev pub table_of : History → Table
@@ -45,19 +46,15 @@ abbrev pub is_remove : Order → Bool
 is_remove Remove = true
 is_remove _ = false
 
-abbrev pub any : (Order → Bool) → List Order → Bool
-any is [] = false
-any is (order ∷ orders) = is order || any is orders
-
 -- A `keep` comes after a `switch`.
 abbrev pub keeps_after_switch : List Order → Bool
 keeps_after_switch [] = false
-keeps_after_switch (order ∷ orders) = (if is_switch order then any is_keep orders else false) || keeps_after_switch orders
+keeps_after_switch (order ∷ orders) = (if is_switch order then list_any is_keep orders else false) || keeps_after_switch orders
 
 -- The text of the last load after an event of which these orders were run: a load counts once `forward` was switched to its text.
 abbrev pub loaded_by : Event → Text → List Order → (before : Option Text) → Option Text
-loaded_by event.Load text run before = if any is_switch run then Some text else before
-loaded_by event.Now text run before = if any is_switch run then Some text else before
+loaded_by event.Load text run before = if list_any is_switch run then Some text else before
+loaded_by event.Now text run before = if list_any is_switch run then Some text else before
 loaded_by _ text run before = before
 
 -- The text of the last load of a history.
@@ -71,9 +68,9 @@ last_load (begun ∷ before) = loaded_by begun.event begun.text (run_on begun (t
 abbrev pub confirmed_by : Event → Text → List Order → (load before : Option Text) → Option Text
 confirmed_by event.Load text run load before = before
 confirmed_by event.Now text run load before = if keeps_after_switch run then Some text else before
-confirmed_by event.Confirm text run load before = if any is_keep run then load else before
+confirmed_by event.Confirm text run load before = if list_any is_keep run then load else before
 confirmed_by event.Back text run load before = before
-confirmed_by event.Remove text run load before = if any is_remove run then None else before
+confirmed_by event.Remove text run load before = if list_any is_remove run then None else before
 
 -- The text that was confirmed last in a history.
 abbrev pub last_confirmed : History → Option Text

@@ -42,17 +42,17 @@ with_chains A there state = record state { has_a = there }
 with_chains B there state = record state { has_b = there }
 
 -- The state after an order.
-abbrev pub seen_after : Order → State → State
-seen_after (Write g) state = with_chains g true state
-seen_after (Switch g) state = record state { forward = Pending g }
-seen_after (Keep g) state = record state { forward = Kept g }
-seen_after (Erase g) state = with_chains g false state
-seen_after Remove state = record { forward = Absent; has_a = false; has_b = false }
+abbrev pub state_after : Order → State → State
+state_after (Write g) state = with_chains g true state
+state_after (Switch g) state = record state { forward = Pending g }
+state_after (Keep g) state = record state { forward = Kept g }
+state_after (Erase g) state = with_chains g false state
+state_after Remove state = record { forward = Absent; has_a = false; has_b = false }
 
 -- The state after orders.
-abbrev pub seen_after_all : List Order → State → State
-seen_after_all [] state = state
-seen_after_all (order ∷ orders) state = seen_after_all orders (seen_after order state)
+abbrev pub state_after_all : List Order → State → State
+state_after_all [] state = state
+state_after_all (order ∷ orders) state = state_after_all orders (state_after order state)
 
 -- The way back. A pending text makes way for the text beside it, or for no table if there is none. What an interrupted event left beside a
 -- kept text, or without a base chain, goes.
@@ -85,7 +85,7 @@ confirmation state = confirmation_from state.forward state
 -- Parts of an event, each with its orders in the state that those before leave.
 abbrev pub in_turn : List (State → List Order) → State → List Order
 in_turn [] state = []
-in_turn (part ∷ parts) state = part state ++ in_turn parts (seen_after_all (part state) state)
+in_turn (part ∷ parts) state = part state ++ in_turn parts (state_after_all (part state) state)
 
 abbrev pub is_pending : Forward → Bool
 is_pending (Pending g) = true

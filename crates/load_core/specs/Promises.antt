@@ -1,8 +1,9 @@
 -- What holds of the table after every history, and where every event leads.
 use Rattle.std.specs.Prelude.{◌≡◌, ◌≢◌, ◌⊎◌, Bool, true, false, IsTrue, Option, None, Some, is_some, List, [], ◌∷◌, ⊤}
+use Rattle.std.specs.List.{list_any}
 use Rattle.load_core.specs.Orders.{is_sound, other}
 use Rattle.load_core.specs.Table.{Text, Table, chains, no_table, state_of, table_after}
-use Rattle.load_core.specs.History.{History, any, is_remove, last_confirmed, last_load, table_of}
+use Rattle.load_core.specs.History.{History, is_remove, last_confirmed, last_load, table_of}
 use Rattle.load_core.specs.declared.event.Event.{Event}
 use Rattle.load_core.specs.declared.event.Event.TheVariants as event
 use Rattle.load_core.specs.declared.order.Order.{Order}
@@ -76,7 +77,7 @@ IsPossible (Keep g) table = IsTrue (is_some (chains table g))
 IsPossible (Erase g) table = IsTrue (is_some (chains table g)) × (IsActive g table.forward → ⊥)
 IsPossible Remove table = IsTrue (is_some table.a) ⊎ IsTrue (is_some table.b)
 
--- Each order is possible in its turn, `forward` then continues in chains that are there, and does not go but by `remove`.
+-- Each order is possible in its turn. After it `forward` continues in chains that are there, and only `remove` takes `forward` away.
 abbrev pub ArePossible : Text → List Order → Table → Type 0
 ArePossible text [] table = ⊤
 ArePossible text (order ∷ orders) table =
@@ -85,10 +86,10 @@ ArePossible text (order ∷ orders) table =
     × (order ≢ Remove → IsTrue (is_there table.forward) → IsTrue (is_there (table_after text order table).forward))
     × ArePossible text orders (table_after text order table)
 
--- The table is removed only by a user, or where nothing is confirmed.
+-- Only a user removes the table while a text is confirmed.
 abbrev pub RemovesNothingConfirmed : Event → (confirmed : Option Text) → List Order → Type 0
 RemovesNothingConfirmed event.Remove confirmed orders = ⊤
-RemovesNothingConfirmed _ confirmed orders = IsTrue (any is_remove orders) → confirmed ≡ None
+RemovesNothingConfirmed _ confirmed orders = IsTrue (list_any is_remove orders) → confirmed ≡ None
 
 abbrev pub is_empty : List Order → Bool
 is_empty [] = true

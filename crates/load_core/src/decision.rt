@@ -3,7 +3,7 @@
 ghost use Rattle.std.specs.Prelude.{◌≡◌, ◌+◌, ◌≤◌, ◌<◌, ◌∷◌, [], ◌++◌, IfOk, length, List, Result, Ok, Err};
 ghost use Rattle.arrayvec.specs.ArrayVec.{array_vec_len};
 ghost use Rattle.load_core.specs.History.{History, last_confirmed, last_load, table_of};
-ghost use Rattle.load_core.specs.Orders.{confirmation, orders_of, seen_after, seen_after_all, start, way_back};
+ghost use Rattle.load_core.specs.Orders.{confirmation, orders_of, state_after, state_after_all, start, way_back};
 ghost use Rattle.load_core.specs.Promises.{ArePossible, IsOneOfTwo, IsSound, LeadsTo, RemovesLast, RemovesNothingConfirmed};
 ghost use Rattle.load_core.specs.Table.{Table, Text, state_of, table_after_all};
 ghost use Rattle.load_core.specs.inner.Views.{orders_view};
@@ -26,11 +26,12 @@ pub fn step(event: Event, state: State) -> Result<ArrayVec<Order, ORDERS_MAX>, R
         → IfOk result (λ orders. LeadsTo event text (last_load history) (last_confirmed history)
         (table_after_all text orders.items (table_of history))) }
 
-    // In every table each order is possible in its turn, and `forward` neither goes nor leads to chains that are not there.
+    // In every table each order is possible in its turn. After it `forward` continues in chains that are there, and only
+    // `remove` takes `forward` away.
     ensures possible { (table : Table) (text : Text) → IsSound table → state_of table ≡ state
         → IfOk result (λ orders. ArePossible text orders.items table) }
 
-    // No confirmed text is removed but by a user, and nothing but a load comes after a removal.
+    // Only a user removes the table while a text is confirmed. No order follows a `remove`, unless a text is loaded.
     ensures removes { (history : History) → state_of (table_of history) ≡ state
         → IfOk result (λ orders. RemovesNothingConfirmed event (last_confirmed history) orders.items) }
     ensures removes_last { IfOk result (λ orders. RemovesLast event orders.items) }
@@ -70,7 +71,7 @@ fn go_back(orders: &mut ArrayVec<Order, ORDERS_MAX>, state: State) -> State
     requires { array_vec_len orders.old ≤ 4 }
     ensures items { orders.new.items ≡ orders.old.items ++ way_back state }
     ensures count { array_vec_len orders.new ≤ array_vec_len orders.old + 2 }
-    ensures state { result ≡ seen_after_all (way_back state) state }
+    ensures state { result ≡ state_after_all (way_back state) state }
 {
     match state.forward {
         Forward::Absent => {
@@ -102,7 +103,7 @@ fn start(orders: &mut ArrayVec<Order, ORDERS_MAX>, state: State) -> State
     requires { array_vec_len orders.old ≤ 4 }
     ensures items { orders.new.items ≡ orders.old.items ++ start state }
     ensures count { array_vec_len orders.new ≤ array_vec_len orders.old + 2 }
-    ensures state { result ≡ seen_after_all (start state) state }
+    ensures state { result ≡ state_after_all (start state) state }
 {
     let free = state.free_generation();
     let written = give(orders, state, Order::Write(free));
@@ -129,7 +130,7 @@ fn give(orders: &mut ArrayVec<Order, ORDERS_MAX>, state: State, order: Order) ->
     requires { array_vec_len orders.old < 6 }
     ensures items { orders.new.items ≡ orders.old.items ++ order ∷ [] }
     ensures count { array_vec_len orders.new ≡ array_vec_len orders.old + 1 }
-    ensures state { result ≡ seen_after order state }
+    ensures state { result ≡ state_after order state }
 {
     orders.push(order);
     state.after(order)

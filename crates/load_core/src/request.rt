@@ -15,7 +15,7 @@ pub fn usage() -> &'static [u8]
     b"usage: topos-step load|now|confirm|back|remove none|a-kept|a-pending|b-kept|b-pending none|a|b|ab\n"
 }
 
-/// Returns the event and the state of the words, or `None` if they are none that a table has.
+/// Returns the event and the state of the words, or `None` if the words are no request, or no table has the state.
 #[tactic(auto, unfolding(crate::specs::inner::Words::request_of))]
 pub fn parse_request(words: &[String]) -> Option<(Event, State)>
     ensures { option_map (λ request. record { event = request.0; state = request.1 }) result ≡ request_of (map string_bytes words.now) }

@@ -1,7 +1,7 @@
 //! The state of the table, as a caller reads it from the kernel.
 
 ghost use Rattle.std.specs.Prelude.{◌≡◌, ◌||◌};
-ghost use Rattle.load_core.specs.Orders.{free_generation, has, has_table, is_pending, is_sound, other, seen_after, with_chains};
+ghost use Rattle.load_core.specs.Orders.{free_generation, has, has_table, is_pending, is_sound, other, state_after, with_chains};
 
 use crate::order::Order;
 
@@ -95,7 +95,7 @@ impl State {
 
     /// Returns the state after an order.
     pub fn after(self, order: Order) -> State
-        ensures { result ≡ seen_after order self }
+        ensures { result ≡ state_after order self }
     {
         match order {
             Order::Write(generation) => self.with_chains(generation, true),

@@ -12,7 +12,7 @@ pub enum Status {
     WriteFault,
     /// Memory for the words is exhausted.
     Memory,
-    /// The words are no event and state.
+    /// The words are not an event and a state that a table may have.
     Usage,
     /// The event is refused in this state.
     Refused,
