@@ -28,20 +28,20 @@ find_pending() {
     if is_held "$(folder_of "$each")"; then held+=" $each"; else broken+=" $each"; fi
   done
   case ${held:-$broken} in
-    '') refuse 'no load is awaiting confirmation in this network namespace' ;;
-    ' '*' '*) refuse 'a load is awaiting confirmation in each back end: select one with --backend or --table' ;;
+    '') refuse not-pending 'no load is awaiting confirmation in this network namespace' ;;
+    ' '*' '*) refuse ambiguous 'a load is awaiting confirmation in each back end: select one with --backend or --table' ;;
     *) option[backend]=${held:-$broken} ;;
   esac
   option[backend]=${option[backend]# }
   run[state]=$(folder_of "${option[backend]}")
-  mkdir -p "${run[state]}" || refuse "cannot create ${run[state]}: nothing is changed" # a table is pending also without it
+  mkdir -p "${run[state]}" || refuse cannot-write "cannot create ${run[state]}: nothing is changed" # a table is pending also without it
 }
 
 # Refuses to confirm a load that has not asked.
 refuse_unasked() {
   if [ -e "${run[state]}/asked" ]; then return; fi
-  if is_held "${run[state]}"; then refuse 'the load in progress has not asked for confirmation yet: nothing is decided'; fi
-  refuse 'the load was interrupted before it asked for confirmation: topos-load --back ends it'
+  if is_held "${run[state]}"; then refuse not-asked 'the load in progress has not asked for confirmation yet: nothing is decided'; fi
+  refuse not-asked 'the load was interrupted before it asked for confirmation: topos-load --back ends it'
 }
 
 # Ends the load in its back end, on a firewall or on the machine of a host. This process has the lock.
@@ -50,9 +50,9 @@ end_in_place() {
   option[machine]=$(cat "${run[state]}/local" 2>/dev/null)
   select_form
   "find_tools_${form[kind]}"
-  open_changing || refuse "cannot write ${run[state]}: nothing is changed"
+  open_changing || refuse cannot-write "cannot write ${run[state]}: nothing is changed"
   "end_broken_${form[kind]}"
-  if ! [ -L "${run[state]}/result" ]; then refuse 'nothing is changed'; fi
+  if ! [ -L "${run[state]}/result" ]; then refuse failed 'nothing is changed'; fi
   exit "$(result_status)"
 }
 
@@ -81,9 +81,9 @@ refuse_old_login() {
   local held old
   held=$(connections_held)
   old=$(grep -Fxf "${run[state]}/connections" <<<"$held")
-  if [ -n "$old" ]; then refuse "this login has a connection that predates the rules (${old% *}): log in again"; fi
+  if [ -n "$old" ]; then refuse old-login "this login has a connection that predates the rules (${old% *}): log in again"; fi
   if [ -z "$held" ]; then
-    refuse 'this login has no IPv4 connection from another machine: log in from another machine to test the rules'
+    refuse old-login 'this login has no IPv4 connection from another machine: log in from another machine to test the rules'
   fi
 }
 

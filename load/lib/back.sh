@@ -28,7 +28,7 @@ start_guard() {
   local -a words=(--guard --wait "${option[seconds]}" ${option[keep]:+--keep-connections}
     ${option[machine]:+--local} ${option[program]:+--program "${option[program]}"} ${option[unproved]:+"${option[unproved]}"})
   if [ "${form[kind]}" = table ]; then words+=(--table); else words+=(--backend "${option[backend]}"); fi
-  TOPOS_LOAD=$$ setsid "$self" "${words[@]}" </dev/null >>"${run[state]}/log" 2>&1 &
+  TOPOS_LOAD=$$ setsid "$self" "${words[@]}" </dev/null >>"${run[state]}/log" 2>&1 4>&- &
   run[guard]=$!
   disown "${run[guard]}" # no message of bash where it is killed
   until [ -e "${run[state]}/armed" ]; do
@@ -36,7 +36,7 @@ start_guard() {
     if [ "$tries" -gt 100 ] || ! kill -0 "${run[guard]}" 2>/dev/null; then
       kill -9 "${run[guard]}" 2>/dev/null
       rm -f "${run[state]}/armed"
-      refuse 'cannot start the rollback process: nothing is changed'
+      refuse failed 'cannot start the rollback process: nothing is changed'
     fi
     sleep 0.1
   done
@@ -62,7 +62,7 @@ guard() {
     half=$((half - 1))
     sleep 0.2
   done
-  decide back
+  if [ -e "${run[state]}/asked" ]; then decide expired; else decide interrupted; fi
   end_as_decided
 }
 

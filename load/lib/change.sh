@@ -17,7 +17,7 @@ load_rules() {
   if [ -n "${option[log]}" ]; then
     if ! { with_logs "${run[state]}/rules" >"${run[state]}/logging" &&
       mv "${run[state]}/logging" "${run[state]}/rules"; }; then
-      refuse "cannot write ${run[state]}: nothing is changed"
+      refuse cannot-write "cannot write ${run[state]}: nothing is changed"
     fi
   fi
   if [ -n "${option[dry_run]}" ]; then tell_dry_run; return; fi
@@ -32,10 +32,10 @@ load_rules() {
 
 # Restores the state before the first load, or a saved one.
 remove_rules() {
-  if [ -n "${option[list]}" ]; then list_remembered; return; fi
+  if [ -n "${option[list]}" ]; then tell_remembered; return; fi
   take_lock
   save_filter "${run[state]}/before"
-  if ! is_loaded "${run[state]}/before"; then refuse "${form[changed]}: no rules of topos are loaded: nothing is changed"; fi
+  if ! is_loaded "${run[state]}/before"; then refuse not-loaded "${form[changed]}: no rules of topos are loaded: nothing is changed"; fi
   refuse_foreign "${run[state]}/before"
   write_remembered
   if ! grep -qE "^-A (${form[entries]}) " "${run[state]}/rules" && grep -q '^:FORWARD DROP' "${run[state]}/rules"; then
@@ -54,11 +54,12 @@ clean_chains() {
   if [ -z "$found" ]; then say 'no chain of topos is unused: nothing is changed'
   elif write_removal "$found" | "${run[restore]}" --noflush --wait 10; then
     say "$(wc -l <<<"$found") unused chains of topos are removed: $(paste -s -d ' ' <<<"$found")"
+    put_list removed "$found"
     record 'unused chains are removed'
-  else refuse "${run[restore]} does not remove the unused chains: nothing is changed"
+  else refuse failed "${run[restore]} does not remove the unused chains: nothing is changed"
   fi
   if [ -n "$others" ]; then
-    say 'these unused chains remain, since another tool created, changed or uses them:'
+    tell 'these unused chains remain, since another tool created, changed or uses them:'
     some_lines <<<"$others" >&2
   fi
   clear_state
@@ -68,17 +69,17 @@ clean_chains() {
 # the change, and this one only waits: bash 5.2 fails if it handles a signal while it parses a command substitution.
 carry_out() {
   run[was]=$(cat "${run[state]}/before") run[loaded]=$(cat "${run[state]}/rules") ||
-    refuse "cannot read ${run[state]}: nothing is changed"
+    refuse cannot-write "cannot read ${run[state]}: nothing is changed"
   { echo "$1" | cat >"${run[state]}/settle" && echo "${option[machine]}" | cat >"${run[state]}/local"; } ||
-    refuse "cannot write ${run[state]}: nothing is changed"
-  "takes_${form[kind]}" || refuse "${run[restore]} rejects the rules: nothing is changed"
+    refuse cannot-write "cannot write ${run[state]}: nothing is changed"
+  "takes_${form[kind]}" || refuse rejected "${run[restore]} rejects the rules: nothing is changed"
   remember_connections
   run[end_told]=''
   trap '' PIPE TSTP TTIN TTOU # a stopped process would hold the locks that the way back and the next load need
-  trap 'decide back' INT TERM
+  trap 'decide interrupted' INT TERM
   start_guard
   trap 'run[end_told]=yes; exit 129' HUP
-  trap leave EXIT
+  run[leaving]=yes
   make_change &
   await_change $!
   if is_decided; then :
@@ -111,7 +112,7 @@ make_change() {
 # Waits for the process that makes the change, which signals do not end. If it was killed, the load goes back.
 await_change() {
   while kill -0 "$1" 2>/dev/null; do wait "$1"; done
-  if ! [ -L "${run[state]}/made" ]; then decide back; fi
+  if ! [ -L "${run[state]}/made" ]; then decide failed; fi
 }
 
 # Changes the table, unless another tool has changed it since it was read, and compares it with what was written.
@@ -122,24 +123,16 @@ put_in_place_rules() {
   if is_decided; then return 1; fi # meanwhile
   if now=$(filter_now) && is_same_text "$now" "${run[loaded]}"; then return; fi
   say 'the loaded rules differ from the written ones'
-  decide back
+  decide failed
   return 1
-}
-
-# Rolls back and prints the end if the shell exits before.
-# shellcheck disable=SC2317 # the action of a trap
-leave() {
-  if [ -n "${run[end_told]}" ]; then return; fi
-  decide back
-  tell_end
 }
 
 # Asks for the confirmation. The time limit begins here.
 ask() {
   local loaded=loaded keep='the rules'
   if [ "${option[action]}" = remove ]; then loaded='the rules of topos are removed' keep='this state'; fi
-  if [ -n "${option[machine]}" ] && ! connections >"${run[state]}/connections"; then decide back; return; fi
-  if ! : >"${run[state]}/asked"; then say "cannot write ${run[state]}"; decide back; return; fi
+  if [ -n "${option[machine]}" ] && ! connections >"${run[state]}/connections"; then decide failed; return; fi
+  if ! : >"${run[state]}/asked"; then say "cannot write ${run[state]}"; decide failed; return; fi
   if [ -n "${option[machine]}" ]; then
     say "$loaded. To keep $keep, log in again within ${option[seconds]} seconds and run there: $self --confirm"
     say 'Any input here, or none in time, rolls back.'
@@ -153,7 +146,7 @@ ask() {
 wait_for_decision() {
   local word line='' status open=yes
   while ! is_decided; do
-    if ! kill -0 "${run[guard]}" 2>/dev/null; then decide back; return; fi # nobody else would go back
+    if ! kill -0 "${run[guard]}" 2>/dev/null; then decide failed; return; fi # nobody else would go back
     if [ -z "$open" ]; then sleep 0.5; continue; fi
     word='' status=0
     read -r -t 1 word 2>/dev/null || status=$?
@@ -171,12 +164,22 @@ wait_for_decision() {
 
 # Prints how the load ended, and exits with its status.
 tell_end() {
+  hear_end
+  exit "${run[status]}"
+}
+
+# Prints how the load ended, and writes its status into run[status].
+hear_end() {
   trap '' HUP INT TERM
   run[end_told]=yes
-  if ! is_told; then say 'cannot determine whether the rules were rolled back: see iptables-save'; exit 71; fi
-  if [ "$(result_status)" = 71 ]; then cat "${run[state]}/log" >&2 2>/dev/null; fi # of the rollback process
-  say "$(result_words)"
-  exit "$(result_status)"
+  if ! is_told; then
+    run[code]=unknown-end run[status]=71
+    say 'cannot determine whether the rules were rolled back: see iptables-save'
+    return
+  fi
+  run[status]=$(result_status)
+  if [ "${run[status]}" = 71 ]; then cat "${run[state]}/log" >&2 2>/dev/null; fi # of the rollback process
+  tell_result
 }
 
 # Waits until the load has ended: ten minutes, or one if its folder is gone. This process ends the load if its guard is

@@ -6,18 +6,18 @@
 # loaded and nobody has confirmed them.
 check_rules() {
   local found around='' pending=''
-  run[folder]=$(mktemp -d 2>/dev/null) || run[folder]=$(mktemp -d -p /run) || refuse 'cannot create a directory for the comparison'
-  trap 'rm -rf "${run[folder]}"' EXIT
+  run[folder]=$(mktemp -d 2>/dev/null) || run[folder]=$(mktemp -d -p /run) || refuse cannot-write 'cannot create a directory for the comparison'
   write_rules "${run[folder]}/rules"
   save_filter "${run[folder]}/saved"
   without_logs "${run[folder]}/saved" >"${run[folder]}/now"
-  if ! [ -s "${run[folder]}/now" ]; then refuse "cannot write ${run[folder]}: nothing is compared"; fi
+  if ! [ -s "${run[folder]}/now" ]; then refuse cannot-write "cannot write ${run[folder]}: nothing is compared"; fi
   if tell_pending; then pending=yes; fi
   found=$(out_of_force)
   if tell_surroundings; then around=yes; fi
   if is_same "${run[folder]}/now" "${run[folder]}/rules" && [ -z "$found" ]; then
     if [ -n "${option[verbose]}$around$pending" ]; then say "the ${form[wall]} has these rules"; fi
-    if [ -n "$pending" ]; then exit 2; fi
+    if [ -n "$pending" ]; then run[code]=waiting; exit 2; fi
+    run[code]=described
     return
   fi
   if [ -n "$found" ]; then say "$found"; fi
@@ -26,6 +26,7 @@ check_rules() {
     s/^+/only on the ${form[wall]}:   /
     s/^~/moved on the ${form[wall]}:  /"
   tell_verdict "$found"
+  run[code]=different
   exit 1
 }
 
@@ -93,6 +94,7 @@ tell_none() {
 # Prints the last line, which is a verdict.
 tell_verdict() {
   say "the ${form[wall]} has other rules"
+  run[verdict]=differs
   if [ -n "$1" ]; then say 'verdict: differs, since the rules have no effect'
   elif [ "${option[from]}:${option[machine]}" = description: ]; then compare_rules "${run[folder]}/now"
   else say "verdict: differs; equivalence is checked only for a firewall with a description"
@@ -102,6 +104,7 @@ tell_verdict() {
 # Prints whether other rules implement the description all the same, and the pairs of hosts for which they do not.
 compare_rules() {
   local folder=${run[folder]} status=0
+  run[verdict]=unknown
   if ! find_query; then
     say "verdict: cannot determine whether these rules implement ${option[file]}: cannot find topos-query"
     return
@@ -115,8 +118,11 @@ compare_rules() {
   "${run[query]}" compare "${form[dialect]}" "$folder/rules.description" "$folder/compared" >"$folder/found" 2>"$folder/refused" ||
     status=$?
   case $status in
-    0) say "verdict: these rules differ from those of topos, but implement ${option[file]}" ;;
+    0)
+      run[verdict]=implemented
+      say "verdict: these rules differ from those of topos, but implement ${option[file]}" ;;
     2)
+      run[verdict]=not-implemented
       differences_of "$folder/found" >"$folder/pairs"
       some_lines <"$folder/pairs"
       say "verdict: these rules do not implement ${option[file]}: $(number_of_pairs "$folder/pairs")" ;;

@@ -277,14 +277,16 @@ drop_after_removal() {
 tell_dry_run() {
   need conntrack
   begin_connections /dev/null
-  if ! is_program_there; then refuse "${run[reason]}: cannot determine which connections a load would delete"; fi
+  if ! is_program_there; then refuse unknown-connections "${run[reason]}: cannot determine which connections a load would delete"; fi
   if begin_judging && drop_revoked "$(cat "${run[state]}/rules")" unknown; then
+    put_value deleted "${run[count]}"
+    put_value remaining "$(($(wc -l <"${run[judging]}/all") - run[count]))"
     say "a load would delete ${run[count]} connections; $(($(wc -l <"${run[judging]}/all") - run[count])) remain"
     if [ -s "${run[judging]}/dropped" ]; then by_flows_briefly <"${run[judging]}/dropped" | sed 's/^ */would be deleted: /'; fi
     end_judging
   else
     end_judging
-    refuse "cannot determine which connections a load would delete"
+    refuse unknown-connections "cannot determine which connections a load would delete"
   fi
   clear_state
 }

@@ -236,7 +236,7 @@ out_of_force() {
 refuse_out_of_force() {
   local found
   found=$(out_of_force)
-  if [ -n "$found" ]; then refuse "$found: nothing is changed"; fi
+  if [ -n "$found" ]; then refuse no-effect "$found: nothing is changed"; fi
 }
 
 # Prints the routes to networks, except that to everybody, with addresses of no specific host: up to three ranges each.

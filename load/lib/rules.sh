@@ -94,11 +94,12 @@ read_filter() { filter_now | cat >"$1"; }
 # Writes the table `filter` into a file, and refuses if iptables cannot read it.
 save_filter() {
   local found
-  read_filter "$1" || refuse "${run[save]} cannot read the table filter, or not all nft rules in it: nothing is changed"
+  read_filter "$1" || refuse unreadable "${run[save]} cannot read the table filter, or not all nft rules in it: nothing is changed"
   found=$(misread_rules "${form[entries]}|${form[chains]}")
   if [ -z "$found" ]; then return; fi
   say "${run[save]} prints some nft rules as different rules: nothing is changed. These commands remove them:"
   printf '%s\n' "$found" >&2
+  run[code]=misread
   exit 69
 }
 
@@ -183,6 +184,9 @@ essence() {
     $1 == "-A" && $2 ~ ours { print 2, $2, $0 }
     $1 ~ chains { print 3, $1, "chain " substr($1, 2) }' "${1:--}" | sort -s -k1,2 | cut -d ' ' -f 3-
 }
+
+# Prints the digest of what a load replaces in a text.
+digest_of_rules() { essence | sha256sum | cut -d ' ' -f 1; }
 
 # Whether two texts agree in what a load replaces.
 is_same_text() { [ "$(printf '%s\n' "$1" | essence)" = "$(printf '%s\n' "$2" | essence)" ]; }

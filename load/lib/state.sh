@@ -11,14 +11,17 @@ declare -gA run=(
   [namespace]='' [save]='' [restore]='' [program]='' [query]=''  # an inode, and tools
   [state]='' [first]='' [last]='' [stayed]=''       # the folder of the saved states, and files in it
   [was]='' [loaded]='' [changing]=''                # change.sh: the text before and that of the load; this process makes it
-  [guard]='' [refused]='' [end_told]=''             # back.sh: its process, and rules that the kernel rejects; change.sh
+  [guard]='' [refused]='' [end_told]='' [leaving]='' # back.sh: its process, and rules that the kernel rejects; change.sh
   [wanted]='' [folder]=''                           # wanted.sh: the rules file; check.sh: a folder for the comparison
   [kept_as]='' [older_saved]=''                     # a saved state, and the connections that are older than a restored one
   [judging]='' [older]='' [count]=0 [reason]=''     # connections.sh: folder, older ones, number; why not, also tools.sh
   [table]='' [active]='' [chains]='' [step]=''      # table.sh: what the kernel lists, its state, and the program for orders
+  [code]='' [words]='' [status]='' [verdict]=''     # reply.sh: why this run ends so, its last message, and its status; check.sh
+  [cause]=''                                        # why a load goes back, if no decision says it
 )
 
-# Decides how the load ends, unless somebody has decided before.
+# Decides how the load ends, unless somebody has decided before: `kept`, `nothing` if nothing was changed, or why it goes back
+# (`back`, which a user asks for, `expired`, `interrupted`, `failed`).
 decide() { ln -s "$1" "${run[state]}/decision" 2>/dev/null; }
 
 # Whether it is decided how the load ends.
@@ -29,13 +32,13 @@ decision() { readlink "${run[state]}/decision"; }
 
 # Takes the lock of a load, and ends one that was interrupted.
 take_lock() {
-  mkdir -p "${run[state]}" || refuse "cannot create ${run[state]}: nothing is changed"
-  exec 9>"${run[state]}/lock" || refuse "cannot write ${run[state]}: nothing is changed"
+  mkdir -p "${run[state]}" || refuse cannot-write "cannot create ${run[state]}: nothing is changed"
+  exec 9>"${run[state]}/lock" || refuse cannot-write "cannot write ${run[state]}: nothing is changed"
   if ! flock -n 9; then
-    if [ -e "${run[state]}/asked" ]; then refuse 'another load is awaiting confirmation (--confirm, --back)'; fi
-    refuse 'another load is in progress: nothing is changed'
+    if [ -e "${run[state]}/asked" ]; then refuse waiting 'another load is awaiting confirmation (--confirm, --back)'; fi
+    refuse busy 'another load is in progress: nothing is changed'
   fi
-  open_changing || refuse "cannot write ${run[state]}: nothing is changed"
+  open_changing || refuse cannot-write "cannot write ${run[state]}: nothing is changed"
   "end_broken_${form[kind]}"
   if [ "${form[kind]}" = rules ] && [ -e "${run[state]}/armed" ]; then keep_old "${run[state]}/before"; fi # could not go back
   clear_state
@@ -71,14 +74,14 @@ end_broken_rules() {
   local now
   if ! is_pending "${run[state]}"; then return; fi
   if [ -n "${option[dry_run]}" ] || [ "${option[action]}" = clean ]; then # neither changes a verdict
-    refuse 'a load was interrupted before its confirmation: topos-load --back ends it'
+    refuse interrupted 'a load was interrupted before its confirmation: topos-load --back ends it'
   fi
   if [ "$(cat "${run[state]}/local" 2>/dev/null)" != "${option[machine]}" ]; then
-    refuse "a load ${option[machine]:+without --local }was interrupted: topos-load --back ends it"
+    refuse interrupted "a load ${option[machine]:+without --local }was interrupted: topos-load --back ends it"
   fi
   run[was]=$(cat "${run[state]}/before") run[loaded]=$(cat "${run[state]}/rules")
   await_changes
-  now=$(filter_now) || refuse "${run[save]} cannot read the table filter: nothing is changed"
+  now=$(filter_now) || refuse unreadable "${run[save]} cannot read the table filter: nothing is changed"
   if [ -z "${run[was]}" ]; then
     say 'a load was interrupted, and the rules from before it are not known: no rollback'
     rm -f "${run[state]}/armed"
@@ -89,8 +92,9 @@ end_broken_rules() {
     rm -f "${run[state]}/armed"
   else
     if [ "$(decision)" != kept ]; then say 'a load was interrupted before its confirmation: rolling back'; fi
+    run[cause]=interrupted
     end_as_decided
-    say "$(result_words)"
+    tell_result
     if [ "$(result_status)" = 71 ]; then exit 71; fi
   fi
 }
@@ -144,6 +148,14 @@ list_remembered() {
   done
 }
 
+# Prints the same, and adds their names to the object of --json.
+tell_remembered() {
+  local list
+  list=$(list_remembered)
+  put_list states "$(sed 's/.* //' <<<"$list")"
+  if [ -n "$list" ]; then printf '%s\n' "$list"; fi
+}
+
 # Prints where the saved states are listed, if there are any.
 says_old() {
   local each
@@ -160,14 +172,14 @@ write_remembered() {
   run[older_saved]=''
   if [ -z "$file" ]; then source=${run[first]}; fi
   if [ -n "$file" ] && { [[ $file != "${form[remembered]}"first* || $file == */* ]] || ! [ -e "$source" ]; }; then
-    refuse "$file: no saved state has this name (--remove --list)"
+    refuse no-state "$file: no saved state has this name (--remove --list)"
   fi
   if [ -n "$file" ] || is_known "${run[state]}/before"; then
     note "${form[changed]} will be restored from $source"
-    cat "$source" >"${run[state]}/rules" || refuse "cannot copy $source: nothing is changed"
+    cat "$source" >"${run[state]}/rules" || refuse cannot-write "cannot copy $source: nothing is changed"
     run[older_saved]=$(older_of "$source")
   else
-    write_empty >"${run[state]}/rules" || refuse "cannot write ${run[state]}: nothing is changed"
+    write_empty >"${run[state]}/rules" || refuse cannot-write "cannot write ${run[state]}: nothing is changed"
   fi
 }
 
@@ -177,25 +189,49 @@ write_empty() {
   local unknown="the state of ${form[changed]} before the first load is unknown"
   unknown+=$(says_old)
   if [ -z "${option[machine]}${option[open]}" ]; then
-    refuse "$unknown: nothing is changed; --remove --open removes all rules and accepts everything"
+    refuse unknown-state "$unknown: nothing is changed; --remove --open removes all rules and accepts everything"
   fi
   note "$unknown: all rules are removed, and everything is accepted"
   write_open
 }
 
-# Writes the status and the words with which a load ends, also into the journal, with the digests in the third argument.
+# Writes the status, the code and the words with which a load ends, also into the journal, with the digests in the third
+# argument.
 finish() {
+  local code
+  code=$(end_code "$1")
   record "$2" "${3:-}"
   rm -f "${run[state]}"/{rules.others,rules.policy,rules.description,loaded,settle,asked,made,connections,staying}
-  ln -sfn "$1 $2" "${run[state]}/result" 2>/dev/null || ln -sfn "$1 -" "${run[state]}/result"
+  ln -sfn "$1 $code $2" "${run[state]}/result" 2>/dev/null || ln -sfn "$1 $code -" "${run[state]}/result"
   if [ "$1" != 71 ]; then rm -f "${run[state]}"/{armed,before,older.before,rules,log}; fi
 }
 
+# Prints the code of the end of a load with this status: by what it was kept, or why it went back.
+end_code() {
+  case $1:$(decision) in
+    0:*) if [ -e "${run[state]}/asked" ]; then echo confirmed; else echo loaded; fi ;;
+    69:*) echo changed-meanwhile ;;
+    71:*) echo not-restored ;;
+    *:expired | *:interrupted | *:failed) decision ;;
+    *:back) echo rolled-back ;;
+    *) echo "${run[cause]:-failed}" ;;
+  esac
+}
+
 # Prints the words with which the load ended.
-result_words() { readlink "${run[state]}/result" | sed 's/^[0-9]* //'; }
+result_words() { readlink "${run[state]}/result" | sed 's/^[0-9]* [a-z-]* //'; }
+
+# Prints the code with which the load ended.
+result_code() { readlink "${run[state]}/result" | sed 's/^[0-9]* //; s/ .*//'; }
 
 # Prints the status with which the load ended.
 result_status() { readlink "${run[state]}/result" | sed 's/ .*//'; }
+
+# Says how the load ended.
+tell_result() {
+  run[code]=$(result_code)
+  say "$(result_words)"
+}
 
 # Writes a line into the journal: what happened, who asked for it, and the digests of the texts and of the description, which
 # are those of now unless the second argument has them.

@@ -46,10 +46,10 @@ find_step() {
   beside=$(readlink -f "$(command -v "${option[program]}")")
   for each in ${TOPOS_STEP:+"$TOPOS_STEP"} ${beside:+"${beside%/*}/topos-step"} "${self%/*/*}"/{out,lib/topos}/topos-step; do
     if ! [ -x "$each" ]; then continue; fi
-    may_run_table step "$each" step || refuse "${run[reason]}: nothing is changed"
+    may_run_table step "$each" step || refuse "$(code_of_reason)" "${run[reason]}: nothing is changed"
     return
   done
-  refuse 'cannot find topos-step: nothing is changed'
+  refuse no-program 'cannot find topos-step: nothing is changed'
 }
 
 # Whether a program, the second argument, may be run: nobody but root can change it, and it is proved. run[..] of the first
@@ -138,7 +138,7 @@ generation() {
 }
 
 # Prints the digest of a text, as sha256sum does of its file.
-digest_of_text() { sha256sum | cut -d ' ' -f 1; }
+digest_of_table() { sha256sum | cut -d ' ' -f 1; }
 
 # Prints an order as a transaction of nft.
 transaction() {
@@ -146,8 +146,8 @@ transaction() {
   case $1 in
     write) printf '%s\n' "${run[loaded]}" | generation "$2" ;;
     switch | keep)
-      digest=$(text_of "$2" | digest_of_text)
-      if [ "$1" = switch ] && [ "$digest" != "$(printf '%s\n' "${run[loaded]}" | digest_of_text)" ]; then
+      digest=$(text_of "$2" | digest_of_table)
+      if [ "$1" = switch ] && [ "$digest" != "$(printf '%s\n' "${run[loaded]}" | digest_of_table)" ]; then
         say 'the loaded rules differ from the written ones'
         return 1
       fi

@@ -16,10 +16,9 @@ note_around_table() {
 # has confirmed it.
 check_table() {
   local found around='' pending=''
-  run[folder]=$(mktemp -d 2>/dev/null) || run[folder]=$(mktemp -d -p /run) || refuse 'cannot create a directory for the comparison'
-  trap 'rm -rf "${run[folder]}"' EXIT
+  run[folder]=$(mktemp -d 2>/dev/null) || run[folder]=$(mktemp -d -p /run) || refuse cannot-write 'cannot create a directory for the comparison'
   write_rules "${run[folder]}/rules"
-  read_table || [ -n "${run[table]}" ] || refuse "nft cannot list ${form[changed]}: nothing is compared"
+  read_table || [ -n "${run[table]}" ] || refuse unreadable "nft cannot list ${form[changed]}: nothing is compared"
   if tell_pending_table; then pending=yes; fi
   if tell_others; then around=yes; fi
   found=$(foreign_line)
@@ -28,10 +27,12 @@ check_table() {
   fi
   if [ -n "${run[table]}" ] && [ -z "$found" ] && cmp -s "${run[folder]}/now" "${run[folder]}/rules"; then
     if [ -n "${option[verbose]}$around$pending" ]; then say 'the firewall has these rules'; fi
-    if [[ ${run[active]} == *-pending ]]; then exit 2; fi
+    if [[ ${run[active]} == *-pending ]]; then run[code]=waiting; exit 2; fi
+    run[code]=described
     return
   fi
   tell_table "$found"
+  run[code]=different
   exit 1
 }
 
@@ -57,6 +58,7 @@ tell_others() {
 # Prints what differs, and a verdict. The argument is the first line that no load writes, if there is one.
 tell_table() {
   local folder=${run[folder]} number
+  run[verdict]=differs
   if [ -z "${run[table]}" ] || [ "${run[active]}:$1" = none: ]; then
     say 'no rules of topos are in force: topos filters nothing (nft flush ruleset removes its table)'
     say 'verdict: differs'

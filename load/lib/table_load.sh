@@ -7,7 +7,7 @@ load_table() {
   take_lock
   write_rules "${run[state]}/rules"
   read_ours
-  text_of "${run[active]%%-*}" | cat >"${run[state]}/before" || refuse "cannot write ${run[state]}: nothing is changed"
+  text_of "${run[active]%%-*}" | cat >"${run[state]}/before" || refuse cannot-write "cannot write ${run[state]}: nothing is changed"
   note_around_table
   if [ -n "${option[unproved]}" ]; then record 'the programs of this load are not proved (--unproved)'; fi
   if [ -n "${option[dry_run]}" ]; then tell_dry_run
@@ -19,11 +19,11 @@ load_table() {
 # Reads the table, and refuses one that has something else than loads write.
 read_ours() {
   local found
-  if ! read_table && [ "${run[active]}" != unknown ]; then refuse "nft cannot list ${form[changed]}: nothing is changed"; fi
+  if ! read_table && [ "${run[active]}" != unknown ]; then refuse unreadable "nft cannot list ${form[changed]}: nothing is changed"; fi
   if [ -z "${run[table]}" ]; then return; fi
   found=$(foreign_line)
   if [ -n "$found" ]; then
-    refuse "${form[changed]} has a line that topos-load does not write (line ${found%%:*}: ${found#*:}): nothing is changed." \
+    refuse foreign "${form[changed]} has a line that topos-load does not write (line ${found%%:*}: ${found#*:}): nothing is changed." \
       'Remove it, or the table, which opens the firewall: nft delete table ip topos'
   fi
 }
@@ -50,22 +50,22 @@ takes_table() { printf '%s\n' "${run[loaded]}" | generation c | nft -c -f -; }
 load_now() {
   trap '' HUP INT TERM PIPE TSTP TTIN TTOU
   run[was]=$(cat "${run[state]}/before") run[loaded]=$(cat "${run[state]}/rules") ||
-    refuse "cannot read ${run[state]}: nothing is changed"
-  takes_table || refuse 'nft rejects the rules: nothing is changed'
+    refuse cannot-write "cannot read ${run[state]}: nothing is changed"
+  takes_table || refuse rejected 'nft rejects the rules: nothing is changed'
   if run_orders now; then
     record loaded
     drop_connections "${run[loaded]}"
     end_kept kept
   else go_back_table
   fi
-  say "$(result_words)"
+  tell_result
   exit "$(result_status)"
 }
 
 # Runs the orders of a load with a question. `switch` compares before what the kernel lists with the text.
 put_in_place_table() {
   if run_orders load; then return; fi
-  decide back
+  decide failed
   return 1
 }
 
@@ -142,16 +142,17 @@ end_broken_table() {
   local orders
   await_changes
   read_table || read_ours
-  orders=$("${run[step]}" back "${run[active]}" "${run[chains]}") || refuse 'topos-step cannot decide: nothing is changed'
+  orders=$("${run[step]}" back "${run[active]}" "${run[chains]}") || refuse failed 'topos-step cannot decide: nothing is changed'
   if [ -z "$orders" ]; then return; fi
-  if [ -n "${option[dry_run]}" ]; then refuse 'a load was interrupted before its confirmation: topos-load --back ends it'; fi
+  if [ -n "${option[dry_run]}" ]; then refuse interrupted 'a load was interrupted before its confirmation: topos-load --back ends it'; fi
   run[was]=$(cat "${run[state]}/before" 2>/dev/null) run[loaded]=$(cat "${run[state]}/rules" 2>/dev/null)
+  run[cause]=interrupted
   if [ "$(decision)" = kept ] && [[ ${run[active]} == *-pending ]]; then settle_table
   else
     say 'a load was interrupted before its confirmation: rolling back'
     go_back_table
   fi
-  say "$(result_words)"
+  tell_result
   if [ "$(result_status)" = 71 ]; then exit 71; fi
 }
 
@@ -159,15 +160,15 @@ end_broken_table() {
 remove_table() {
   local word=''
   take_lock
-  read_table || refuse "nft cannot list ${form[changed]}: nothing is changed"
-  if [ -z "${run[table]}" ]; then refuse "there is no table ip topos: nothing is changed"; fi
+  read_table || refuse unreadable "nft cannot list ${form[changed]}: nothing is changed"
+  if [ -z "${run[table]}" ]; then refuse not-loaded "there is no table ip topos: nothing is changed"; fi
   note "without ${form[changed]} this firewall forwards what other tables accept: everything, if there are none"
   if [ "${option[seconds]}" != 0 ]; then
     say "Type yes within ${option[seconds]} seconds to remove it."
     read -r -t "${option[seconds]}" word 2>/dev/null
-    if [ "$word" != yes ]; then refuse 'nothing is changed'; fi
+    if [ "$word" != yes ]; then refuse not-confirmed 'nothing is changed'; fi
   fi
-  run_orders remove || refuse "${form[changed]} cannot be removed: nothing is changed"
+  run_orders remove || refuse failed "${form[changed]} cannot be removed: nothing is changed"
   forget_text
   clear_state
   record 'the table is removed'

@@ -7,7 +7,7 @@ need() {
   local tool
   for tool; do
     if command -v "$tool" >/dev/null; then continue; fi
-    refuse "$tool is not installed (on Debian: apt install $(package "$tool"))"
+    refuse no-tool "$tool is not installed (on Debian: apt install $(package "$tool"))"
   done
 }
 
@@ -22,17 +22,17 @@ package() {
 }
 
 # Refuses for other users than root.
-need_root() { if [ "$(id -u)" != 0 ]; then refuse 'must be run as root'; fi; }
+need_root() { if [ "$(id -u)" != 0 ]; then refuse not-root 'must be run as root'; fi; }
 
 # Refuses if a process may open too few files.
 need_descriptors() {
   if [ "$(ulimit -n)" = unlimited ] || [ "$(ulimit -n)" -ge 32 ]; then return; fi
-  refuse "at least 32 open files are needed, and the limit is $(ulimit -n) (ulimit -n): nothing is changed"
+  refuse system "at least 32 open files are needed, and the limit is $(ulimit -n) (ulimit -n): nothing is changed"
 }
 
 # Finds the network namespace, by its inode.
 find_namespace() {
-  run[namespace]=$(stat -Lc %i /proc/self/ns/net) || refuse 'cannot determine the network namespace: is /proc mounted?'
+  run[namespace]=$(stat -Lc %i /proc/self/ns/net) || refuse system 'cannot determine the network namespace: is /proc mounted?'
 }
 
 # Prints the folder of the saved states for a back end.
@@ -98,10 +98,15 @@ digest_of() {
 find_program() {
   if is_program_there; then return; fi
   case ${run[reason]} in
-    'no proof'*) refuse "${run[reason]} (topos.proved): nothing is changed; ./topos prove creates it, --unproved skips this check" ;;
-    'cannot find'*) refuse "${run[reason]}: specify the program with --program, or a rules file with --text" ;;
-    *) refuse "${run[reason]}, who can change the loaded rules: nothing is changed; --unproved skips this check" ;;
+    'no proof'*) refuse unproved "${run[reason]} (topos.proved): nothing is changed; ./topos prove creates it, --unproved skips this check" ;;
+    'cannot find'*) refuse no-program "${run[reason]}: specify the program with --program, or a rules file with --text" ;;
+    *) refuse writable "${run[reason]}, who can change the loaded rules: nothing is changed; --unproved skips this check" ;;
   esac
+}
+
+# Prints the code of run[reason], why a program may not be run.
+code_of_reason() {
+  case ${run[reason]} in 'no proof'*) echo unproved ;; 'cannot find'*) echo no-program ;; *) echo writable ;; esac
 }
 
 # Finds `topos-query`: that of TOPOS_QUERY, else the one beside the program, else that of the path. Fails unless it may be

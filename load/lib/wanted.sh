@@ -6,29 +6,29 @@
 write_rules() {
   run[wanted]=$1
   write_text "$1"
-  if ! is_loaded "$1"; then refuse 'these rules name no host: nothing is changed'; fi
+  if ! is_loaded "$1"; then refuse no-host 'these rules name no host: nothing is changed'; fi
   if [ -n "${option[machine]}" ]; then look_at_addresses "$1"; fi
 }
 
 # Copies a rules file, or lets topos write the rules of a description.
 write_text() {
   if [ "${option[from]}" = text ]; then
-    cat -- "${option[file]}" >"$1" || refuse "cannot read ${option[file]}: nothing is changed"
-    if ! "is_written_${form[kind]}" "$1"; then refuse "${option[file]} is not a complete rules file written by topos: nothing is changed"; fi
-    : >"$1.policy" || refuse "cannot write $1.policy: nothing is changed"
+    cat -- "${option[file]}" >"$1" || refuse unreadable-file "cannot read ${option[file]}: nothing is changed"
+    if ! "is_written_${form[kind]}" "$1"; then refuse not-rules "${option[file]} is not a complete rules file written by topos: nothing is changed"; fi
+    : >"$1.policy" || refuse cannot-write "cannot write $1.policy: nothing is changed"
     return
   fi
   find_program
   copy_description "$1.description"
   if [ -z "${option[every_flow]}" ] && ! grep -qE "^[[:space:]]*[\"']?flow[\"']?[[:space:]]*=" "$1.description"; then
-    refuse "${option[file]} has no key flow, which requests every flow: add flow = [..], or use --every-flow"
+    refuse no-flow "${option[file]} has no key flow, which requests every flow: add flow = [..], or use --every-flow"
   fi
   if [ -n "${option[machine]}" ]; then run_program "$1" local "$1.description" "${option[host]}"
   elif [ -n "${option[repair]}" ]; then run_program "$1" repair "${form[dialect]}" "$1.description"
   else run_program "$1" rules "${form[dialect]}" "$1.description"
   fi
-  if ! "is_written_${form[kind]}" "$1"; then refuse "${option[program]} did not write valid rules: nothing is changed"; fi
-  "${run[program]}" policy "$1.description" >"$1.policy" || refuse 'cannot determine the policy: nothing is changed'
+  if ! "is_written_${form[kind]}" "$1"; then refuse not-rules "${option[program]} did not write valid rules: nothing is changed"; fi
+  "${run[program]}" policy "$1.description" >"$1.policy" || refuse topos-failed 'cannot determine the policy: nothing is changed'
 }
 
 # Runs the program with its output in a file, the first argument. If it fails, ends with its status.
@@ -36,6 +36,7 @@ run_program() {
   local status=0
   "${run[program]}" "${@:2}" >"$1" || status=$?
   if [ "$status" = 0 ]; then return; fi
+  run[code]=topos-failed
   say 'topos wrote no rules: nothing is changed'
   exit "$status"
 }
@@ -43,9 +44,9 @@ run_program() {
 # Copies the description once, so that the rules, the policy and the notes are of one text, even if the file changes.
 copy_description() {
   local file=${option[file]}
-  if [ -e "$file" ] && [ ! -f "$file" ]; then refuse "$file is not a regular file: nothing is changed"; fi
+  if [ -e "$file" ] && [ ! -f "$file" ]; then refuse unreadable-file "$file is not a regular file: nothing is changed"; fi
   if [ ! -r "$file" ]; then run_program /dev/stdout check "$file"; fi
-  head -c 1048577 -- "$file" >"$1" || refuse "cannot copy $file to $1: nothing is changed" # topos refuses more than 1048576
+  head -c 1048577 -- "$file" >"$1" || refuse unreadable-file "cannot copy $file to $1: nothing is changed" # topos refuses more than 1048576
   note_writers "$file" "$(command -v "${option[program]}")"
 }
 
@@ -140,7 +141,7 @@ look_at_addresses() {
   if [ "${option[from]}" = description ]; then
     others=$1.others
     "${run[program]}" repair iptables "$1.description" >"$others" ||
-      refuse 'cannot determine the addresses of the other hosts: nothing is changed'
+      refuse topos-failed 'cannot determine the addresses of the other hosts: nothing is changed'
   fi
   placed=$(place_addresses "$1" "$others")
   if ! grep -q '^own ' <<<"$placed"; then
@@ -148,7 +149,7 @@ look_at_addresses() {
     exit 72
   fi
   found=$(those_of 'other|rest' "$placed")
-  if [ -n "$found" ]; then refuse "these addresses of this machine belong to another host:$found: nothing is changed"; fi
+  if [ -n "$found" ]; then refuse foreign-address "these addresses of this machine belong to another host:$found: nothing is changed"; fi
   found=$(those_of nobody "$placed")
   if [ -z "$found" ]; then :
   elif [ "${option[from]}" = text ]; then
@@ -171,7 +172,8 @@ refuse_foreign() {
     say "${form[named]} have rules, or jumps to them, that topos does not write: nothing is changed." \
       'These commands remove the rules:'
     printf '%s\n' "$others" | sed "s/^-A /${run[save]%-save} -D /" >&2
-    if grep -q ' -j LOG' <<<"$others"; then say 'use --log to log dropped packets'; fi
+    if grep -q ' -j LOG' <<<"$others"; then tell 'use --log to log dropped packets'; fi
+    run[code]=foreign
     exit 69
   fi
   others=$(grep -E "^-A (${form[entries]}) " "$1" | grep -Ev -e "${form[entry]}" -e "${form[log]}")
@@ -181,7 +183,7 @@ refuse_foreign() {
       say 'these are the rules of a firewall: topos-load --remove removes them'
     fi
     say "these rules of ${form[changed]} are not rules ${form[whose]}, so the proof does not cover this ${form[wall]}:"
-    refuse "nothing is changed; ${form[replacing]} removes them"
+    refuse foreign "nothing is changed; ${form[replacing]} removes them"
   fi
 }
 

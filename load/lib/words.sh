@@ -6,7 +6,7 @@
 declare -gA option=(
   [action]=load [from]=description [file]='' [host]='' [machine]='' [words]=''
   [seconds]=60 [backend]='' [program]='' [unproved]='' [repair]='' [every_flow]='' [replace]='' [keep]='' [open]=''
-  [log]='' [dry_run]='' [verbose]='' [list]=''
+  [log]='' [dry_run]='' [verbose]='' [list]='' [json]=''
 )
 
 # Prints how topos-load is called.
@@ -36,6 +36,7 @@ options
   --every-flow         accept a description without the key `flow`, which requests every flow
   --log                log dropped packets, at most ten a minute for each rule: 'topos HOST: ' and the packet
   --version            print the version of topos
+  --json               print one object of JSON, and everything else as an error message
   --verbose            print every note in full, also if an earlier load printed it
   --wait SECONDS       time limit for the confirmation: 60 by default, 0 to load without a confirmation
   --table              load the rules as a table of nftables, ip topos, instead of into FORWARD of iptables; also with
@@ -64,20 +65,24 @@ print_version() {
   elif [ -r "$file" ]; then
     version=$(<"$file")
   fi
+  put_text version "$version"
   echo "topos-load of topos $version"
 }
 
-# Prints a message, without control characters: a file name may have codes for a terminal.
-say() { printf 'topos-load: %s\n' "${*//[[:cntrl:]]/?}" >&2; }
+# Prints a line, without control characters: a file name may have codes for a terminal.
+tell() { printf 'topos-load: %s\n' "${*//[[:cntrl:]]/?}" >&2; }
 
-# Prints why nothing is done, and ends.
-refuse() { say "$*"; exit 69; }
+# Prints a message, of which --json has the last one.
+say() { run[words]=$*; tell "$*"; }
+
+# Prints why nothing is done, and ends. The first argument is the code of the reason.
+refuse() { run[code]=$1; say "${*:2}"; exit 69; }
 
 # Prints a fault of the command line, and ends.
-wrong_words() { say "$1"; usage >&2; exit 64; }
+wrong_words() { run[code]=usage; say "$1"; usage >&2; exit 64; }
 
 # Prints a note, except for --check, which prints nothing if it finds nothing.
-note() { if [ "${option[action]}" != check ]; then say "note: $*"; fi; }
+note() { if [ "${option[action]}" != check ]; then tell "note: $*"; fi; }
 
 # Prints a note, the first argument, with the lines in the third one. If an earlier load printed the same lines, prints
 # their number and the second argument instead.
@@ -124,6 +129,7 @@ read_words() {
       --log) option[log]=yes ;;
       --dry-run) option[dry_run]=yes ;;
       --verbose) option[verbose]=yes ;;
+      --json) ;; # begin_reply has read it
       --unproved) option[unproved]=--unproved ;;
       --list) option[list]=yes ;;
       --open) option[open]=yes ;;
