@@ -24,7 +24,7 @@ find_pending() {
   local each held='' broken=''
   need flock
   for each in ${option[backend]:-nft legacy table}; do
-    if ! is_pending "$(folder_of "$each")" && ! { [ "$each" = table ] && is_table_pending; }; then continue; fi
+    if ! is_waiting "$each"; then continue; fi
     if is_held "$(folder_of "$each")"; then held+=" $each"; else broken+=" $each"; fi
   done
   case ${held:-$broken} in
@@ -36,6 +36,9 @@ find_pending() {
   run[state]=$(folder_of "${option[backend]}")
   mkdir -p "${run[state]}" || refuse cannot-write "cannot create ${run[state]}: nothing is changed" # a table is pending also without it
 }
+
+# Whether a load has not ended in the table or a back end.
+is_waiting() { is_pending "$(folder_of "$1")" || { [ "$1" = table ] && is_table_pending; }; }
 
 # Refuses to confirm a load that has not asked.
 refuse_unasked() {

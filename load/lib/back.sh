@@ -58,6 +58,7 @@ guard() {
   done
   half=$((option[seconds] * 5))
   end=$((option[seconds] * 100 + $(uptime_now)))
+  ln -sfn "$end" "${run[state]}/deadline" 2>/dev/null # for --status
   while ! is_decided && [ "$half" -gt 0 ] && ! is_past "$end"; do
     half=$((half - 1))
     sleep 0.2

@@ -98,6 +98,11 @@ table_of() {
   if command -v "iptables-$1-save" >/dev/null; then "iptables-$1-save" -t "$2" 2>/dev/null; fi
 }
 
+# Whether a back end has rules of topos: of a firewall, or of a host.
+has_our_rules() {
+  prints '^-A (FORWARD( -s [0-9./]+)? -j H[0-9]+|INPUT -d [0-9./]+ -j IN|OUTPUT -s [0-9./]+ -j OUT)$' table_of "$1" filter
+}
+
 # Prints the tables of the back end legacy that no tool can read.
 unread_tables() {
   if ! command -v iptables-legacy-save >/dev/null; then paste -s -d ' ' /proc/net/ip_tables_names 2>/dev/null; fi

@@ -84,6 +84,9 @@ read_table() {
   [ "$active" != unknown ]
 }
 
+# Whether there is a table of topos.
+is_table() { command -v nft >/dev/null && prints '^table ip topos$' nft list tables ip; }
+
 # Whether the table of the kernel waits for a confirmation, or a load has left half of one.
 is_table_pending() {
   local active chains

@@ -171,6 +171,8 @@ remove_table() {
   run_orders remove || refuse failed "${form[changed]} cannot be removed: nothing is changed"
   forget_text
   clear_state
+  ln -sfn "$(date +%s) 0 removed - the table is removed" "${run[state]}/ended" 2>/dev/null
+  run[code]=removed
   record 'the table is removed'
   say "${form[changed]} is removed"
 }

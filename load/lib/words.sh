@@ -31,6 +31,7 @@ usage: topos-load [OPTION].. DESCRIPTION      load the rules of a description
        topos-load [OPTION].. --local --clean  the same for INPUT, FORWARD and OUTPUT
        topos-load --confirm                   keep the loaded rules; with --local only over a new connection
        topos-load --back                      roll back now
+       topos-load [OPTION].. --status         print what is in force, what is waiting, and how the last load ended
 options
   --repair             load the flows that violate no invariant (topos repair), and list the omitted flows
   --every-flow         accept a description without the key `flow`, which requests every flow
@@ -121,7 +122,7 @@ read_words() {
       --local) option[machine]=yes ;;
       --table) read_backend --table table ;;
       --text) option[from]=text ;;
-      --check | --remove | --clean | --confirm | --back | --guard) only_action "$1" ;;
+      --check | --remove | --clean | --confirm | --back | --status | --guard) only_action "$1" ;;
       --repair) option[repair]=yes ;;
       --every-flow) option[every_flow]=yes ;;
       --replace-forward | --replace-rules) option[replace]=$1 ;;
