@@ -7,6 +7,7 @@
 answer_pending() {
   local digests
   find_pending
+  refuse_other_name "$1"
   if [ "$1" = kept ]; then refuse_unasked; fi
   if [ "$1" = kept ] && [ -e "${run[state]}/connections" ]; then
     need ss find
@@ -39,6 +40,15 @@ find_pending() {
 
 # Whether a load has not ended in the table or a back end.
 is_waiting() { is_pending "$(folder_of "$1")" || { [ "$1" = table ] && is_table_pending; }; }
+
+# Refuses to decide about a load of another name, and to keep one without its name.
+refuse_other_name() {
+  local name
+  name=$(readlink "${run[state]}/name")
+  if [ "$name" = "${option[transaction]}" ] || [ "$1:${option[transaction]}" = back: ]; then return; fi
+  if [ -n "$name" ]; then name="the name $name"; fi
+  refuse other-transaction "the load that is waiting has ${name:-no name}: nothing is decided (--transaction)"
+}
 
 # Refuses to confirm a load that has not asked.
 refuse_unasked() {

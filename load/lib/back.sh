@@ -25,8 +25,9 @@ await_changes() { flock 8 && flock -u 8; }
 # Starts the process that goes back, and waits until it is ready.
 start_guard() {
   local tries=0
-  local -a words=(--guard --wait "${option[seconds]}" ${option[keep]:+--keep-connections}
+  local -a words=(--guard ${option[keep]:+--keep-connections}
     ${option[machine]:+--local} ${option[program]:+--program "${option[program]}"} ${option[unproved]:+"${option[unproved]}"})
+  if [ -n "${option[until]}" ]; then words+=(--until "@${option[until]}"); else words+=(--wait "${option[seconds]}"); fi
   if [ "${form[kind]}" = table ]; then words+=(--table); else words+=(--backend "${option[backend]}"); fi
   TOPOS_LOAD=$$ setsid "$self" "${words[@]}" </dev/null >>"${run[state]}/log" 2>&1 4>&- &
   run[guard]=$!
@@ -56,6 +57,7 @@ guard() {
     left=$((left - 1))
     sleep 0.1
   done
+  set_limit
   half=$((option[seconds] * 5))
   end=$((option[seconds] * 100 + $(uptime_now)))
   ln -sfn "$end" "${run[state]}/deadline" 2>/dev/null # for --status

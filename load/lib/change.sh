@@ -20,6 +20,7 @@ load_rules() {
       refuse cannot-write "cannot write ${run[state]}: nothing is changed"
     fi
   fi
+  if [ -n "${option[if_changed]}" ] && is_kept_rules; then tell_unchanged; return; fi
   if [ -n "${option[dry_run]}" ]; then tell_dry_run; return; fi
   if ! is_loaded "${run[state]}/before"; then settled=first
   elif ! is_known "${run[state]}/before"; then
@@ -28,6 +29,18 @@ load_rules() {
     note "the state of ${form[changed]} before the first load is unknown$(says_old)"
   fi
   carry_out "$settled"
+}
+
+# Whether the rules are those of the last load, kept, and no old connections remain that a load would judge.
+is_kept_rules() {
+  is_same "${run[state]}"/{before,rules} && is_last "${run[state]}/before" && [ ! -e "${run[stayed]}" ]
+}
+
+# Says that there is nothing to load, and ends.
+tell_unchanged() {
+  run[code]=unchanged
+  say 'these rules are loaded: nothing is changed'
+  clear_state
 }
 
 # Restores the state before the first load, or a saved one.
@@ -72,6 +85,7 @@ carry_out() {
     refuse cannot-write "cannot read ${run[state]}: nothing is changed"
   { echo "$1" | cat >"${run[state]}/settle" && echo "${option[machine]}" | cat >"${run[state]}/local"; } ||
     refuse cannot-write "cannot write ${run[state]}: nothing is changed"
+  name_load
   "takes_${form[kind]}" || refuse rejected "${run[restore]} rejects the rules: nothing is changed"
   remember_connections
   run[end_told]=''
@@ -86,9 +100,27 @@ carry_out() {
   elif [ "${option[seconds]}" = 0 ]; then decide kept
   else
     ask
+    if [ -n "${option[detach]}" ] && ! is_decided; then leave_waiting; fi
     wait_for_decision
   fi
   tell_end
+}
+
+# Saves the name of the load.
+name_load() {
+  if [ -z "${option[transaction]}" ]; then return; fi
+  ln -sfn "${option[transaction]}" "${run[state]}/name" || refuse cannot-write "cannot write ${run[state]}: nothing is changed"
+}
+
+# Ends this process once the rollback process has begun to count. That goes on, and has the lock.
+leave_waiting() {
+  until [ -L "${run[state]}/deadline" ]; do
+    if is_decided || ! kill -0 "${run[guard]}" 2>/dev/null; then return; fi
+    sleep 0.1
+  done
+  run[end_told]=yes run[code]=pending
+  put_value seconds "${option[seconds]}"
+  exit 0
 }
 
 # Whether iptables accepts the change.
@@ -129,15 +161,17 @@ put_in_place_rules() {
 
 # Asks for the confirmation. The time limit begins here.
 ask() {
-  local loaded=loaded keep='the rules'
+  local loaded=loaded keep='the rules' confirm="$self --confirm${option[transaction]:+ --transaction ${option[transaction]}}"
+  set_limit
   if [ "${option[action]}" = remove ]; then loaded='the rules of topos are removed' keep='this state'; fi
   if [ -n "${option[machine]}" ] && ! connections >"${run[state]}/connections"; then decide failed; return; fi
   if ! : >"${run[state]}/asked"; then say "cannot write ${run[state]}"; decide failed; return; fi
   if [ -n "${option[machine]}" ]; then
-    say "$loaded. To keep $keep, log in again within ${option[seconds]} seconds and run there: $self --confirm"
-    say 'Any input here, or none in time, rolls back.'
+    say "$loaded. To keep $keep, log in again within ${option[seconds]} seconds and run there: $confirm"
+    if [ -z "${option[detach]}" ]; then say 'Any input here, or none in time, rolls back.'; fi
+  elif [ -n "${option[detach]}" ]; then say "$loaded. To keep $keep, run within ${option[seconds]} seconds: $confirm"
   else
-    say "$loaded. Type yes within ${option[seconds]} seconds to keep $keep, or run in another terminal: $self --confirm"
+    say "$loaded. Type yes within ${option[seconds]} seconds to keep $keep, or run in another terminal: $confirm"
     say 'Any other input, or none in time, rolls back.'
   fi
 }

@@ -48,7 +48,7 @@ take_lock() {
 clear_state() {
   clear_judging
   rm -f "${run[state]}"/{decision,armed,asked,made,connections,result,before,rules,rules.others,rules.policy,rules.description}
-  rm -f "${run[state]}"/{log,settle,staying,older.before,logging,loaded,local,deadline}
+  rm -f "${run[state]}"/{log,settle,staying,older.before,logging,loaded,local,deadline,name}
 }
 
 # Removes the folders for judging of processes that are gone. Another process of this load may be judging.
@@ -198,14 +198,15 @@ write_empty() {
 # Writes the status, the code and the words with which a load ends, also into the journal, with the digests in the third
 # argument.
 finish() {
-  local code before=-
+  local code name before=-
+  name=$(readlink "${run[state]}/name") || name=-
   code=$(end_code "$1")
   if [ -s "${run[state]}/before" ]; then before=$("digest_of_${form[kind]}" <"${run[state]}/before"); fi
   record "$2" "${3:-}"
   rm -f "${run[state]}"/{rules.others,rules.policy,rules.description,loaded,settle,asked,made,connections,staying}
   ln -sfn "$1 $code $2" "${run[state]}/result" 2>/dev/null || ln -sfn "$1 $code -" "${run[state]}/result"
-  ln -sfn "$(date +%s) $1 $code $before $2" "${run[state]}/ended" 2>/dev/null # for --status
-  if [ "$1" != 71 ]; then rm -f "${run[state]}"/{armed,before,older.before,rules,log,deadline}; fi
+  ln -sfn "$(date +%s) $1 $code $name $before $2" "${run[state]}/ended" 2>/dev/null # for --status
+  if [ "$1" != 71 ]; then rm -f "${run[state]}"/{armed,before,older.before,rules,log,deadline,name}; fi
 }
 
 # Prints the code of the end of a load with this status: by what it was kept, or why it went back.

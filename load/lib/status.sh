@@ -3,8 +3,8 @@
 # `state` of run[..], and the options `backend` and `machine`; reads these, `table`, `active` and `chains` of run[..] and form[..].
 
 # The state: none, loading, pending, interrupted, kept, or unknown. The SHA-256 of what is in force and of what was before, the
-# seconds until a load goes back, and how the last one ended.
-declare -gA status=([state]='' [digest]='' [before]='' [seconds]='' [end]='' [last]='')
+# name of a load that waits and the seconds until it goes back, and how the last one ended.
+declare -gA status=([state]='' [digest]='' [before]='' [transaction]='' [seconds]='' [end]='' [last]='')
 
 # Prints the state of the table or of a back end: of what is named, else of what find_place finds.
 tell_status() {
@@ -15,7 +15,7 @@ tell_status() {
   run[state]=$(folder_of "${option[backend]}")
   find_end
   "find_status_${form[kind]}"
-  for each in state digest before; do put_text "$each" "${status[$each]}"; done
+  for each in state digest before transaction; do put_text "$each" "${status[$each]}"; done
   put_value seconds "${status[seconds]}"
   put_value last "${status[last]}"
   run[code]=${status[state]}
@@ -38,6 +38,7 @@ find_place() {
 # Finds how far a load is that has not ended.
 find_waiting() {
   local deadline
+  status[transaction]=$(readlink "${run[state]}/name")
   if ! is_held "${run[state]}"; then status[state]=interrupted; return; fi
   if ! [ -e "${run[state]}/asked" ]; then status[state]=loading; return; fi
   status[state]=pending
@@ -48,15 +49,16 @@ find_waiting() {
 
 # Finds how the last load ended, as `finish` writes it. What was before it, if it was kept, has its digest there.
 find_end() {
-  local time ended code before words IFS=' '
+  local time ended code name before words IFS=' '
   local -a reply=()
-  read -r time ended code before words < <(readlink "${run[state]}/ended") || return
+  read -r time ended code name before words < <(readlink "${run[state]}/ended") || return
   time=$(date -u -d "@$time" +%Y-%m-%dT%H:%M:%SZ)
   if [ "$ended:$before" != "0:-" ] && [ "$ended" = 0 ]; then status[before]=$before; fi
   status[end]="$code at $time ($words)"
   put_text code "$code"
   put_value status "$ended"
   put_text time "$time"
+  put_text transaction "${name#-}"
   put_text words "$words"
   IFS=,
   status[last]="{${reply[*]}}"
@@ -102,6 +104,7 @@ print_status() {
   echo "back end: ${option[backend]:-none}"
   if [ -n "${status[digest]}" ]; then echo "in force: ${status[digest]}"; fi
   if [ -n "${status[before]}" ]; then echo "before: ${status[before]}"; fi
+  if [ -n "${status[transaction]}" ]; then echo "transaction: ${status[transaction]}"; fi
   if [ -n "${status[seconds]}" ]; then echo "seconds left: ${status[seconds]}"; fi
   if [ -n "${status[end]}" ]; then echo "last load: ${status[end]}"; fi
 }

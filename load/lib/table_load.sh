@@ -8,12 +8,18 @@ load_table() {
   write_rules "${run[state]}/rules"
   read_ours
   text_of "${run[active]%%-*}" | cat >"${run[state]}/before" || refuse cannot-write "cannot write ${run[state]}: nothing is changed"
+  if [ -n "${option[if_changed]}" ] && is_kept_table; then tell_unchanged; return; fi
   note_around_table
   if [ -n "${option[unproved]}" ]; then record 'the programs of this load are not proved (--unproved)'; fi
   if [ -n "${option[dry_run]}" ]; then tell_dry_run
   elif [ "${option[seconds]}" = 0 ]; then load_now
   else carry_out again
   fi
+}
+
+# Whether the text is that of the table, kept, and no old connections remain that a load would judge.
+is_kept_table() {
+  [[ ${run[active]}:${run[chains]} == [ab]-kept:? ]] && cmp -s "${run[state]}"/{before,rules} && [ ! -e "${run[stayed]}" ]
 }
 
 # Reads the table, and refuses one that has something else than loads write.
@@ -52,6 +58,7 @@ load_now() {
   run[was]=$(cat "${run[state]}/before") run[loaded]=$(cat "${run[state]}/rules") ||
     refuse cannot-write "cannot read ${run[state]}: nothing is changed"
   takes_table || refuse rejected 'nft rejects the rules: nothing is changed'
+  name_load
   if run_orders now; then
     record loaded
     drop_connections "${run[loaded]}"
@@ -164,6 +171,7 @@ remove_table() {
   if [ -z "${run[table]}" ]; then refuse not-loaded "there is no table ip topos: nothing is changed"; fi
   note "without ${form[changed]} this firewall forwards what other tables accept: everything, if there are none"
   if [ "${option[seconds]}" != 0 ]; then
+    set_limit
     say "Type yes within ${option[seconds]} seconds to remove it."
     read -r -t "${option[seconds]}" word 2>/dev/null
     if [ "$word" != yes ]; then refuse not-confirmed 'nothing is changed'; fi
@@ -171,7 +179,7 @@ remove_table() {
   run_orders remove || refuse failed "${form[changed]} cannot be removed: nothing is changed"
   forget_text
   clear_state
-  ln -sfn "$(date +%s) 0 removed - the table is removed" "${run[state]}/ended" 2>/dev/null
+  ln -sfn "$(date +%s) 0 removed - - the table is removed" "${run[state]}/ended" 2>/dev/null
   run[code]=removed
   record 'the table is removed'
   say "${form[changed]} is removed"

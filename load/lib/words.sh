@@ -7,6 +7,7 @@ declare -gA option=(
   [action]=load [from]=description [file]='' [host]='' [machine]='' [words]=''
   [seconds]=60 [backend]='' [program]='' [unproved]='' [repair]='' [every_flow]='' [replace]='' [keep]='' [open]=''
   [log]='' [dry_run]='' [verbose]='' [list]='' [json]=''
+  [until]='' [limit]='' [detach]='' [transaction]='' [if_changed]=''
 )
 
 # Prints how topos-load is called.
@@ -40,6 +41,10 @@ options
   --json               print one object of JSON, and everything else as an error message
   --verbose            print every note in full, also if an earlier load printed it
   --wait SECONDS       time limit for the confirmation: 60 by default, 0 to load without a confirmation
+  --until TIME         time limit by the clock: 14:30, 2026-12-02T14:30, 2026-12-02T14:30Z, or @1796221800
+  --detach             end after the question: the rules wait for --confirm without this process
+  --transaction NAME   name of the load; --confirm requires it, and --back with another name is refused
+  --if-changed         load nothing if these rules are loaded and kept
   --table              load the rules as a table of nftables, ip topos, instead of into FORWARD of iptables; also with
                        --check, --dry-run, --remove, --confirm and --back
   --backend nft|legacy the back end of iptables; by default that of iptables-restore
@@ -129,12 +134,14 @@ read_words() {
       --keep-connections) option[keep]=yes ;;
       --log) option[log]=yes ;;
       --dry-run) option[dry_run]=yes ;;
+      --detach) option[detach]=yes ;;
+      --if-changed) option[if_changed]=yes ;;
       --verbose) option[verbose]=yes ;;
       --json) ;; # begin_reply has read it
       --unproved) option[unproved]=--unproved ;;
       --list) option[list]=yes ;;
       --open) option[open]=yes ;;
-      --wait | --backend | --program)
+      --wait | --until | --transaction | --backend | --program)
         if [ $# -lt 2 ]; then wrong_words "$1: requires a value"; fi
         read_value "$1" "$2"
         shift ;;
@@ -167,7 +174,10 @@ fit_options() {
   if [ "${option[action]}" != load ]; then
     if [ -n "${option[log]}" ]; then wrong_words '--log: only valid for a load'; fi
     if [ -n "${option[dry_run]}" ]; then wrong_words '--dry-run: only valid for a load'; fi
+    if [ -n "${option[detach]}" ]; then wrong_words '--detach: only valid for a load'; fi
+    if [ -n "${option[if_changed]}" ]; then wrong_words '--if-changed: only valid for a load'; fi
   fi
+  fit_limit
   if [ -n "${option[open]}" ] && [ "${option[action]}" != remove ]; then wrong_words '--open: only valid with --remove'; fi
   if [ -n "${option[list]}" ] && [ "${option[action]}:${option[open]}${option[file]}" != remove: ]; then
     wrong_words '--list: only valid with --remove'
@@ -181,6 +191,15 @@ fit_options() {
   elif [ "${option[replace]}" = --replace-rules ]; then wrong_words '--replace-rules: only valid with --local'
   fi
   select_form
+}
+
+# Refuses a limit and a name where there is no question.
+fit_limit() {
+  case ${option[action]}:${option[transaction]} in
+    load:* | confirm:* | back:* | *:) ;;
+    *) wrong_words '--transaction: only valid for a load, with --confirm and with --back' ;;
+  esac
+  if [ "${option[detach]}:${option[seconds]}" = yes:0 ]; then wrong_words '--detach: not valid with --wait 0'; fi
 }
 
 # Refuses options that a table has no use for.
@@ -216,11 +235,44 @@ read_backend() {
 read_value() {
   case $1:$2 in
     --wait:*[!0-9]* | --wait: | --wait:??????*) wrong_words '--wait: expected a number of seconds, at most 99999' ;;
-    --wait:*) option[seconds]=$((10#$2)) ;; # not octal
+    --wait:*) read_limit --wait; option[seconds]=$((10#$2)) ;; # not octal
+    --until:*) read_limit --until; read_time "$2" ;;
+    --transaction:[A-Za-z0-9]*)
+      if [[ $2 == *[!A-Za-z0-9._-]* || ${#2} -gt 64 ]]; then wrong_words '--transaction: expected at most 64 letters, digits, ., _ or -'; fi
+      option[transaction]=$2 ;;
+    --transaction:*) wrong_words '--transaction: expected a name that begins with a letter or a digit' ;;
     --backend:nft | --backend:legacy) read_backend --backend "$2" ;;
     --backend:*) wrong_words '--backend: expected nft or legacy' ;;
     --program:*) option[program]=$2 ;;
   esac
+}
+
+# Takes the option of a time limit. There is only one.
+read_limit() {
+  if [ "${option[limit]:-$1}" != "$1" ]; then wrong_words "$1: --wait and --until are not valid together"; fi
+  option[limit]=$1
+}
+
+# Takes a time of the clock. An hour that is over is one of tomorrow.
+read_time() {
+  local clock='[0-9]{2}:[0-9]{2}(:[0-9]{2})?' now end
+  now=$(date +%s)
+  if ! [[ $1 =~ ^($clock|[0-9]{4}-[0-9]{2}-[0-9]{2}T$clock(Z|[+-][0-9]{2}:?[0-9]{2})?|@[0-9]{1,12})$ ]] ||
+    ! end=$(date -d "$1" +%s 2>/dev/null); then
+    wrong_words '--until: expected a time, such as 14:30, 2026-12-02T14:30, 2026-12-02T14:30Z or @1796221800'
+  fi
+  if [[ $1 != *[T@]* ]] && [ "$end" -le "$now" ]; then end=$(date -d "tomorrow $1" +%s); fi
+  option[until]=$end
+  if [ "${option[action]}" = guard ]; then return; fi
+  if [ "$end" -le "$now" ]; then wrong_words '--until: this time is over'; fi
+  if [ $((end - now)) -gt 99999 ]; then wrong_words '--until: expected a time at most 99999 seconds from now'; fi
+}
+
+# Sets the seconds of a limit by the clock, from now on.
+set_limit() {
+  if [ -z "${option[until]}" ]; then return; fi
+  option[seconds]=$((option[until] - $(date +%s)))
+  if [ "${option[seconds]}" -lt 1 ]; then option[seconds]=1; fi
 }
 
 part=words # a truncated file lacks this line

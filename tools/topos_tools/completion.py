@@ -15,7 +15,7 @@ from .query import UNAVAILABLE, Stopped, find_program, find_query
 SECONDS = 3  # for what a command is asked
 FILES = '@files'  # denotes the files of the folder
 HOSTS = {'HOST', 'FROM', 'TO', 'RECEIVER', 'SENDER'}
-FREE = {'N', 'SECONDS', 'NAME', 'NETWORK'}  # what nothing is known of
+FREE = {'N', 'SECONDS', 'TIME', 'NAME', 'NETWORK'}  # what nothing is known of
 OPTION = re.compile(r'(?<![\w-])(--?[a-z][a-z-]*)(?:[ =]([A-Z][A-Z.]*|[a-z]+(?:\|[a-z]+)+))?')
 
 
