@@ -38,6 +38,7 @@ run_program() {
   if [ "$status" = 0 ]; then return; fi
   run[code]=topos-failed
   say 'topos wrote no rules: nothing is changed'
+  if [ "${option[action]}" = check ]; then exit 69; fi # 2 has another meaning there
   exit "$status"
 }
 
@@ -59,22 +60,24 @@ note_writers() {
 # Prints by whom these files, and the folders on the way to them, can be changed, except by root: a line each.
 writers_of() {
   local each file mode owner
-  while IFS= read -rd '' each; do
-    if [ -L "$each" ]; then continue; fi # what it leads to is another path
-    read -r mode owner < <(stat -c '%A %u' "$each")
+  local -a paths=()
+  mapfile -d '' -t paths < <(
+    for file; do path_to "$(realpath -ms -- "$file")"; path_to "$(readlink -f -- "$file")"; done | sort -zu)
+  while IFS=' ' read -rd '' mode owner each; do
+    if [[ $mode == l* ]]; then continue; fi # what the link leads to is another path
     each=${each//[[:cntrl:]]/?}
     if [ "$owner" != 0 ]; then echo "$each is owned by a user other than root"
     elif [[ $mode == ?????w???[^tT] || $mode == ????????w[^tT] ]]; then echo "$each is writable by users other than root"
     fi
-  done < <(for file; do path_to "$(realpath -ms -- "$file")"; path_to "$(readlink -f -- "$file")"; done | sort -zu)
+  done < <(stat --printf '%A %u %n\0' -- "${paths[@]}" 2>/dev/null)
 }
 
 # Prints a path and the folders that lead to it.
 path_to() {
   local path=$1
-  until [ "$path" = / ]; do
+  until [ -z "${path%/}" ]; do
     printf '%s\0' "$path"
-    path=$(dirname -- "$path")
+    path=${path%/*}
   done
 }
 

@@ -58,8 +58,8 @@ options
 exit status
   0 done, 64 usage error, 69 refused: nothing was changed, 71 the previous rules could not be restored,
   72 refused: this machine has no address of the host yet, 75 rolled back;
-  of --check 1 if other rules are loaded, 2 if these rules are loaded without a confirmation yet; otherwise that of
-  topos, which prints the reason
+  of --check 0 if these rules are loaded, 1 if others are, 2 if these are without a confirmation yet, 69 if it is not
+  known; otherwise that of topos, which prints the reason
 END
 }
 
