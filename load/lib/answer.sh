@@ -24,7 +24,7 @@ answer_pending() {
 find_pending() {
   local each held='' broken=''
   need flock
-  for each in ${option[backend]:-nft legacy table}; do
+  for each in $(places); do
     if ! is_waiting "$each"; then continue; fi
     if is_held "$(folder_of "$each")"; then held+=" $each"; else broken+=" $each"; fi
   done
@@ -36,6 +36,14 @@ find_pending() {
   option[backend]=${option[backend]# }
   run[state]=$(folder_of "${option[backend]}")
   mkdir -p "${run[state]}" || refuse cannot-write "cannot create ${run[state]}: nothing is changed" # a table is pending also without it
+}
+
+# Prints where a load may be waiting: in what is named, or everywhere.
+places() {
+  if [ -n "${option[backend]}" ]; then echo "${option[backend]}"
+  elif [ -n "${option[iptables]}" ]; then echo 'nft legacy'
+  else echo 'nft legacy table'
+  fi
 }
 
 # Whether a load has not ended in the table or a back end.

@@ -22,19 +22,6 @@ tell_status() {
   print_status
 }
 
-# Finds the back end with a load that waits, else the table, else a back end with rules of topos.
-find_place() {
-  local each
-  need flock
-  for each in nft legacy table; do
-    if is_waiting "$each" && is_held "$(folder_of "$each")"; then option[backend]=$each; return; fi
-  done
-  if is_table; then option[backend]=table; return; fi
-  for each in nft legacy; do
-    if has_our_rules "$each" || is_waiting "$each"; then option[backend]=$each; return; fi
-  done
-}
-
 # Finds how far a load is that has not ended.
 find_waiting() {
   local deadline

@@ -5,7 +5,7 @@
 # program, and end_in_place `machine` to that of the load that it ends.
 declare -gA option=(
   [action]=load [from]=description [file]='' [host]='' [machine]='' [words]=''
-  [seconds]=60 [backend]='' [program]='' [unproved]='' [repair]='' [every_flow]='' [replace]='' [keep]='' [open]=''
+  [seconds]=60 [backend]='' [iptables]='' [program]='' [unproved]='' [repair]='' [every_flow]='' [replace]='' [keep]='' [open]=''
   [log]='' [dry_run]='' [verbose]='' [list]='' [json]=''
   [until]='' [limit]='' [detach]='' [transaction]='' [if_changed]=''
 )
@@ -45,9 +45,10 @@ options
   --detach             end after the question: the rules wait for --confirm without this process
   --transaction NAME   name of the load; --confirm requires it, and --back with another name is refused
   --if-changed         load nothing if these rules are loaded and kept
-  --table              load the rules as a table of nftables, ip topos, instead of into FORWARD of iptables; also with
-                       --check, --dry-run, --remove, --confirm and --back
-  --backend nft|legacy the back end of iptables; by default that of iptables-restore
+  --table              load the rules as a table of nftables, ip topos; this is the default where nftables works and
+                       iptables has no rules of topos
+  --iptables           load them into FORWARD of iptables
+  --backend nft|legacy the same, in this back end of iptables; by default it is that of iptables-restore
   --replace-forward    remove the rules of other tools from FORWARD
   --replace-rules      with --local: remove the rules of other tools from INPUT, FORWARD and OUTPUT
   --open               with --remove: if no state is saved, remove all rules from FORWARD and accept everything
@@ -126,6 +127,7 @@ read_words() {
       --version) print_version; exit 0 ;;
       --local) option[machine]=yes ;;
       --table) read_backend --table table ;;
+      --iptables) read_backend --iptables '' ;;
       --text) option[from]=text ;;
       --check | --remove | --clean | --confirm | --back | --status | --guard) only_action "$1" ;;
       --repair) option[repair]=yes ;;
@@ -169,7 +171,7 @@ name_words() {
   option[file]=${1:-} option[host]=${2:-}
 }
 
-# Refuses options that do not go together, and selects what is changed.
+# Refuses options that do not go together.
 fit_options() {
   if [ "${option[action]}" != load ]; then
     if [ -n "${option[log]}" ]; then wrong_words '--log: only valid for a load'; fi
@@ -190,7 +192,6 @@ fit_options() {
     fi
   elif [ "${option[replace]}" = --replace-rules ]; then wrong_words '--replace-rules: only valid with --local'
   fi
-  select_form
 }
 
 # Refuses a limit and a name where there is no question.
@@ -223,12 +224,13 @@ select_form() {
   fi
 }
 
-# Takes what the rules are loaded into: a back end of iptables or a table. There is only one.
+# Takes what the rules are loaded into: a table, or iptables and a back end of it. There is only one.
 read_backend() {
-  if [ "${option[backend]:-$2}" != "$2" ] && [[ table == "$2" || ${option[backend]} == table ]]; then
-    wrong_words "$1: --table and --backend are not valid together"
+  if [ "$2" != table ]; then option[iptables]=yes; fi
+  if [ "${option[iptables]}" = yes ] && [[ table == "$2" || ${option[backend]} == table ]]; then
+    wrong_words "$1: --table is not valid with --iptables and --backend"
   fi
-  option[backend]=$2
+  option[backend]=${2:-${option[backend]}}
 }
 
 # Takes an option with its value.
