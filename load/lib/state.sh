@@ -152,7 +152,7 @@ list_remembered() {
 tell_remembered() {
   local list
   list=$(list_remembered)
-  put_list states "$(sed 's/.* //' <<<"$list")"
+  put_list states "$(awk '{ print $NF }' <<<"$list")"
   if [ -n "$list" ]; then printf '%s\n' "$list"; fi
 }
 
