@@ -7,13 +7,16 @@ choose_form() {
     option[backend]=table
     fit_table_options
   fi
+  if [ "${option[backend]}" != table ] && [ -n "${option[log_group]}${option[log_rate]}" ]; then
+    wrong_words '--log-group, --log-rate: only valid for a table'
+  fi
   select_form
 }
 
 # Whether only iptables can do what the command line asks for.
 is_of_iptables() {
   case ${option[action]} in load | check | remove) ;; *) return 0 ;; esac
-  [ -n "${option[machine]}${option[replace]}${option[open]}${option[list]}${option[log]}" ] ||
+  [ -n "${option[machine]}${option[replace]}${option[open]}${option[list]}" ] ||
     { [ "${option[action]}" = remove ] && [ -n "${option[file]}" ]; }
 }
 

@@ -1,6 +1,9 @@
 # shellcheck shell=bash disable=SC2034,SC2154
 # The table `ip topos` of nftables: its form, what the kernel lists of it, and the orders that change it.
 #
+# With --log the rules of the base chain are in `top_a`, and `rules_a` jumps there and continues in `log_a`, which logs and
+# drops; what the text drops continues in `log_a` too.
+#
 # Its chains are there in up to two generations, named `.._a` and `.._b`: those of the text, and `rules_a` or `rules_b` with
 # the rules of its base chain. The base chain `forward` has one rule, which continues in one of these, and whose comment says
 # whether a user has confirmed it, and the SHA-256 of the text. That is all the state there is. `topos-step` decides by it
@@ -11,6 +14,9 @@
 # The lines of the base chain.
 form[hook]=$'\t\ttype filter hook forward priority filter; policy drop;'
 form[mark]=$'\t\tgoto rules_[ab] comment "(kept|pending) [0-9a-f]+"'
+
+# What logs: at most so many packets in a time, by the kernel or a group of nflog.
+form[logged]=$'\t\tlimit rate [0-9]+/(second|minute|hour|day)( burst [0-9]+ packets)? log prefix "topos: "( group [0-9]+)?'
 
 # Selects what is changed: a table of its own. `line` is the pattern of a line of a text, and `listed` of one of the kernel.
 change_table() {
@@ -25,10 +31,10 @@ change_table() {
 # Prints the pattern of a line, whose chains have names with this suffix. A name has a `_`, so that none is `rules`.
 line_of() {
   local name="[A-Za-z][A-Za-z0-9-]*_[A-Za-z0-9_-]*$1" service='((tcp|udp) [ds]port [0-9]+(-[0-9]+)?|meta l4proto (icmp|tcp|udp)) '
-  local verdict="(accept|drop|goto $name)"
+  local verdict="(accept|drop|goto (${1:+log$1|}$name))" logs=${1:+"|jump top$1|${form[logged]#$'\t\t'}"}
   local element="[0-9.]+([/-][0-9.]+)? : $verdict"
   local rule="ip [sd]addr vmap [{] $element(, $element)* [}]|(ct state established )?($service)?$verdict"
-  printf '%s' $'^(|table ip topos [{]|[}]|\t'"(chain (forward|${1:+rules$1|}$name) [{]|[}])|"$'\t\t'"($rule))\$"
+  printf '%s' $'^(|table ip topos [{]|[}]|\t'"(chain (forward|${1:+(rules|top|log)$1|}$name) [{]|[}])|"$'\t\t'"($rule$logs))\$"
 }
 
 # Finds the tools and programs for a table, and the folder of a load.
@@ -110,26 +116,51 @@ state_of() {
 foreign_line() {
   {
     printf '%s\n' "${run[table]}" | grep -Evn -m 1 -e "${form[listed]}" -e "^${form[hook]}\$" -e "^${form[mark]}\$"
-    printf '%s\n' "${run[table]}" | awk -v hook="${form[hook]}" -v mark="^${form[mark]}\$" '
-      /^\tchain / { here = /^\tchain forward / ? "forward" : substr($0, length($0) - 2, 1); lines = 0; next }
+    printf '%s\n' "${run[table]}" | awk -v hook="${form[hook]}" -v mark="^${form[mark]}\$" -v logged="^${form[logged]}\$" '
+      /^\tchain / { here = /^\tchain forward / ? "forward" : substr($0, length($0) - 2, 1); chain = $2; lines = 0; next }
+      chain ~ /^log_[ab]$/ && /^\t\t/ { if (++lines == 1 ? $0 !~ logged : lines > 2 || $0 != "\t\tdrop") { print NR ":" $0; exit } next }
+      $0 ~ logged || /^\t\tjump / && chain !~ /^rules_/ { print NR ":" $0; exit }
       /^\t}$/ { if (here == "forward" && lines != 2) { print NR ":the chain forward without its rule"; exit } here = ""; next }
       here == "forward" { if (++lines == 1 ? $0 != hook : lines > 2 || $0 !~ mark) { print NR ":" $0; exit } next }
       here != "" && ($0 == hook || $0 ~ mark || $0 ~ ("_" (here == "a" ? "b" : "a") "( [}]|,|$)")) { print NR ":" $0; exit }'
   } | sort -n | head -n 1 | tr -d '\t'
 }
 
-# Prints a generation of run[table] as the text that was loaded.
+# Prints a generation of run[table] as the text that was loaded, without what logs; nothing if that is not as it was written.
 text_of() {
+  local base=rules
   if [[ ${run[table]} != *$'\n\t'"chain rules_$1 {"* ]]; then return; fi
-  printf '%s\n' "${run[table]}" | awk -v own="_$1 {" -v hook="${form[hook]}" '
-    /^\tchain / {
-      here = substr($0, length($0) - 3) == own
-      if (here) print begun++ ? "" : "table ip topos {"
-      if (here && $0 == "\tchain rules" own) { print "\tchain forward {\n" hook; next }
+  if [[ ${run[table]} == *$'\n\t'"chain top_$1 {"* ]]; then base=top; fi
+  printf '%s\n' "${run[table]}" | awk -v own="_$1" -v base="$base" -v hook="${form[hook]}" -v logged="^${form[logged]}\$" '
+    function is_log(line) {
+      if (chain == "log" own) return lines == 1 ? line ~ logged : lines == 2 && line == "\t\tdrop"
+      return line == (lines == 1 ? "\t\tjump top" own : lines == 2 ? "\t\tgoto log" own : "")
     }
-    here { print }
-    /^\t}$/ { here = 0 }
-    END { print "}" }' | sed -E "s/goto ([A-Za-z0-9_-]+)_$1/goto \1/g; s/^(\tchain [^ ]+)_$1 [{]\$/\1 {/"
+    /^\tchain / {
+      chain = $2; lines = 0; logs = chain == "log" own || chain == "rules" own && base == "top"
+      here = substr(chain, length(chain) - 1) == own && !logs
+      if (here) text = text (begun++ ? "\n" : "table ip topos {\n")
+      if (here && chain == base own) { text = text "\tchain forward {\n" hook "\n"; next }
+    }
+    logs && /^\t\t/ { lines++; if (is_log($0)) good++; else good = -9 }
+    here { text = text $0 "\n" }
+    /^\t}$/ { here = logs = 0 }
+    END { if (good == (base == "top" ? 4 : 0)) printf "%s}\n", text }' |
+    sed -E "s/goto log_$1( |,|\$)/drop\1/g; s/goto ([A-Za-z0-9_-]+)_$1/goto \1/g; s/^(\tchain [^ ]+)_$1 [{]\$/\1 {/"
+}
+
+# Prints what logs in run[table], and what is to log.
+log_of_table() { printf '%s\n' "${run[table]}" | sed -nE "\\#^${form[logged]}\$#{s/ burst [0-9]+ packets//; s/^\t\t//; p}"; }
+log_wanted() {
+  if [ -z "${option[log]}" ]; then return; fi
+  echo "limit rate ${option[log_rate]:-10/minute} log prefix \"topos: \"${option[log_group]:+ group ${option[log_group]}}"
+}
+
+# Prints a generation with what logs.
+with_log() {
+  sed -E "s/ : drop/ : goto log_$1/g; s/^(\t\t.*)drop\$/\1goto log_$1/; s/^\tchain rules_$1 [{]\$/\tchain top_$1 {/; /^[}]\$/d"
+  printf '\n\tchain log_%s {\n\t\t%s\n\t\tdrop\n\t}\n' "$1" "$(log_wanted)"
+  printf '\n\tchain rules_%s {\n\t\tjump top_%s\n\t\tgoto log_%s\n\t}\n}\n' "$1" "$1" "$1"
 }
 
 # Prints a text as a generation: with the suffix at each chain, and the rules of the base chain in a chain of their own.
@@ -137,7 +168,7 @@ generation() {
   sed -E "s/goto [A-Za-z0-9_-]+/&_$1/g
     s/^\tchain forward [{]\$/\tchain rules_$1 {/; t
     s/^(\tchain [^ ]+) [{]\$/\1_$1 {/
-    /^${form[hook]}\$/d"
+    /^${form[hook]}\$/d" | if [ -n "${option[log]}" ]; then with_log "$1"; else cat; fi
 }
 
 # Prints the digest of a text, as sha256sum does of its file.

@@ -19,7 +19,8 @@ load_table() {
 
 # Whether the text is that of the table, kept, and no old connections remain that a load would judge.
 is_kept_table() {
-  [[ ${run[active]}:${run[chains]} == [ab]-kept:? ]] && cmp -s "${run[state]}"/{before,rules} && [ ! -e "${run[stayed]}" ]
+  [[ ${run[active]}:${run[chains]} == [ab]-kept:? ]] && cmp -s "${run[state]}"/{before,rules} && [ ! -e "${run[stayed]}" ] &&
+    [ "$(log_of_table)" = "$(log_wanted)" ]
 }
 
 # Reads the table, and refuses one that has something else than loads write.

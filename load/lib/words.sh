@@ -7,7 +7,7 @@ declare -gA option=(
   [action]=load [from]=description [file]='' [host]='' [machine]='' [words]=''
   [seconds]=60 [backend]='' [iptables]='' [program]='' [unproved]='' [repair]='' [every_flow]='' [replace]='' [keep]='' [open]=''
   [log]='' [dry_run]='' [verbose]='' [list]='' [json]=''
-  [until]='' [limit]='' [detach]='' [transaction]='' [if_changed]=''
+  [until]='' [limit]='' [log_group]='' [log_rate]='' [detach]='' [transaction]='' [if_changed]=''
 )
 
 # Prints how topos-load is called.
@@ -36,7 +36,10 @@ usage: topos-load [OPTION].. DESCRIPTION      load the rules of a description
 options
   --repair             load the flows that violate no invariant (topos repair), and list the omitted flows
   --every-flow         accept a description without the key `flow`, which requests every flow
-  --log                log dropped packets, at most ten a minute for each rule: 'topos HOST: ' and the packet
+  --log                log dropped packets, at most ten a minute: 'topos: ' and the packet; of iptables ten for each
+                       rule, with 'topos HOST: '
+  --log-group N        the same for a table, by the group N of nflog
+  --log-rate N/minute  the same for a table, at most so many packets; also in a second, an hour or a day
   --version            print the version of topos
   --json               print one object of JSON, and everything else as an error message
   --verbose            print every note in full, also if an earlier load printed it
@@ -143,7 +146,7 @@ read_words() {
       --unproved) option[unproved]=--unproved ;;
       --list) option[list]=yes ;;
       --open) option[open]=yes ;;
-      --wait | --until | --transaction | --backend | --program)
+      --wait | --until | --transaction | --log-group | --log-rate | --backend | --program)
         if [ $# -lt 2 ]; then wrong_words "$1: requires a value"; fi
         read_value "$1" "$2"
         shift ;;
@@ -209,10 +212,9 @@ fit_table_options() {
   if [ -n "${option[replace]}${option[open]}${option[list]}" ]; then
     wrong_words "${option[replace]:-${option[list]:+--list}${option[open]:+--open}}: not valid with --table"
   fi
-  case ${option[action]}:${option[log]}:${option[file]} in
+  case ${option[action]}:${option[file]} in
     clean:*) wrong_words '--clean: not valid with --table' ;;
-    load:yes:*) wrong_words '--log: not valid with --table' ;;
-    remove::?*) wrong_words "${option[file]}: unexpected argument" ;;
+    remove:?*) wrong_words "${option[file]}: unexpected argument" ;;
   esac
 }
 
@@ -243,6 +245,14 @@ read_value() {
       if [[ $2 == *[!A-Za-z0-9._-]* || ${#2} -gt 64 ]]; then wrong_words '--transaction: expected at most 64 letters, digits, ., _ or -'; fi
       option[transaction]=$2 ;;
     --transaction:*) wrong_words '--transaction: expected a name that begins with a letter or a digit' ;;
+    --log-group:*)
+      if ! [[ $2 =~ ^[0-9]{1,5}$ ]] || [ "$((10#$2))" -gt 65535 ]; then wrong_words '--log-group: expected a number, at most 65535'; fi
+      option[log]=yes option[log_group]=$((10#$2)) ;;
+    --log-rate:*)
+      if ! [[ $2 =~ ^[1-9][0-9]{0,5}/(second|minute|hour|day)$ ]]; then
+        wrong_words '--log-rate: expected a rate, such as 10/minute, in a second, minute, hour or day'
+      fi
+      option[log]=yes option[log_rate]=$2 ;;
     --backend:nft | --backend:legacy) read_backend --backend "$2" ;;
     --backend:*) wrong_words '--backend: expected nft or legacy' ;;
     --program:*) option[program]=$2 ;;
