@@ -1,80 +1,11 @@
 # shellcheck shell=bash disable=SC2034,SC2154
-# A load, a removal, and the cleaning of chains: changes of the table, with a question. Writes `was`, `loaded`, `changing`,
-# `guard` and `end_told` of run[..]; reads these, `state` and `restore`, option[..] and form[..].
-
-# Loads the rules of a description, or of a rules file.
-load_rules() {
-  local settled=again
-  take_lock
-  write_rules "${run[state]}/rules"
-  save_filter "${run[state]}/before"
-  refuse_foreign "${run[state]}/before"
-  refuse_out_of_force
-  note_surroundings
-  if [ -n "${option[unproved]}" ] && [ "${option[from]}" = description ]; then
-    record 'the program that wrote these rules is not proved (--unproved)'
-  fi
-  if [ -n "${option[log]}" ]; then
-    if ! { with_logs "${run[state]}/rules" >"${run[state]}/logging" &&
-      mv "${run[state]}/logging" "${run[state]}/rules"; }; then
-      refuse cannot-write "cannot write ${run[state]}: nothing is changed"
-    fi
-  fi
-  if [ -n "${option[if_changed]}" ] && is_kept_rules; then tell_unchanged; return; fi
-  if [ -n "${option[dry_run]}" ]; then tell_dry_run; return; fi
-  if ! is_loaded "${run[state]}/before"; then settled=first
-  elif ! is_known "${run[state]}/before"; then
-    settled=unknown
-    if ! is_last "${run[state]}/before"; then note 'the present rules of topos are not those of the last load'; fi
-    note "the state of ${form[changed]} before the first load is unknown$(says_old)"
-  fi
-  carry_out "$settled"
-}
-
-# Whether the rules are those of the last load, kept, and no old connections remain that a load would judge.
-is_kept_rules() {
-  is_same "${run[state]}"/{before,rules} && is_last "${run[state]}/before" && [ ! -e "${run[stayed]}" ]
-}
+# A change with a question, and its end. Writes `was`, `loaded`, `changing`, `guard`, `leaving`, `end_told`, `code` and `status` of
+# run[..]; reads these, `state` and `restore`, option[..] and form[..].
 
 # Says that there is nothing to load, and ends.
 tell_unchanged() {
   run[code]=unchanged
   say 'these rules are loaded: nothing is changed'
-  clear_state
-}
-
-# Restores the state before the first load, or a saved one.
-remove_rules() {
-  if [ -n "${option[list]}" ]; then tell_remembered; return; fi
-  take_lock
-  save_filter "${run[state]}/before"
-  if ! is_loaded "${run[state]}/before"; then refuse not-loaded "${form[changed]}: no rules of topos are loaded: nothing is changed"; fi
-  refuse_foreign "${run[state]}/before"
-  write_remembered
-  if ! grep -qE "^-A (${form[entries]}) " "${run[state]}/rules" && grep -q '^:FORWARD DROP' "${run[state]}/rules"; then
-    note 'FORWARD will have no rules and drop everything, as before the first load (iptables -P FORWARD ACCEPT changes this)'
-  fi
-  carry_out nothing
-}
-
-# Removes the unused chains of topos. No packet reaches them, so no verdict changes.
-clean_chains() {
-  local found others
-  take_lock
-  save_filter "${run[state]}/before"
-  found=$(idle_chains "${run[state]}/before")
-  others=$(unused_chains '' "${run[state]}/before" | grep -vxF -e "${found:- }")
-  if [ -z "$found" ]; then say 'no chain of topos is unused: nothing is changed'
-  elif write_removal "$found" | "${run[restore]}" --noflush --wait 10; then
-    say "$(wc -l <<<"$found") unused chains of topos are removed: $(paste -s -d ' ' <<<"$found")"
-    put_list removed "$found"
-    record 'unused chains are removed'
-  else refuse failed "${run[restore]} does not remove the unused chains: nothing is changed"
-  fi
-  if [ -n "$others" ]; then
-    tell 'these unused chains remain, since another tool created, changed or uses them:'
-    some_lines <<<"$others" >&2
-  fi
   clear_state
 }
 
@@ -123,12 +54,6 @@ leave_waiting() {
   exit 0
 }
 
-# Whether iptables accepts the change.
-takes_rules() { takes_change 2>/dev/null || takes_change flush; }
-
-# Whether iptables accepts the change, made in the way that the arguments name.
-takes_change() { change "${run[was]}" "${run[loaded]}" "$@" | "${run[restore]}" --noflush --wait 10 --test; }
-
 # Makes the change, and deletes old connections. `made` says that it came to its end.
 make_change() {
   trap '' HUP INT TERM
@@ -145,18 +70,6 @@ make_change() {
 await_change() {
   while kill -0 "$1" 2>/dev/null; do wait "$1"; done
   if ! [ -L "${run[state]}/made" ]; then decide failed; fi
-}
-
-# Changes the table, unless another tool has changed it since it was read, and compares it with what was written.
-put_in_place_rules() {
-  local now
-  if ! { now=$(filter_now) && is_same_text "$now" "${run[was]}"; }; then decide nothing; return 1; fi
-  load_change "${run[was]}" "${run[loaded]}" 2>/dev/null || load_change "${run[was]}" "${run[loaded]}" flush
-  if is_decided; then return 1; fi # meanwhile
-  if now=$(filter_now) && is_same_text "$now" "${run[loaded]}"; then return; fi
-  say 'the loaded rules differ from the written ones'
-  decide failed
-  return 1
 }
 
 # Asks for the confirmation. The time limit begins here.

@@ -55,16 +55,6 @@ own_addresses() {
     $3 ~ /^(LOCAL|BROADCAST)$/ && !(other && $1 != "/32") { print tolower($3), address $1 }' /proc/net/fib_trie
 }
 
-# Writes what a packet meets in a built-in chain of a text, as rules of FORWARD, which topos trace reads.
-as_forward_rules() {
-  local judging=${run[judging]}
-  printf '%s\n' "$2" | grep -Ev "${form[log]}" | awk -v chain="$1" '
-    ($1 == ":FORWARD" || $2 == "FORWARD") && chain != "FORWARD" { next }
-    $1 == ":" chain || $1 == "-A" && $2 == chain { sub(chain, "FORWARD") }
-    { print }' >"$judging/filter" || return 1
-  forwarding_rules "$judging/filter"
-}
-
 # Prints the tracked connections that the rules of a text do not let begin, and with `unknown` those of which that is not
 # known, without those in the file of numbers run[older].
 revoked() {
@@ -217,11 +207,6 @@ tell_dropped() {
   by_flows_briefly <"${run[judging]}/dropped" | some_lines >&2
 }
 
-# Whether all connections began under the rules that are loaded again. This counts only if they cannot be judged.
-is_nothing_old_rules() {
-  is_alike "${run[state]}/before" "${run[state]}/rules" && is_known "${run[state]}/before" && [ ! -e "${run[stayed]}" ]
-}
-
 # Saves the numbers of the connections before the change: a rollback deletes none of them, and neither does a removal.
 remember_connections() {
   local older
@@ -265,12 +250,6 @@ why_unjudged() {
   if "${run[program]}" trace "${form[dialect]}" "$judging/rules" /dev/null >/dev/null 2>"$judging/refused"; then echo "${run[reason]}"
   else echo "topos trace cannot read the restored rules, such as $(refused_line "$judging/refused" "$judging/rules")"
   fi
-}
-
-# Deletes, after a removal, the connections that began under the rules of topos and that the restored rules do not let begin.
-drop_after_removal() {
-  drop_begun "${run[loaded]}" "${run[older_saved]}" 'the rules of topos'
-  if ! is_undone; then say "${run[reason]}"; fi
 }
 
 # Prints the connections that a load would delete.

@@ -1,12 +1,12 @@
 # shellcheck shell=bash disable=SC2034,SC2154
 # Texts of rules, as iptables-save prints them and iptables-restore reads them: their form, and changes from one to another.
-# Declares and writes form[..]; reads option[backend] and run[save].
+# Writes form[..]; reads option[backend] and run[save]. topos-import reads this file alone.
 
-# What is changed, and the form of the rules that topos writes. A function for each `kind` of them, `rules` of iptables or a
-# `table`, ends with this word; the `dialect` is that of topos. The parts of all forms are an address (`prefix`), what a rule
-# that passes has behind it (`passes`), and what --log puts before a rule that drops (`limited` and `label`): it names the
-# host, and logs at most ten packets a minute. change_box and change_machine add the others.
-declare -gA form=(
+# The form of the rules that topos writes: an address (`prefix`), what a rule that passes has behind it (`passes`), and what
+# --log puts before a rule that drops (`limited` and `label`): it names the host, and logs at most ten packets a minute.
+# change_box and change_machine add the others.
+declare -gA form
+form+=(
   [prefix]='[0-9./]+'
   [limited]='-m limit --limit 10/min -j LOG --log-prefix'
   [label]='"topos [A-Za-z0-9_-]+: "'
@@ -51,29 +51,6 @@ change_machine() {
     [log]="^-A (IN( -s $prefix)?|OUT( -d $prefix)?) ${form[limited]} ${form[label]}$"
   )
 }
-
-# The least and the greatest address of a prefix as numbers, for awk.
-form[ranges]='
-  function lowest(prefix, part) {
-    split(prefix, part, "[./]")
-    return ((part[1] * 256 + part[2]) * 256 + part[3]) * 256 + part[4]
-  }
-  function highest(prefix, part) {
-    return lowest(prefix) + (split(prefix, part, "/") == 2 ? 2 ^ (32 - part[2]) : 1) - 1
-  }'
-
-# The chains that rules lead to from those in `reached`, for awk. `leads` takes a jump, and `take_jumps` those of a rule.
-# shellcheck disable=SC2016
-form[closure]='
-  function leads(chain, target) { from[++jumps] = chain; to[jumps] = target }
-  function take_jumps(word) { for (word = 3; word < NF; word++) if ($word ~ /^-[jg]$/) leads($2, $(word + 1)) }
-  function reach(each, more) {
-    do {
-      more = 0
-      for (each = 1; each <= jumps; each++)
-        if (from[each] in reached && !(to[each] in reached)) { reached[to[each]]; more = 1 }
-    } while (more)
-  }'
 
 # Prints the table `filter`. Fails unless the text is whole: with a truncated one the rules of other tools would be
 # overlooked. The back end nft has no chain until somebody uses it, and warns of tables of the other back end, which
@@ -332,23 +309,6 @@ write_removal() {
   printf '%s\n' "$1" | sed 's/^/-F /'
   printf '%s\n' "$1" | sed 's/^/-X /'
   echo COMMIT
-}
-
-# Prints how the lines of two files differ, in order: - only in the first, + only in the second, ~ elsewhere in the second.
-line_changes() {
-  diff "$1" "$2" | awk '
-    /^[<>] / {
-      sign[++count] = $1; line[count] = substr($0, 3)
-      if ($1 == "<") gone[line[count]]++; else come[line[count]]++
-    }
-    END {
-      for (each = 1; each <= count; each++) {
-        words = line[each]
-        moved = gone[words] < come[words] ? gone[words] : come[words]
-        if (sign[each] == ">") print ++shown[words] <= moved ? "~" : "+", words
-        else if (++left[words] > moved) print "-", words
-      }
-    }'
 }
 
 part=rules # a truncated file lacks this line

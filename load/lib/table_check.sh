@@ -83,6 +83,9 @@ tell_table() {
   fi
 }
 
+# Writes a text that is compared into another file.
+write_compared_table() { cat "$1" >"$2"; }
+
 # Prints a text by elements of maps and rules, each behind its chain.
 elements() {
   awk '

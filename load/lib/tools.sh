@@ -38,23 +38,6 @@ find_namespace() {
 # Prints the folder of the saved states for a back end.
 folder_of() { echo "/run/topos-load/$1-${run[namespace]}"; }
 
-# Finds the tools of the back end, and the files of its saved states.
-find_tools_rules() {
-  local middle=${option[backend]:+-${option[backend]}} saved
-  run[save]=iptables$middle-save run[restore]=iptables$middle-restore
-  need awk flock setsid "${run[save]}" "${run[restore]}"
-  if [ -n "${option[machine]}" ]; then need ip ss; fi
-  if [ -z "${option[backend]}" ]; then
-    case $("${run[restore]}" --version) in
-      *nf_tables*) option[backend]=nft ;;
-      *) option[backend]=legacy ;;
-    esac
-  fi
-  run[state]=$(folder_of "${option[backend]}")
-  saved=${run[state]}/${form[remembered]}
-  run[first]=${saved}first run[last]=${saved}last run[stayed]=${saved}stayed
-}
-
 # Whether the program may be run: it exists, and a list beside it says that it was proved. If not, run[reason] says why.
 is_program_there() {
   find_name
@@ -69,22 +52,6 @@ find_name() {
   elif [ -n "${TOPOS:-}" ]; then option[program]=$TOPOS
   elif [ -f "$beside" ] && [ -x "$beside" ]; then option[program]=$beside # cron does not search /usr/local/bin
   else option[program]=topos; fi
-}
-
-# Whether a program, the second argument, may be run: it exists, and is proved. run[..] of the first argument is what runs it.
-may_run_rules() {
-  run[$1]=$2 run[reason]="cannot find $2"
-  command -v "$2" >/dev/null || return 1
-  run[reason]="no proof found for $2"
-  [ -n "${option[unproved]}" ] || is_proved "$2" "$3"
-}
-
-# Whether the list beside a program, which ./topos writes, has its digest, as the kind of the second argument.
-is_proved() {
-  local found digest
-  found=$(readlink -f "$(command -v "$1")")
-  digest=$(digest_of "$found") || return 1
-  grep -qsxF "$digest  $2" "${found%/*}/topos.proved"
 }
 
 # Prints the SHA-256 of a file.
