@@ -1,6 +1,6 @@
 """Networks and rules that are hard for questions on all packets: many addresses, rules on several fields at once."""
 import random
-from collections.abc import Iterable, Iterator
+from collections.abc import Callable, Iterable, Iterator
 from dataclasses import dataclass
 
 from descriptions import quoted, small_description
@@ -129,3 +129,24 @@ def wide(hosts: int, rules: int, chains: int) -> tuple[str, str]:
 def served(hosts: int) -> str:
     """Every flow between hosts, each with 16 services."""
     return network(hosts, some_flows(random.Random(5), hosts, hosts * (hosts - 1), 16))
+
+
+def open_to_all(hosts: int, rules: int) -> tuple[str, str]:
+    """Rules that accept a port each from anywhere to anywhere."""
+    lines = [f'-A FORWARD -p tcp -m tcp --dport {2 * number + 1} -j ACCEPT' for number in range(rules)]
+    return network(hosts - 1), rules_text(lines)
+
+
+def heirs(hosts: int) -> tuple[str, str]:
+    """Two descriptions: a host of the second has an address of each of four hosts of the first, which denies all."""
+    def named(place: Callable[[int, int], int]) -> list[str]:
+        return [f'{{ name = "h{host}", at = {quoted(single(place(host, each)) for each in range(4))} }},\n'
+                for host in range(hosts)]
+
+    def single(place: int) -> str:
+        return address((10 << 24) + 2 * place)
+
+    denying = '[[invariant]]\ntemplate = "noreach"\nassign = []\n'
+    old = small_description('', named(lambda host, each: 4 * host + each), denying, version=2)
+    new = small_description('', named(lambda host, each: 4 * ((host + 7 * each) % hosts) + each), version=2)
+    return old, new
