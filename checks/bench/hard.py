@@ -19,8 +19,8 @@ def prefix(number: int, width: int) -> str:
     return f'{address(number >> 32 - width << 32 - width)}/{width}'
 
 
-def rules_text(lines: Iterable[str], chains: Iterable[str] = ()) -> str:
-    heads = ['*filter', ':INPUT ACCEPT [0:0]', ':FORWARD DROP [0:0]', ':OUTPUT ACCEPT [0:0]']
+def rules_text(lines: Iterable[str], chains: Iterable[str] = (), policy: str = 'DROP') -> str:
+    heads = ['*filter', ':INPUT ACCEPT [0:0]', f':FORWARD {policy} [0:0]', ':OUTPUT ACCEPT [0:0]']
     return '\n'.join([*heads, *(f':{chain} - [0:0]' for chain in chains), *lines, 'COMMIT']) + '\n'
 
 
@@ -65,7 +65,7 @@ def ports(chance: random.Random) -> str:
 
 @dataclass(frozen=True)
 class Shape:
-    """What random rules look like: the share of rules with each match, widths of prefixes, and user chains."""
+    """What random rules look like: the share of rules with each match, widths of prefixes, user chains, the policy."""
     source: float = .9
     destination: float = .9
     sender_port: float = 0.
@@ -75,6 +75,9 @@ class Shape:
     widths: tuple[int, ...] = WIDTHS_NARROW
     chains: int = 0
     accepted: float = .67
+    jumps: float = .1
+    negated_ports: float = 0.
+    policy: str = 'DROP'
 
 
 def random_rules(chance: random.Random, shape: Shape, count: int, hosts: int) -> str:
@@ -83,7 +86,7 @@ def random_rules(chance: random.Random, shape: Shape, count: int, hosts: int) ->
     chains = ['FORWARD', *names]
     lines = [f'-A {chain} {random_rule(chance, shape, hosts)} -j {target(chance, shape, names[place:], place > 0)}'
              for place, chain in enumerate(chains) for _ in range(count // len(chains))]
-    return rules_text(lines, names)
+    return rules_text(lines, names, shape.policy)
 
 
 def random_rule(chance: random.Random, shape: Shape, hosts: int) -> str:
@@ -100,13 +103,15 @@ def matches(chance: random.Random, shape: Shape, hosts: int) -> Iterator[str]:
     sides = [side for side, share in both if chance.random() < share]
     if sides:
         protocol = chance.choice(('tcp', 'tcp', 'udp'))
-        yield f'-p {protocol} -m {protocol} ' + ' '.join(f'{side} {ports(chance)}' for side in sides)
+        negations = ['! ' if shape.negated_ports > 0 and chance.random() < shape.negated_ports else '' for _ in sides]
+        yield f'-p {protocol} -m {protocol} ' + ' '.join(f'{negation}{side} {ports(chance)}'
+                                                         for negation, side in zip(negations, sides))
     if chance.random() < shape.state:
         yield f'-m conntrack --ctstate {chance.choice(("NEW", "ESTABLISHED"))}'
 
 
 def target(chance: random.Random, shape: Shape, later: list[str], in_chain: bool) -> str:
-    if later and chance.random() < .1:
+    if later and chance.random() < shape.jumps:
         return chance.choice(later)
     if in_chain and chance.random() < .1:
         return 'RETURN'
