@@ -136,6 +136,20 @@ def served(hosts: int) -> str:
     return network(hosts, some_flows(random.Random(5), hosts, hosts * (hosts - 1), 16))
 
 
+def entries(hosts: int, count: int) -> str:
+    """A flow table of specific entries, with all priorities different."""
+    chance = random.Random(f'entries {hosts} {count}')
+    lines = []
+    for number in range(count):
+        source, destination = (prefix((10 << 24) + chance.randrange(hosts << 8), chance.choice(WIDTHS_NARROW))
+                               for _ in range(2))
+        protocol, port = chance.choice(('tcp', 'tcp', 'udp')), chance.choice((*PORTS, chance.randrange(65536)))
+        action = 'NORMAL' if chance.random() < .67 else 'drop'
+        lines.append(f'priority={65535 - number},{protocol},nw_src={source},nw_dst={destination},tp_dst={port},'
+                     f'actions={action}\n')
+    return ''.join(lines)
+
+
 def open_to_all(hosts: int, rules: int) -> tuple[str, str]:
     """Rules that accept a port each from anywhere to anywhere."""
     lines = [f'-A FORWARD -p tcp -m tcp --dport {2 * number + 1} -j ACCEPT' for number in range(rules)]
