@@ -20,7 +20,7 @@ use Rattle.nft_chains.specs.Translation.{chain_number, chains_of, element_rules,
 use Rattle.nft_chains.proofs.CoverLaws.{is_covered, lies_covered}
 use Rattle.nft_chains.proofs.VerdictLaws.{have_chains}
 use Rattle.nft_flows.specs.declared.span.Span.{Span}
-use Rattle.nft_flows.specs.inner.Solid.{AreRanges, AreSolid, IsSolid}
+use Rattle.nft_flows.specs.inner.ChainRules.{AreRanges, HaveChainRules, HasChainRules}
 use Rattle.nft_flows.specs.inner.Spans.{span_at, spans_from, spans_of_elements, spans_of_rule, spans_of_rules}
 
 -- ---- Lists in pairs
@@ -52,17 +52,17 @@ ascend_ranges : (from : ℕ) (es : List Element) → AscendFrom from es → AreR
 ascend_ranges from [] ascend = tt
 ascend_ranges from (e ∷ es) ascend = (ascend.1, ascend_ranges (e.range.last + 1) es ascend.2)
 
-rule_solid : (n : ℕ) (rule : Rule) → IsRule n rule → IsSolid rule
-rule_solid n (Map m) is = (some_elements m.elements.items is.0, ascend_ranges 0 m.elements.items is.1)
+rule_has_chain_rules : (n : ℕ) (rule : Rule) → IsRule n rule → HasChainRules rule
+rule_has_chain_rules n (Map m) is = (some_elements m.elements.items is.0, ascend_ranges 0 m.elements.items is.1)
   where
     some_elements : (es : List Element) → (es ≡ [] → ⊥) → 0 < length es
     some_elements [] some = absurd (some refl)
     some_elements (e ∷ es) some = omega arith
-rule_solid n (Match r) is = tt
+rule_has_chain_rules n (Match r) is = tt
 
-pub rules_solid : (n : ℕ) (rules : List Rule) → AreRules n rules → AreSolid rules
-rules_solid n [] are = tt
-rules_solid n (rule ∷ rules) are = (rule_solid n rule are.0, rules_solid n rules are.1)
+pub rules_have_chain_rules : (n : ℕ) (rules : List Rule) → AreRules n rules → HaveChainRules rules
+rules_have_chain_rules n [] are = tt
+rules_have_chain_rules n (rule ∷ rules) are = (rule_has_chain_rules n rule are.0, rules_have_chain_rules n rules are.1)
 
 -- ---- The next element
 
@@ -95,10 +95,10 @@ spans_next chain k i n next es d old new all low is pushed before =
 
 -- ---- The next rule
 
-pub solid_there : (rules : List Rule) (i : ℕ) (d : Rule) → i < length rules → AreSolid rules → IsSolid (get_or rules i d)
-solid_there [] i d low are = absurd (omega (arith, low))
-solid_there (r ∷ rs) zero d low are = are.0
-solid_there (r ∷ rs) (suc i) d low are = solid_there rs i d (omega (arith, low)) are.1
+pub chain_rules_at : (rules : List Rule) (i : ℕ) (d : Rule) → i < length rules → HaveChainRules rules → HasChainRules (get_or rules i d)
+chain_rules_at [] i d low are = absurd (omega (arith, low))
+chain_rules_at (r ∷ rs) zero d low are = are.0
+chain_rules_at (r ∷ rs) (suc i) d low are = chain_rules_at rs i d (omega (arith, low)) are.1
 
 pub rules_next : (rules : List Rule) (i : ℕ) (d : Rule) → i < length rules
     → length (rules_of_rules (drop i rules)) ≡ length (rules_of_rule (get_or rules i d)) + length (rules_of_rules (drop (i + 1) rules))

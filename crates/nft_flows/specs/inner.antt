@@ -1,4 +1,4 @@
+pub mod ChainRules
 pub mod Search
 pub mod Selected
-pub mod Solid
 pub mod Spans

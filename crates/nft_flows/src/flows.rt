@@ -20,7 +20,9 @@ use std::alloc::{AllocError, Global};
 /// A range of services that pass, wholly or in part, with the places that let its packets pass.
 #[derive(Drop)]
 pub struct TableFlowRange {
+    /// The range, with a packet that passes and one that does not, if there is one.
     pub range: PassingRange,
+    /// The places that decide a packet of the range such that it passes, in ascending order.
     pub deciders: Vec<TablePlace>,
 }
 
@@ -31,6 +33,7 @@ pub struct PairTableFlows {
     pub from: Option<u16>,
     /// The owner of the destinations.
     pub to: Option<u16>,
+    /// The ranges of services, in ascending order.
     pub ranges: Vec<TableFlowRange>,
 }
 
@@ -72,6 +75,7 @@ fn place_pairs(
     Ok(placed)
 }
 
+/// Returns the ranges with the places of their deciders.
 fn place_ranges(
     alloc: Global,
     spans: &[Span],

@@ -43,12 +43,14 @@ pub(crate) fn with_all(
     Ok(places)
 }
 
+/// Whether a rule of the span is listed.
 fn has_one(rules: &[Place], span: &Span) -> bool
     ensures { result ≡ has_one rules.now span.now }
 {
     rules.iter().any(|rule| span.contains(*rule))
 }
 
+/// Whether all rules of the span are listed.
 fn has_all(rules: &[Place], span: &Span) -> bool
     requires { AreAscending rules.now }
     ensures { result ≡ has_all rules.now span.now }

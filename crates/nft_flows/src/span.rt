@@ -5,7 +5,7 @@ ghost use Rattle.std.specs.List.{flat_map};
 ghost use Rattle.ipt_rules.specs.ChainTable.{rule_count};
 ghost use Rattle.nft_rules.specs.Loadable.{IsLoadable};
 ghost use Rattle.nft_chains.specs.Translation.{chains_of, element_rules, prefixes_of, rules_of_rule, rules_of_rules};
-ghost use Rattle.nft_flows.specs.inner.Solid.{AreRanges, AreSolid, IsSolid};
+ghost use Rattle.nft_flows.specs.inner.ChainRules.{AreRanges, HasChainRules, HaveChainRules};
 ghost use Rattle.nft_flows.specs.inner.Spans.{is_in, number_of, span_at, spans_of, spans_of_elements, spans_of_rule, spans_of_rules};
 
 use crate::place::TablePlace;
@@ -76,7 +76,7 @@ fn push_rules(
     rules: &[Rule],
 ) -> Result<(), AllocError>
     requires chain { number_of chain < 2 ^ 16 }
-    requires rules { AreSolid rules.now }
+    requires rules { HaveChainRules rules.now }
     requires few { length (rules_of_rules rules.now) < 2 ^ 32 }
     ensures { OnOk result (spans.new.items ≡ spans.old.items ++ spans_of_rules chain 0 0 rules.now) }
 {
@@ -97,7 +97,7 @@ fn push_rule(
     rule: &Rule,
 ) -> Result<u32, AllocError>
     requires chain { number_of chain < 2 ^ 16 }
-    requires rule { IsSolid rule.now }
+    requires rule { HasChainRules rule.now }
     requires few { first + length (rules_of_rule rule.now) < 2 ^ 32 }
     ensures spans { OnOk result (spans.new.items ≡ spans.old.items ++ spans_of_rule chain index first rule.now) }
     ensures end { IfOk result (λ end. end ≡ first + length (rules_of_rule rule.now)) }
