@@ -169,3 +169,22 @@ def heirs(hosts: int) -> tuple[str, str]:
     old = small_description('', named(lambda host, each: 4 * host + each), denying, version=2)
     new = small_description('', named(lambda host, each: 4 * ((host + 7 * each) % hosts) + each), version=2)
     return old, new
+
+
+def weaker(hosts: int) -> tuple[str, str]:
+    """Two descriptions: the earlier one has an invariant that denies half of all flows. In the later one each flow has
+    one service fewer."""
+    chance = random.Random(f'weaker {hosts}')
+    pairs = [(one, other) for one in range(hosts) for other in chance.sample(range(hosts), 14) if one != other]
+
+    def flows(*services: str) -> str:
+        return ''.join(quoted((f'h{one}', f'h{other}', *services)) + ',' for one, other in pairs)
+
+    def denied(host: int) -> str:
+        return quoted(f'h{other}' for other in range(hosts) if (host + other) % 2)
+
+    entries = ''.join(f'{{ host = "h{host}", deny = {denied(host)} }}, ' for host in range(hosts))
+    at = [f'{{ name = "h{host}", at = ["{prefix((10 << 24) + (host << 8), 24)}"] }},\n' for host in range(hosts)]
+    more = f'[[invariant]]\ntemplate = "noreach"\nassign = [{entries}]\n'
+    return (small_description(flows('tcp/22', 'tcp/443', 'udp/53'), at, more, version=2),
+            small_description(flows('tcp/22', 'tcp/443'), at, version=2))
