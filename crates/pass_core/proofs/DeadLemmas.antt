@@ -1,6 +1,6 @@
 -- The places of unmarked rules are the places of dead rules.
-use Rattle.std.proofs.Common.{◌≡◌, inl, inr, ℕ, zero, suc, ◌<◌, ◌≤◌, false, List, [], ◌∷◌, length, refl, sym, ◌∙◌, arith}
-use Rattle.std.proofs.lemmas.Bool.{cases_lt, false_from_ne_true, true≢false}
+use Rattle.std.proofs.Common.{◌≡◌, inl, inr, ℕ, zero, suc, ◌<◌, ◌≤◌, true, false, List, [], ◌∷◌, length, refl, sym, subst, ◌∙◌, arith}
+use Rattle.std.proofs.lemmas.Bool.{cases_lt, false_from_ne_true, false≢true, true_from_ne_false, true≢false}
 use Rattle.host_net.specs.declared.packet.Packet.{Packet}
 use Rattle.header_space.specs.declared.packet_box.PacketBox.{PacketBox}
 use Rattle.header_space.specs.Boxes.{IsIn, every_packet}
@@ -11,7 +11,7 @@ use Rattle.ipt_rules.specs.inner.OneOutcome.{AreDeterministic}
 use Rattle.ipt_rules.proofs.DeadRuleLaws.{same_verdicts}
 use Rattle.rules_space.proofs.EveryPacketLaws.{in_every, packet_in_every}
 use Rattle.pass_core.specs.Dead.{AreDead, AreRemovable, HasForwardRule, IsDead, is_listed}
-use Rattle.pass_core.specs.inner.Meeting.{AreMarked, IsMetWithin, IsUnmarked, MarksMore, MetRules}
+use Rattle.pass_core.specs.inner.Meeting.{AreForwardMarked, IsMetWithin, IsUnmarked, MarksMore, MetRules}
 use Rattle.pass_core.specs.inner.Places.{AreBefore}
 use Rattle.pass_core.proofs.PlaceLaws.{all_before, at}
 
@@ -30,11 +30,26 @@ chain_there chains q rule = elim (cases_lt q.chain (length chains)) [
 
 -- ---- dead rules
 
+no_places : (places : List Place) → length places ≡ 0 → places ≡ []
+no_places [] none = refl
+no_places (x ∷ places) none = absurd (omega (arith, none))
+
+-- No rule of FORWARD or of a user chain is unmarked.
+pub none_unmarked : (m : MetRules) (places : List Place) → AreBefore (IsUnmarked m.chains m.marks) (at (length m.chains) 0) places
+    → length places ≡ 0 → (p : Packet) → AreForwardMarked m p
+none_unmarked m places are none p state place rule met =
+    true_from_ne_false (is_marked m.marks place)
+    (λ off.
+    let listed = (all_before (IsUnmarked m.chains m.marks) (length m.chains) places (λ q is. chain_there m.chains q is.0) are place).1 (rule, off) in
+    false≢true (subst (λ (l : List Place). is_listed l place ≡ true) (no_places places none) listed))
+
 module _ (chains : List Chain) (b : PacketBox) (old new : MetRules) (same : old.chains ≡ chains) (every : b ≡ every_packet)
-    (none : (place : Place) → is_marked old.marks place ≡ false) (more : MarksMore b old new) (known : (p : Packet) → IsIn b p → AreMarked new p) where
-  unmarked_dead : (place : Place) → is_marked new.marks place ≡ false → IsDead chains place
-  unmarked_dead place off p state is met =
-      let inside : IsIn b p = rw every (in_every p is) in true≢false (sym (known p inside state place (rw (more.chains, same) met)) ∙ off)
+    (none : (place : Place) → is_marked old.marks place ≡ false) (more : MarksMore b old new) (known : (p : Packet) → IsIn b p → AreForwardMarked new p) where
+  unmarked_dead : (place : Place) → HasForwardRule chains place → is_marked new.marks place ≡ false → IsDead chains place
+  unmarked_dead place rule off p state is met =
+      let inside : IsIn b p = rw every (in_every p is) in
+      let rule_now = subst (λ (cs : List Chain). HasForwardRule cs place) (sym (more.chains ∙ same)) rule in
+      true≢false (sym (known p inside state place rule_now (rw (more.chains, same) met)) ∙ off)
 
   not_met : (place : Place) → IsDead chains place → IsMetWithin old.chains b place → ⊥
   not_met place dead within =
@@ -53,7 +68,7 @@ module _ (chains : List Chain) (b : PacketBox) (old new : MetRules) (same : old.
     ascending = are.ascending;
     exact = λ place.
         let unmarked = all_before (IsUnmarked chains new.marks) (length chains) places (λ q is. chain_there chains q is.0) are place in (
-          λ listed. let is = unmarked.0 listed in (is.0, unmarked_dead place is.1),
+          λ listed. let is = unmarked.0 listed in (is.0, unmarked_dead place is.0 is.1),
           λ dead. unmarked.1 (dead.0, dead_unmarked place dead.1),
         );
   }

@@ -4,11 +4,12 @@ ghost use Rattle.std.specs.Prelude.{◌≡◌, ◌+◌, ◌<◌, length, IfOk, O
 ghost use Rattle.host_net.specs.declared.packet.Packet.{Packet};
 ghost use Rattle.header_space.specs.Boxes.{IsIn, every_packet};
 ghost use Rattle.pass_core.specs.Dead.{AreDead, AreRemovable};
-ghost use Rattle.pass_core.specs.inner.Meeting.{AreMarked, IsUnmarked, MarksMore};
+ghost use Rattle.pass_core.specs.inner.Meeting.{AreForwardMarked, IsUnmarked, MarksMore};
 ghost use Rattle.pass_core.specs.inner.Places.{AreBefore};
 
 use crate::met_rules::MetRules;
 use crate::met_sets::mark_by_sets;
+use crate::sample_packets::mark_by_samples;
 use header_space::{PacketBox, visit_all};
 use ipt_rules::{INPUT, Marks, OUTPUT, Place, Ruleset};
 use std::alloc::{AllocError, Global};
@@ -20,7 +21,8 @@ use std::alloc::{AllocError, Global};
 /// or of `OUTPUT`. If no jump from `FORWARD` leads to a user chain, all of its rules are dead, even if `INPUT` or
 /// `OUTPUT` uses the chain: its rules may count packets that do not enter `FORWARD`.
 ///
-/// Costs two traversals for each box of packets that the rules distinguish, if sets of packets are not used.
+/// Costs two traversals for each rule. If these do not meet all rules, and sets of packets are not used, it costs two
+/// traversals for each box of packets that the rules distinguish.
 pub fn dead_rules(alloc: Global, rules: &Ruleset) -> Result<Vec<Place>, AllocError>
     ensures dead { IfOk result (λ places. AreDead rules.now places.items) }
     ensures removable { IfOk result (λ places. AreRemovable rules.now places.items) }
@@ -33,12 +35,17 @@ pub fn dead_rules(alloc: Global, rules: &Ruleset) -> Result<Vec<Place>, AllocErr
     Ok(places)
 }
 
-/// Marks all rules that packets meet: by sets of packets, or by a search if there are too many rules or the sets are too
-/// large.
+/// Marks all rules of `FORWARD` and of user chains that packets meet: by one packet for each rule. If this leaves rules
+/// unmarked, by sets of packets, or by a search if there are too many rules or the sets are too large.
 fn mark_met(alloc: Global, met: &mut MetRules<'_>) -> Result<(), AllocError>
     ensures more { OnOk result (MarksMore every_packet met.old met.new) }
-    ensures known { OnOk result ((p : Packet) → IsIn every_packet p → AreMarked met.new p) }
+    ensures known { OnOk result ((p : Packet) → IsIn every_packet p → AreForwardMarked met.new p) }
 {
+    mark_by_samples(alloc, met)?;
+    let left = unmarked(alloc, met.rules(), met.marks())?;
+    if left.is_empty() {
+        return Ok(());
+    }
     let all = mark_by_sets(alloc, met)?;
     if all {
         return Ok(());

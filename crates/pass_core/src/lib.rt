@@ -15,6 +15,7 @@ mod pairs;
 mod passes_new;
 mod passing;
 mod passing_range;
+mod sample_packets;
 mod service;
 mod survey;
 

@@ -22,6 +22,11 @@ pub record MetRules : Type 0 where
 abbrev pub AreMarked : MetRules → Packet → Type 0
 AreMarked m p = (state : CtState) (place : Place) → IsMet m.chains p state place → IsTrue (is_marked m.marks place)
 
+-- Each rule of FORWARD and of user chains that the packet meets, in any state, is marked.
+abbrev pub AreForwardMarked : MetRules → Packet → Type 0
+AreForwardMarked m p =
+    (state : CtState) (place : Place) → HasForwardRule m.chains place → IsMet m.chains p state place → IsTrue (is_marked m.marks place)
+
 -- Some packet of the box meets the rule at the place, in some state.
 pub record IsMetWithin (chains : List Chain) (b : PacketBox) (place : Place) : Type 0 where
   pub packet : Packet
