@@ -20,8 +20,8 @@ use pass_core::{PairServices, PassingRange, passing_by_pairs};
 use rules_space::RulesRef;
 use std::alloc::{AllocError, Global};
 
-/// The least number of searches, one for each pair of a source range and a destination range and each range of services,
-/// in place of which sets of packets are computed.
+/// The number of searches from which on sets of packets replace them. There is one search for each pair of a source
+/// range and a destination range, and for each range of services.
 const MANY_SEARCHES: usize = 64;
 
 /// A range of services that pass, wholly or in part, with the rules that let its packets pass.
