@@ -1,11 +1,11 @@
 -- Marks on the rules that packets meet, by sets of packets.
-use Rattle.std.proofs.Common.{◌≡◌, ◌⊎◌, inl, inr, ℕ, zero, suc, ◌+◌, ◌<◌, ◌≤◌, ◌∙◌, Bool, true, false, IsTrue, List, [], ◌∷◌, ◌++◌, Option, Some, None, get_or, is_some, length, take, refl, sym, ap, subst, arith}
+use Rattle.std.proofs.Common.{◌≡◌, inl, inr, ℕ, zero, suc, ◌+◌, ◌<◌, ◌≤◌, ◌∙◌, true, IsTrue, List, [], ◌∷◌, Option, Some, None, get_or, length, take, refl, sym, subst, arith}
 use Rattle.std.specs.List.{All}
 use Rattle.std.proofs.lemmas.List.{take_all, take_more}
 use Rattle.host_net.specs.declared.packet.Packet.{Packet}
 use Rattle.host_net.specs.declared.packet.CtState.{CtState}
 use Rattle.host_net.specs.declared.packet.CtState.TheVariants.{New, Established}
-use Rattle.header_space.specs.Boxes.{IsIn, IsNoHigher, Narrows, every_packet}
+use Rattle.header_space.specs.Boxes.{IsIn, Narrows, every_packet}
 use Rattle.header_space.specs.declared.packet_box.PacketBox.{PacketBox}
 use Rattle.header_space.proofs.BoxLaws.{narrows_in, own_least}
 use Rattle.ipt_rules.specs.Chain.{Chain}
@@ -20,7 +20,7 @@ use Rattle.rules_set.specs.declared.met.MetSet.{MetSet}
 use Rattle.rules_set.specs.declared.met.MetSets.{MetSets}
 use Rattle.rules_set.proofs.WalkLaws.{listed_push}
 use Rattle.pass_core.specs.inner.Meeting.{AreMarked, IsSoundSet, MarksMore, MetRules}
-use Rattle.pass_core.specs.laws.MeetingLaws.{marks_by_both, marks_by_more, marks_by_none}
+use Rattle.pass_core.specs.laws.MeetingLaws.{marks_by_more}
 
 -- ---- one packet
 

@@ -1,4 +1,4 @@
-use Rattle.std.specs.Prelude.{◌↔◌, Bool, IsTrue}
+use Rattle.std.specs.Prelude.{◌↔◌, IsTrue}
 use Rattle.std.proofs.lemmas.Result.{IfOk-weaker}
 use Rattle.header_space.specs.Owners.{GoesBetween}
 use Rattle.pass_core.specs.inner.Listing.{IsPacketIn, PassesSome}
