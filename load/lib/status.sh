@@ -10,16 +10,27 @@ declare -gA status=([state]='' [digest]='' [before]='' [transaction]='' [seconds
 tell_status() {
   local each
   if [ -z "${option[backend]}" ]; then find_place; fi
-  if [ -e "$(folder_of "${option[backend]}")/local" ]; then option[machine]=$(cat "$(folder_of "${option[backend]}")/local"); fi
+  find_machine
   select_form
   run[state]=$(folder_of "${option[backend]}")
   find_end
   "find_status_${form[kind]}"
   for each in state digest before transaction; do put_text "$each" "${status[$each]}"; done
+  put_value local "$(if [ -n "${option[machine]}" ]; then echo true; else echo false; fi)"
   put_value seconds "${status[seconds]}"
   put_value last "${status[last]}"
   run[code]=${status[state]}
   print_status
+}
+
+# Finds whether the rules are those of a host: by the last load or, without one, by themselves.
+find_machine() {
+  local file
+  file=$(folder_of "${option[backend]}")/local
+  if [ -e "$file" ]; then option[machine]=$(cat "$file")
+  elif [[ ${option[backend]} == @(nft|legacy) ]] && prints '^-A INPUT -d [0-9./]+ -j IN$' table_of "${option[backend]}" filter; then
+    option[machine]=yes
+  fi
 }
 
 # Finds how far a load is that has not ended.
@@ -88,7 +99,7 @@ find_status_rules() {
 # Prints the state, a line for each part that is known.
 print_status() {
   echo "state: ${status[state]}"
-  echo "back end: ${option[backend]:-none}"
+  echo "back end: ${option[backend]:-none}${option[machine]:+ (--local)}"
   if [ -n "${status[digest]}" ]; then echo "in force: ${status[digest]}"; fi
   if [ -n "${status[before]}" ]; then echo "before: ${status[before]}"; fi
   if [ -n "${status[transaction]}" ]; then echo "transaction: ${status[transaction]}"; fi
