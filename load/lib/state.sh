@@ -80,7 +80,7 @@ finish() {
   record "$2" "${3:-}"
   rm -f "${run[state]}"/{rules.others,rules.policy,rules.description,loaded,settle,asked,made,connections,staying}
   ln -sfn "$1 $code $2" "${run[state]}/result" 2>/dev/null || ln -sfn "$1 $code -" "${run[state]}/result"
-  ln -sfn "$(date +%s) $1 $code $name $before $2" "${run[state]}/ended" 2>/dev/null # for --status
+  ln -sfn "$(date +%s) $1 $code $name ${before:--} $2" "${run[state]}/ended" 2>/dev/null # for --status
   if [ "$1" != 71 ]; then rm -f "${run[state]}"/{armed,before,older.before,rules,log,deadline,name}; fi
 }
 
