@@ -1,11 +1,11 @@
-"""Sends packets through the firewall of load/soak --table all the time, and compares what passes with what may pass.
+"""Sends packets through the firewall of load/soak --table, and compares what passes with what may pass.
 
     soak_packets.py FOLDER CLIENT SERVER
 
-CLIENT and SERVER are processes in the network namespaces of the two machines. Every 30 ms, or slower on a busy machine, a packet of UDP goes to each of
-`PORTS`. The file `allowed` of FOLDER has the ports that may pass at this time, and the word `lost` if nothing has to pass.
-`ALWAYS` has to pass otherwise: every text accepts it. A violation is a line of the file `passed`. The file `sample` has the
-number of the last round and the ports that passed in it.
+CLIENT and SERVER are processes in the network namespaces of the two machines. Every 30 ms, or slower on a busy machine,
+a packet of UDP goes to each of `PORTS`. The file `allowed` of FOLDER has the ports that may pass at this time, and the
+word `lost` if nothing has to pass. `ALWAYS` has to pass otherwise: every text accepts it. A violation is a line of the
+file `passed`. The file `sample` has the number of the last round and the ports that passed in it.
 """
 import ctypes
 import os
@@ -44,9 +44,9 @@ def has_arrived(server: socket.socket, line: bytes) -> bool:
 
 
 def send_round(client: socket.socket, servers: dict[int, socket.socket], number: int, limit: float) -> list[int]:
-    """Sends a packet to each port, `ALWAYS` last, and returns the ports where it arrived. One processor keeps the order.
+    """Sends a packet to each port, `ALWAYS` last, and returns the ports where it arrived.
 
-    It waits for the last packet up to a limit, in seconds.
+    One processor keeps the order. It waits for the last packet up to a limit, in seconds.
     """
     line = b'round %d' % number
     for port in [*PORTS, ALWAYS]:
