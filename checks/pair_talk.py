@@ -1,12 +1,12 @@
 """The machines around the pair of firewalls of checks/pair.
 
-    pair_talk.py serve FOLDER            TCP 80 pushes a line each 0.1 s; counts what arrives at ports that are not allowed
+    pair_talk.py serve FOLDER            TCP 80 pushes a line each 0.1 s; counts what arrives elsewhere
     pair_talk.py download FOLDER NAME    connects to TCP 80, sends nothing, and counts the lines in the file NAME
     pair_talk.py talk FOLDER NAME        the same, and sends a line each 0.1 s
     pair_talk.py flood FOLDER            sends UDP to port 999 and TCP SYN to port 81, and counts them in `sent`
 
-The server is 10.0.2.10. Each goes on until it is killed. `denied` has the number of packets that a port heard which is not
-allowed.
+The server is 10.0.2.10. Each goes on until it is killed. `denied` and `denied.tcp` have the numbers of packets and
+connections at ports that no rule allows.
 """
 import os
 import socket
