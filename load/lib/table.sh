@@ -221,12 +221,24 @@ run_orders() {
   done
 }
 
-# Runs an order about an event. A text that a user keeps is saved before, for the next boot.
+# Runs an order about an event.
 run_order() {
   local text
   read_table && text=$(transaction "$2" "${3:-}") || return 1
-  if [ "$2" = keep ] && [ "$1" != back ]; then remember_text "$3"; fi
-  printf '%s\n' "$text" | nft -f - 9>&-
+  if [ "$2" = keep ] && [ "$1" != back ]; then keep_generation "$3" "$text"
+  else printf '%s\n' "$text" | nft -f - 9>&-
+  fi
+}
+
+# Keeps a generation by a transaction. Its text is saved before, for the next boot, and the one before again if that fails.
+keep_generation() {
+  local file before
+  file=$(kept_file)
+  before=$(cat "${file:-/dev/null}" 2>/dev/null)
+  remember_text "$file" "$(text_of "$1")"
+  if printf '%s\n' "$2" | nft -f - 9>&- || { read_table && [ "${run[active]}" = "$1-kept" ]; }; then return; fi
+  remember_text "$file" "$before"
+  return 1
 }
 
 part=table # a truncated file lacks this line

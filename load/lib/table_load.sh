@@ -195,13 +195,13 @@ kept_file() {
   fi
 }
 
-# Saves a generation for the next boot. A load goes on without it.
+# Saves a text in a file for the next boot, or none. A load goes on without it.
 remember_text() {
-  local file
-  file=$(kept_file)
+  local file=$1
   if [ -z "$file" ]; then return; fi
-  if mkdir -p "${file%/*}" && text_of "$1" | cat >"$file.new" && sync "$file.new" && mv "$file.new" "$file"; then return; fi
-  say "note: cannot write $file: the next boot loads an earlier text"
+  if [ -z "$2" ]; then rm -f "$file"; return; fi
+  if mkdir -p "${file%/*}" && printf '%s\n' "$2" | cat >"$file.new" && sync "$file.new" && mv "$file.new" "$file"; then return; fi
+  note "cannot write $file: the next boot loads an earlier text"
 }
 
 # Removes that file, after a removal.
