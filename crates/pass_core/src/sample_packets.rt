@@ -10,6 +10,9 @@ use host_net::Packet;
 use ipt_rules::{AddrMatch, FORWARD, Place, PortMatch, ProtoMatch, Rule, Target, address_matches};
 use std::alloc::{AllocError, Global};
 
+/// The greatest number of rules of a chain for which packets are tested. Each packet may traverse the whole chain.
+const SAMPLE_LIMIT: usize = 8192;
+
 /// A chain, and a packet that a rule which jumps to it may match.
 #[derive(Clone, Copy)]
 struct Entrance {
@@ -52,8 +55,8 @@ fn enter(
     Ok(())
 }
 
-/// Marks rules that packets meet, by one packet for each unmarked rule of a chain. Appends the chains to which its
-/// rules jump to the entrances.
+/// Marks rules that packets meet, by one packet for each unmarked rule of a chain that is not too long. Appends the
+/// chains to which its rules jump to the entrances.
 fn mark_chain(
     met: &mut MetRules<'_>,
     entered: &mut Vec<bool>,
@@ -66,8 +69,12 @@ fn mark_chain(
     if chain >= met.rules().chains() {
         return Ok(());
     }
+    let rules = met.rules().rules_in(chain);
+    if rules.len() > SAMPLE_LIMIT {
+        return Ok(());
+    }
     let mut place = Place { chain, rule: 0 };
-    for rule in met.rules().rules_in(chain) {
+    for rule in rules {
         let packet = sample(rule, entrance.packet);
         if !met.marks().is_marked(place) {
             mark_packet(met, packet);
